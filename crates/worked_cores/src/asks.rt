@@ -2,6 +2,7 @@
 //!
 //! Machines are made, served and dropped in functions without clauses that return plain data. So a test has little to
 //! prove: it makes a list of lines and compares what was seen.
+use crate::checks::{holds, holds_at};
 use machine_frames::Frames;
 use merge_core::Core;
 use page_digest::PageHash;
@@ -39,15 +40,15 @@ pub fn verdict_on<H: PageHash, A: Allocator>(
     guest: u8,
     ask: Ask,
 ) -> Verdict {
-    assert!(rt; guest < core.guests());
-    assert!(rt; core.entries() < 1_000_000);
+    holds(rt, guest < core.guests());
+    holds(rt, core.entries() < 1_000_000);
     core.apply(guest, &request_of(rt, ask))
 }
 
 pub fn serve<H: PageHash, A: Allocator>(rt: &impl Abort, core: &mut Core<H, A>, lines: &[Line]) {
     for (at, (guest, ask, answer)) in lines.iter().enumerate() {
         let verdict = verdict_on(rt, core, *guest, *ask);
-        assert!(rt; answer_of(&verdict) == *answer, "line {at}: {verdict:?}");
+        holds_at(rt, (at, &verdict), answer_of(&verdict) == *answer);
     }
 }
 
@@ -65,7 +66,7 @@ pub fn core_of<H: PageHash + Drop, A: Allocator + Clone>(
     hash: H,
 ) -> Core<H, A> {
     let salts = [0; 64];
-    assert!(rt; pages.len() <= 64);
+    holds(rt, pages.len() <= 64);
     Core::new(alloc, frames, pages, &salts[..pages.len()], hash)
         .ok()
         .expect(rt, "a core")
@@ -80,7 +81,7 @@ pub fn core_without_forecasts<H: PageHash + Drop>(
     hash: H,
 ) -> Core<H> {
     let salts = [0; 64];
-    assert!(rt; pages.len() <= 64);
+    holds(rt, pages.len() <= 64);
     let shape = MachineShape::new(frames, pages, &salts[..pages.len()])
         .ok()
         .expect(rt, "a machine's shape");
@@ -104,7 +105,7 @@ pub const SHARE_THREE: [Line; 6] = [
 
 pub fn share_three<H: PageHash, A: Allocator>(rt: &impl Abort, core: &mut Core<H, A>) {
     serve(rt, core, &SHARE_THREE);
-    assert!(rt; numbers(core) == [6, 3, 3, 1, 2, 0]);
+    holds(rt, numbers(core) == [6, 3, 3, 1, 2, 0]);
 }
 
 /// Lets each guest store the same to its page `ppn`, which is unmapped.
@@ -137,7 +138,7 @@ pub fn frame<H: PageHash, A: Allocator>(
     guest: u8,
     ppn: u32,
 ) -> Option<u32> {
-    assert!(rt; guest < core.guests());
-    assert!(rt; ppn < core.pages(guest));
+    holds(rt, guest < core.guests());
+    holds(rt, ppn < core.pages(guest));
     core.frame(guest, ppn)
 }

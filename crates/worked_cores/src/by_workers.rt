@@ -6,6 +6,7 @@ ghost use Rattle.merge_core.specs.Shown.{state_of};
 ghost use Rattle.merge_core.specs.declared.counting.TheConstants.{MAX_REQUESTS};
 
 use crate::asks::{Ask, core_of, first_pages, numbers, serve, store_each};
+use crate::checks::{holds, holds_at};
 use merge_core::Core;
 use page_digest::{HashFault, Sha256Hash};
 use page_model::Request;
@@ -59,12 +60,14 @@ fn fault_ahead<R: Threads + Wait + Sync + Abort, B: Allocator + Clone + Send>(
     workers: u32,
     core: &mut Core<Sha256Hash>,
 ) -> Option<HashFault> {
-    assert!(rt; 1 <= workers && workers <= 64);
-    assert!(rt; core.guests() == 1 && core.entries() == 1);
+    holds(rt, 1 <= workers);
+    holds(rt, workers <= 64);
+    holds(rt, core.guests() == 1);
+    holds(rt, core.entries() == 1);
     match propose_ahead(rt, alloc, workers, core) {
         Ok((are_right, answer)) => {
-            assert!(rt; are_right);
-            assert!(rt; answer == Answer::Hinted);
+            holds(rt, are_right);
+            holds(rt, answer == Answer::Hinted);
             None
         }
         Err(fault) => Some(fault),
@@ -89,7 +92,7 @@ fn ahead<R: Threads + Wait + Sync + Abort, B: Allocator + Clone + Send>(
 fn hash_ahead(rt: HostRuntime) {
     for workers in [1u32, 4] {
         let seen = ahead(&rt, rt.alloc(), rt.alloc(), workers);
-        assert!(rt; seen == (None, [2, 1, 0, 1, 0, 1]), "by {workers}");
+        holds_at(&rt, workers, seen == (None, [2, 1, 0, 1, 0, 1]));
     }
 }
 
@@ -100,17 +103,18 @@ fn refused_growth(rt: HostRuntime) {
     for n in 0..MOST_GROWTHS {
         let heap = Refusing::new(rt.alloc(), n, 0);
         let seen = ahead(&rt, rt.alloc(), &heap, 4);
-        assert!(rt; heap.holds_nothing(), "at {n}");
+        holds_at(&rt, n, heap.holds_nothing());
         if !heap.has_refused() {
-            assert!(rt; seen == (None, [2, 1, 0, 1, 0, 1]));
+            holds(&rt, seen == (None, [2, 1, 0, 1, 0, 1]));
             return;
         }
-        assert!(rt;
+        holds_at(
+            &rt,
+            n,
             seen == (Some(HashFault::OutOfMemory), [1, 1, 0, 1, 0, 0]),
-            "at {n}"
         );
     }
-    assert!(rt; false, "no growth is the last");
+    panic!(rt; "no growth is the last");
 }
 
 /// Lets two workers note the hashes of these pages, with memory from `alloc`.
@@ -147,7 +151,10 @@ fn noted_report<R: Threads + Wait + Sync + Abort, B: Allocator + Clone + Send>(
 fn many_noted(rt: HostRuntime) {
     for refused_from in [0u64, 3, 100] {
         let heap = Refusing::new(rt.alloc(), refused_from, 0);
-        assert!(rt; noted_report(&rt, rt.alloc(), &heap) == [40, 40, 0, 40, 0, 0]);
-        assert!(rt; heap.holds_nothing());
+        holds(
+            &rt,
+            noted_report(&rt, rt.alloc(), &heap) == [40, 40, 0, 40, 0, 0],
+        );
+        holds(&rt, heap.holds_nothing());
     }
 }

@@ -1,5 +1,6 @@
 //! The count of requests, and the last page of a shared frame.
 use crate::asks::{Ask, core_of, numbers, serve, share_three, verdict_on};
+use crate::checks::{equal, holds};
 use merge_core::Core;
 use page_digest::Sha256Hash;
 use page_model::Verdict;
@@ -23,10 +24,10 @@ fn counted_anew(rt: &impl Abort, alloc: Global) -> ([u32; 2], [[u32; 6]; 3]) {
 #[test]
 fn count_anew(rt: HostRuntime) {
     let (counts, [shared, anew, copied]) = counted_anew(&rt, rt.alloc());
-    assert!(rt; counts == [6, 0]);
-    assert!(rt; shared == [6, 3, 3, 1, 2, 0]);
-    assert!(rt; anew == [0, 3, 3, 1, 2, 0]);
-    assert!(rt; copied == [1, 3, 2, 2, 1, 0]);
+    holds(&rt, counts == [6, 0]);
+    holds(&rt, shared == [6, 3, 3, 1, 2, 0]);
+    holds(&rt, anew == [0, 3, 3, 1, 2, 0]);
+    holds(&rt, copied == [1, 3, 2, 2, 1, 0]);
 }
 
 /// Whether a count of guest 0 gets the report that the machine has then.
@@ -57,5 +58,5 @@ fn filled(rt: &impl Abort, alloc: Global) -> (bool, [u32; 6]) {
 /// A full machine still takes a store through the last page of a shared frame.
 #[test]
 fn last_reference(rt: HostRuntime) {
-    assert_eq!(rt; filled(&rt, rt.alloc()), (true, [9, 2, 0, 2, 0, 0]));
+    equal(&rt, filled(&rt, rt.alloc()), (true, [9, 2, 0, 2, 0, 0]));
 }

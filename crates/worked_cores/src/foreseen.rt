@@ -1,5 +1,6 @@
 //! Pages that are hashed together with a proposed one, as the requests in sight will leave them.
 use crate::asks::{Ask, Line, core_of, core_without_forecasts, request_of, store_all};
+use crate::checks::{equal, equal_at, holds, holds_at};
 use crate::hashes::{Calls, Lanes};
 use merge_core::Core;
 use page_digest::PageHash;
@@ -28,10 +29,10 @@ fn answer_ahead<H: PageHash, A: Allocator>(
     core: &mut Core<H, A>,
     entries: &[Entry],
 ) -> Answer {
-    assert!(rt; !entries.is_empty());
+    holds(rt, !entries.is_empty());
     let Entry { guest, request } = &entries[0];
-    assert!(rt; *guest < core.guests());
-    assert!(rt; core.entries() < 1_000_000);
+    holds(rt, *guest < core.guests());
+    holds(rt, core.entries() < 1_000_000);
     answer_of(&core.apply_ahead(*guest, request, &entries[1..]))
 }
 
@@ -43,9 +44,9 @@ fn serve_entries<H: PageHash, A: Allocator>(
     lines: &[Line],
 ) {
     for (at, (_, _, answer)) in lines.iter().enumerate() {
-        assert!(rt; at < entries.len());
+        holds(rt, at < entries.len());
         let served = answer_ahead(rt, core, &entries[at..]);
-        assert!(rt; served == *answer, "line {at}");
+        holds_at(rt, at, served == *answer);
     }
 }
 
@@ -66,7 +67,7 @@ fn serve_first<H: PageHash, A: Allocator>(
     core: &mut Core<H, A>,
     lines: &[Line],
 ) {
-    assert!(rt; !lines.is_empty());
+    holds(rt, !lines.is_empty());
     serve_entries(rt, core, &entries_of(rt, alloc, lines), &lines[..1]);
 }
 
@@ -82,7 +83,7 @@ fn hashed(rt: &impl Abort, alloc: Global, lines: &[Line]) -> (u32, u32, u32) {
 /// Returns the page that each of these eight lines proposes, after those before it.
 fn upcoming_of(rt: &impl Abort, alloc: Global, lines: &[Line; 8]) -> [Option<Upcoming>; 8] {
     let entries = entries_of(rt, alloc, lines);
-    assert!(rt; entries.len() == 8);
+    holds(rt, entries.len() == 8);
     let mut pages = [None; 8];
     for at in 0..8 {
         pages[at] = upcoming(&entries[..at], &entries[at]);
@@ -108,7 +109,11 @@ const STORED_AND_PROPOSED: [Line; 11] = [
 /// Four are hashed at once, then the last one alone.
 #[test]
 fn stored_and_proposed(rt: HostRuntime) {
-    assert_eq!(rt; hashed(&rt, rt.alloc(), &STORED_AND_PROPOSED), (1, 4, 0));
+    equal(
+        &rt,
+        hashed(&rt, rt.alloc(), &STORED_AND_PROPOSED),
+        (1, 4, 0),
+    );
 }
 
 /// A machine without forecasts hashes each page alone, when it is proposed. Its answers are the same.
@@ -117,7 +122,7 @@ fn without_forecasts(rt: HostRuntime) {
     let calls = Calls::new();
     let mut core = core_without_forecasts(&rt, rt.alloc(), 16, &[8, 8], Lanes(&calls));
     serve_ahead(&rt, rt.alloc(), &mut core, &STORED_AND_PROPOSED);
-    assert_eq!(rt; calls.counts(), (5, 0, 0));
+    equal(&rt, calls.counts(), (5, 0, 0));
 }
 
 /// Pages at rest are hashed four at once, before those that are stored to first.
@@ -135,7 +140,7 @@ fn at_rest(rt: HostRuntime) {
         (0, Ask::Propose(2), Answer::Hinted),
         (0, Ask::Propose(3), Answer::Hinted),
     ];
-    assert_eq!(rt; hashed(&rt, rt.alloc(), &lines), (1, 4, 0));
+    equal(&rt, hashed(&rt, rt.alloc(), &lines), (1, 4, 0));
 }
 
 fn stored(ppn: u32) -> Line {
@@ -179,9 +184,9 @@ fn by_eights(rt: HostRuntime) {
         (8, (0, 0, 8), (0, 0, 8)),
     ] {
         let lines = lines_in_turn(&rt, rt.alloc(), pages);
-        assert_eq!(rt; hashed(&rt, rt.alloc(), &lines), in_turn, "{pages} in turn");
+        equal_at(&rt, pages, hashed(&rt, rt.alloc(), &lines), in_turn);
         let lines = lines_at_rest(&rt, rt.alloc(), pages);
-        assert_eq!(rt; hashed(&rt, rt.alloc(), &lines), at_rest, "{pages} at rest");
+        equal_at(&rt, pages, hashed(&rt, rt.alloc(), &lines), at_rest);
     }
 }
 
@@ -202,7 +207,7 @@ fn one_in_sixteen(rt: HostRuntime) {
     for ppn in 0..8 {
         push_sixteen(&rt, &mut lines, ppn);
     }
-    assert_eq!(rt; hashed(&rt, rt.alloc(), &lines), (0, 0, 8));
+    equal(&rt, hashed(&rt, rt.alloc(), &lines), (0, 0, 8));
 }
 
 /// A page that is released and stored to anew is foreseen as it will be then. A page needs no hash if it will be
@@ -222,7 +227,7 @@ fn released(rt: HostRuntime) {
         (0, Ask::Propose(2), Answer::Already),
         (0, Ask::Propose(9), Answer::NoPage),
     ];
-    assert_eq!(rt; hashed(&rt, rt.alloc(), &lines), (0, 4, 0));
+    equal(&rt, hashed(&rt, rt.alloc(), &lines), (0, 4, 0));
 }
 
 /// Returns the same numbers for a machine of one guest with four pages, twice: after the first line of those in
@@ -257,7 +262,7 @@ fn other_requests_come(rt: HostRuntime) {
         (0, Ask::Propose(2), Answer::Hinted),
     ];
     let counts = hashed_otherwise(&rt, rt.alloc(), &sight, &came);
-    assert_eq!(rt; counts, [(0, 4, 0), (0, 8, 0)]);
+    equal(&rt, counts, [(0, 4, 0), (0, 8, 0)]);
 }
 
 /// A page changes before its proposal only by its own guest's stores and releases, and only by earlier ones.
@@ -283,5 +288,5 @@ fn upcoming_pages(rt: HostRuntime) {
         Some(Upcoming::Changing(1)),
         None,
     ];
-    assert!(rt; upcoming_of(&rt, rt.alloc(), &lines) == expected);
+    holds(&rt, upcoming_of(&rt, rt.alloc(), &lines) == expected);
 }

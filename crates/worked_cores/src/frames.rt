@@ -1,5 +1,6 @@
 //! Which frame each page has, before and after requests.
 use crate::asks::{Ask, Line, SHARE_THREE, core_of, frame, numbers, serve};
+use crate::checks::holds;
 use merge_core::Core;
 use page_digest::Sha256Hash;
 use std::alloc::Global;
@@ -28,14 +29,14 @@ fn taken(core: &Core<Sha256Hash>) -> [u32; 2] {
 
 /// Returns a byte of a page.
 fn byte(rt: &impl Abort, core: &Core<Sha256Hash>, guest: u8, ppn: u32, at: u32) -> u8 {
-    assert!(rt; guest < core.guests());
-    assert!(rt; ppn < core.pages(guest));
-    assert!(rt; at < 4096);
+    holds(rt, guest < core.guests());
+    holds(rt, ppn < core.pages(guest));
+    holds(rt, at < 4096);
     core.read(guest, ppn, at)
 }
 
 fn pages(rt: &impl Abort, core: &Core<Sha256Hash>, guest: u8) -> u32 {
-    assert!(rt; guest < core.guests());
+    holds(rt, guest < core.guests());
     core.pages(guest)
 }
 
@@ -70,11 +71,14 @@ fn one_frame(rt: HostRuntime) {
     let released = [(1, Ask::Release(0), Answer::Released(true))];
     let [shared, apart, gone] = seen_after(&rt, rt.alloc(), &SHARE_THREE, &copied, &released);
     let one = shared.frames[0];
-    assert!(rt; one.is_some() && shared.frames == [one, one, one]);
-    assert!(rt; shared.report == [6, 3, 3, 1, 2, 0] && shared.taken == [1, 3]);
+    holds(&rt, one.is_some());
+    holds(&rt, shared.frames == [one, one, one]);
+    holds(&rt, shared.report == [6, 3, 3, 1, 2, 0]);
+    holds(&rt, shared.taken == [1, 3]);
     let other = apart.frames[2];
-    assert!(rt; other.is_some() && other != one);
-    assert!(rt; gone.frames[2].is_none());
+    holds(&rt, other.is_some());
+    holds(&rt, other != one);
+    holds(&rt, gone.frames[2].is_none());
 }
 
 /// The page that was the hint keeps its frame when another pairs with it, and so does the last page of a shared frame
@@ -95,16 +99,18 @@ fn frames_stay(rt: HostRuntime) {
     ];
     let [before, shared, after] = seen_after(&rt, rt.alloc(), &hinted, &paired, &left);
     let [hint, _, alone] = before.frames;
-    assert!(rt; shared.frames == [hint, hint, alone]);
-    assert!(rt; after.frames == [None, hint, alone]);
+    holds(&rt, shared.frames == [hint, hint, alone]);
+    holds(&rt, after.frames == [None, hint, alone]);
 }
 
 #[test]
 fn read(rt: HostRuntime) {
     let [before, after, _] = seen_after(&rt, rt.alloc(), &[], &SHARE_THREE, &[]);
-    assert!(rt; before.guests == 2 && before.pages == 1);
-    assert!(rt; before.bytes == [0, 0]);
-    assert!(rt; after.report == [6, 3, 3, 1, 2, 0]);
-    assert!(rt; after.guests == 2 && after.pages == 1);
-    assert!(rt; after.bytes == [0x41, 0]);
+    holds(&rt, before.guests == 2);
+    holds(&rt, before.pages == 1);
+    holds(&rt, before.bytes == [0, 0]);
+    holds(&rt, after.report == [6, 3, 3, 1, 2, 0]);
+    holds(&rt, after.guests == 2);
+    holds(&rt, after.pages == 1);
+    holds(&rt, after.bytes == [0x41, 0]);
 }

@@ -2,6 +2,7 @@
 ghost use Rattle.std.specs.Prelude.{◌≡◌, [], ◌∷◌, slice_index};
 
 use crate::asks::{Ask, Line, core_of, first_pages, serve, share_three, store_each};
+use crate::checks::{equal, equal_at};
 use page_digest::PageHash;
 use page_model::{HashFunction, Page};
 use std::alloc::Global;
@@ -56,7 +57,7 @@ fn known_hashes(rt: HostRuntime) {
         (0, Ask::Propose(1), Answer::Paired),
     ];
     let counts = calls_after(&rt, rt.alloc(), &unchanged, &changed);
-    assert_eq!(rt; counts, [3, 3, 5]);
+    equal(&rt, counts, [3, 3, 5]);
 }
 
 const FIVE_STORES: [Line; 5] = [
@@ -105,7 +106,7 @@ fn noted_ahead(rt: HostRuntime) {
         (0, 3),
         (0, 4),
     ];
-    assert_eq!(rt; calls_noted(&rt, rt.alloc(), &pages), [5, 5, 6]);
+    equal(&rt, calls_noted(&rt, rt.alloc(), &pages), [5, 5, 6]);
 }
 
 /// How many pages were hashed alone, how many as one of four at once, and how many as one of eight.
@@ -195,6 +196,6 @@ fn noted_at_once(rt: HostRuntime) {
         (17, 1, 0, 16),
     ] {
         let counts = noted(&rt, rt.alloc(), pages);
-        assert_eq!(rt; counts, (alone, by_fours, by_eights), "{pages}");
+        equal_at(&rt, pages, counts, (alone, by_fours, by_eights));
     }
 }

@@ -1,5 +1,6 @@
 //! Hashes that a caller knows.
 use crate::asks::{Ask, core_of, serve};
+use crate::checks::holds;
 use merge_core::Core;
 use page_digest::{PageHash, Sha256Hash};
 use page_model::{HashFunction, Page, Request};
@@ -38,7 +39,7 @@ const KNOWN: [u64; 8] = [
 
 #[test]
 fn hashes_of_eight(rt: HostRuntime) {
-    assert!(rt; eight_hashes(&rt, rt.alloc()) == KNOWN);
+    holds(&rt, eight_hashes(&rt, rt.alloc()) == KNOWN);
 }
 
 /// Hashes every page to 0, and counts its calls.
@@ -59,8 +60,8 @@ impl PageHash for Zero<'_> {
 /// Proposes page 0 of the only guest, whose hash is known.
 #[tactic(auto, using(crate::proofs::Zeros::is_zero))]
 fn propose_known(rt: &impl Abort, core: &mut Core<Zero<'_>>) -> Answer {
-    assert!(rt; core.guests() == 1);
-    assert!(rt; core.entries() < 1_000_000);
+    holds(rt, core.guests() == 1);
+    holds(rt, core.entries() < 1_000_000);
     answer_of(&core.apply_hashed(0, &Request::Propose(0), 0))
 }
 
@@ -78,5 +79,5 @@ fn calls_known(rt: &impl Abort, alloc: Global) -> (Answer, u32) {
 /// A page that is proposed with its hash isn't hashed, then or later.
 #[test]
 fn known_hash_is_used(rt: HostRuntime) {
-    assert!(rt; calls_known(&rt, rt.alloc()) == (Answer::Hinted, 0));
+    holds(&rt, calls_known(&rt, rt.alloc()) == (Answer::Hinted, 0));
 }

@@ -1,5 +1,6 @@
 //! Whole pages: stored, lent, and taken back.
 use crate::asks::{core_of, numbers};
+use crate::checks::{equal, holds, holds_at};
 use crate::hashes::Counted;
 use merge_core::{Core, Returned, SaltedHash};
 use page_digest::{FirstByteHash, PageHash};
@@ -36,9 +37,10 @@ fn page_of(byte: u8) -> Page {
 
 /// Whether a freed frame is returned, and is the one that the page had.
 fn is_own(rt: &impl Abort, freed: Option<u32>, own: Option<u32>) -> bool {
-    assert!(rt;
+    holds_at(
+        rt,
+        "another page's frame is returned as freed",
         freed.is_none() || freed == own,
-        "another page's frame is returned as freed"
     );
     freed.is_some()
 }
@@ -59,8 +61,8 @@ fn lend<H: PageHash, A: Allocator>(
     ppn: u32,
     byte: u8,
 ) -> Seen {
-    assert!(rt; guest < core.guests());
-    assert!(rt; core.entries() < 1_000_000);
+    holds(rt, guest < core.guests());
+    holds(rt, core.entries() < 1_000_000);
     let own = frame_of(core, guest, ppn);
     let lent = core.lend(guest, ppn, &page_of(byte), None);
     (
@@ -77,8 +79,8 @@ fn lend_hashed<H: PageHash, A: Allocator>(
     ppn: u32,
     byte: u8,
 ) -> Seen {
-    assert!(rt; guest < core.guests());
-    assert!(rt; core.entries() < 1_000_000);
+    holds(rt, guest < core.guests());
+    holds(rt, core.entries() < 1_000_000);
     let own = frame_of(core, guest, ppn);
     let (page, other) = (page_of(byte), page_of(0));
     let salt = core.salt(guest);
@@ -102,8 +104,8 @@ fn store<H: PageHash, A: Allocator>(
     ppn: u32,
     byte: u8,
 ) -> Seen {
-    assert!(rt; guest < core.guests());
-    assert!(rt; core.entries() < 1_000_000);
+    holds(rt, guest < core.guests());
+    holds(rt, core.entries() < 1_000_000);
     let verdict = core.store_page(guest, ppn, &page_of(byte));
     (answer_of(&verdict), false, NO_ROOM)
 }
@@ -114,8 +116,8 @@ fn take_back<H: PageHash, A: Allocator>(
     guest: u8,
     ppn: u32,
 ) -> Seen {
-    assert!(rt; guest < core.guests());
-    assert!(rt; core.entries() < 1_000_000);
+    holds(rt, guest < core.guests());
+    holds(rt, core.entries() < 1_000_000);
     let own = frame_of(core, guest, ppn);
     let mut room = [1; 4096];
     let returned = core.take_back(guest, ppn, &mut room);
@@ -150,7 +152,7 @@ fn seen<H: PageHash, A: Allocator>(
 fn serve<H: PageHash, A: Allocator>(rt: &impl Abort, core: &mut Core<H, A>, lines: &[Line]) {
     for (at, (guest, step, wanted)) in lines.iter().enumerate() {
         let found = seen(rt, core, *guest, *step);
-        assert!(rt; found == *wanted, "line {at}");
+        holds_at(rt, at, found == *wanted);
     }
 }
 
@@ -162,7 +164,7 @@ fn report_of(rt: &impl Abort, alloc: Global, frames: u32, lines: &[Line]) -> ([u
     let mut core = core_of(rt, &heap, frames, &[2, 1], Counted(&calls));
     heap.refuse_all();
     serve(rt, &mut core, lines);
-    assert!(rt; !heap.has_refused(), "a line took memory");
+    holds_at(rt, "a line took memory", !heap.has_refused());
     (numbers(&core), calls.load(Ordering::SeqCst))
 }
 
@@ -176,7 +178,7 @@ fn lent_and_taken_back(rt: HostRuntime) {
         (0, Step::Lend(1, b'A'), (Answer::Joined(3), false, NO_ROOM)),
     ];
     let after = report_of(&rt, rt.alloc(), 2, &lent);
-    assert_eq!(rt; after, ([195, 3, 3, 1, 2, 0], 3));
+    equal(&rt, after, ([195, 3, 3, 1, 2, 0], 3));
     let back = [
         lent[0],
         lent[1],
@@ -200,7 +202,7 @@ fn lent_and_taken_back(rt: HostRuntime) {
         (0, Step::TakeBack(2), (Answer::NoPage, false, NO_ROOM)),
     ];
     let after = report_of(&rt, rt.alloc(), 2, &back);
-    assert_eq!(rt; after, ([200, 0, 0, 0, 0, 0], 3));
+    equal(&rt, after, ([200, 0, 0, 0, 0, 0], 3));
 }
 
 /// A page whose hash is made before is lent as any other, and not hashed again: four are hashed for each such lend, and no more.
@@ -229,7 +231,7 @@ fn lent_with_hashes(rt: HostRuntime) {
         ),
     ];
     let after = report_of(&rt, rt.alloc(), 2, &lines);
-    assert_eq!(rt; after, ([260, 3, 2, 2, 1, 1], 16));
+    equal(&rt, after, ([260, 3, 2, 2, 1, 1], 16));
 }
 
 /// A lend needs a free frame even if the page would join others, and one that is refused proposes nothing: it counts the
@@ -243,7 +245,7 @@ fn refused_lends(rt: HostRuntime) {
         (1, Step::Store(0, b'A'), (Answer::NoFrame, false, NO_ROOM)),
     ];
     let (report, _calls) = report_of(&rt, rt.alloc(), 1, &lines);
-    assert_eq!(rt; report, [257, 1, 0, 1, 0, 1]);
+    equal(&rt, report, [257, 1, 0, 1, 0, 1]);
 }
 
 /// A page that had a frame for itself and joins another's frees it; one that shared a frame with others doesn't.
@@ -259,7 +261,7 @@ fn lent_again(rt: HostRuntime) {
         (0, Step::Lend(0, b'C'), (Answer::Paired, true, NO_ROOM)),
     ];
     let (report, _calls) = report_of(&rt, rt.alloc(), 3, &lines);
-    assert_eq!(rt; report, [453, 2, 2, 1, 1, 0]);
+    equal(&rt, report, [453, 2, 2, 1, 1, 0]);
 }
 
 /// Returns the report of a machine of three guests of one page, of which the last has another salt, once each has lent the
@@ -280,5 +282,5 @@ fn lent_under_two_salts(rt: HostRuntime) {
         (1, Step::Lend(0, b'A'), (Answer::Paired, false, NO_ROOM)),
         (2, Step::Lend(0, b'A'), (Answer::Ineligible, false, NO_ROOM)),
     ];
-    assert_eq!(rt; salted(&rt, rt.alloc(), &lines), [195, 3, 2, 2, 1, 0]);
+    equal(&rt, salted(&rt, rt.alloc(), &lines), [195, 3, 2, 2, 1, 0]);
 }

@@ -7,6 +7,8 @@ mod asks;
 #[cfg(test)]
 mod by_workers;
 #[cfg(test)]
+mod checks;
+#[cfg(test)]
 mod counts;
 #[cfg(test)]
 mod foreseen;

@@ -1,11 +1,11 @@
 //! Which machines can be made, and the largest ones.
 use crate::asks::{Ask, Line, core_of, frame, numbers, serve, store_all};
+use crate::checks::{equal, equal_at};
 use merge_core::{Core, CoreFault};
 use page_digest::FirstByteHash;
 use page_model::{MAX_FRAMES, MAX_GUESTS, MAX_PAGES, MachineShape};
 use std::alloc::Global;
 use std::process::Abort;
-use std::test::Fail;
 use worked_answers::Answer;
 
 const FRAMES: Option<CoreFault> = Some(CoreFault::Frames);
@@ -35,18 +35,19 @@ fn core_limits(rt: HostRuntime) {
         (1, &[1], &[0], None),
     ];
     for (frames, pages, salts, fault) in limits {
-        assert_eq!(rt;
+        equal_at(
+            &rt,
+            frames,
             fault_of(rt.alloc(), frames, pages, salts),
             fault,
-            "{frames} frames"
         );
     }
 }
 
 /// Makes a machine of the most frames and of one guest with the most pages.
-fn greatest(alloc: Global) -> Result<Core<FirstByteHash>, Fail> {
-    let shape = MachineShape::new(MAX_FRAMES, &[MAX_PAGES], &[0])?;
-    Ok(Core::with_shape(alloc, &shape, FirstByteHash)?)
+fn greatest(rt: &impl Abort, alloc: Global) -> Core<FirstByteHash> {
+    let shape = MachineShape::new(MAX_FRAMES, &[MAX_PAGES], &[0]).expect(rt, "a shape");
+    Core::with_shape(alloc, &shape, FirstByteHash).expect(rt, "a core")
 }
 
 /// Returns the report of the largest machine once it has served these lines, whether guest 0's page is mapped, and the
@@ -56,25 +57,24 @@ fn greatest_served(
     alloc: Global,
     lines: &[Line],
     ppn: u32,
-) -> Result<([u32; 6], bool, u32), Fail> {
-    let mut core = greatest(alloc)?;
+) -> ([u32; 6], bool, u32) {
+    let mut core = greatest(rt, alloc);
     serve(rt, &mut core, lines);
     let is_mapped = frame(rt, &core, 0, ppn).is_some();
-    Ok((numbers(&core), is_mapped, core.frames().total()))
+    (numbers(&core), is_mapped, core.frames().total())
 }
 
 /// Of the room that the largest machine takes, that of the frames is reserved and not touched.
 #[test]
-fn most_frames_and_pages(rt: HostRuntime) -> Result<(), Fail> {
+fn most_frames_and_pages(rt: HostRuntime) {
     let last = MAX_PAGES - 1;
     let lines = [
         (0, Ask::Store(last, b'A'), Answer::Mapped),
         (0, Ask::Propose(last), Answer::Hinted),
         (0, Ask::Store(MAX_PAGES, b'A'), Answer::NoPage),
     ];
-    let served = greatest_served(&rt, rt.alloc(), &lines, last)?;
-    assert_eq!(rt; served, ([3, 1, 0, 1, 0, 1], true, MAX_FRAMES));
-    Ok(())
+    let served = greatest_served(&rt, rt.alloc(), &lines, last);
+    equal(&rt, served, ([3, 1, 0, 1, 0, 1], true, MAX_FRAMES));
 }
 
 /// 64 guests, each with 1/64 of the most pages: each stores the same to a page, then each proposes it. Returns the
@@ -97,5 +97,5 @@ fn all_propose(rt: &impl Abort, alloc: Global) -> [u32; 6] {
 /// The most guests share one frame.
 #[test]
 fn most_guests(rt: HostRuntime) {
-    assert_eq!(rt; all_propose(&rt, rt.alloc()), [128, 64, 64, 1, 63, 0]);
+    equal(&rt, all_propose(&rt, rt.alloc()), [128, 64, 64, 1, 63, 0]);
 }

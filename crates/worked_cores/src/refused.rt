@@ -1,5 +1,6 @@
 //! Each growth of memory refused in turn.
 use crate::asks::{Ask, Line, serve, share_three};
+use crate::checks::{holds, holds_at};
 use merge_core::{Core, CoreFault};
 use page_digest::Sha256Hash;
 use refusing::Refusing;
@@ -45,13 +46,13 @@ fn refused_growth(rt: HostRuntime) {
     for n in 0..MOST_GROWTHS {
         let heap = Refusing::new(rt.alloc(), n, 0);
         let (fault, has_refused) = served(&rt, &heap);
-        assert!(rt; heap.holds_nothing(), "at {n}");
+        holds_at(&rt, n, heap.holds_nothing());
         if !has_refused {
-            assert!(rt; fault.is_none());
-            assert!(rt; !heap.has_refused(), "a request took memory");
+            holds(&rt, fault.is_none());
+            holds_at(&rt, "a request took memory", !heap.has_refused());
             return;
         }
-        assert!(rt; fault == Some(CoreFault::OutOfMemory), "at {n}");
+        holds_at(&rt, n, fault == Some(CoreFault::OutOfMemory));
     }
-    assert!(rt; false, "no growth is the last");
+    panic!(rt; "no growth is the last");
 }

@@ -1,4 +1,5 @@
 //! How much memory a machine asks for, apart from its pages.
+use crate::checks::holds_at;
 use merge_core::Core;
 use page_digest::Sha256Hash;
 use page_model::{MAX_FRAMES, MAX_PAGES};
@@ -18,7 +19,7 @@ const MORE: u64 = 4096 + 7 * 4160;
 fn asked(rt: &impl Abort, alloc: Global, frames: u32, pages: u32) -> u64 {
     let heap = Refusing::new(alloc, u64::MAX, 0);
     let core = Core::new(&heap, frames, &[pages], &[0], Sha256Hash);
-    assert!(rt; core.is_ok(), "{frames} frames");
+    holds_at(rt, frames, core.is_ok());
     heap.bytes_asked()
 }
 
@@ -29,9 +30,7 @@ fn bytes_asked(rt: HostRuntime) {
         let least = 4096 * u64::from(frames);
         let beside = FRAME * u64::from(frames) + PAGE * u64::from(pages) + MORE;
         let asked = asked(&rt, rt.alloc(), frames, pages);
-        assert!(rt;
-            asked >= least && asked <= least + beside,
-            "{asked} bytes for {frames} frames"
-        );
+        holds_at(&rt, (asked, frames), asked >= least);
+        holds_at(&rt, (asked, frames), asked <= least + beside);
     }
 }

@@ -1,5 +1,6 @@
 //! Pages are shared only between guests of equal salt.
 use crate::asks::{Ask, numbers, serve, store_all};
+use crate::checks::{equal, holds};
 use merge_core::Core;
 use page_digest::{FirstByteHash, PageHash, Sha256Hash};
 use std::alloc::Global;
@@ -8,7 +9,7 @@ use worked_answers::Answer;
 
 /// Lets each guest propose its page 0, and compares the answers.
 fn propose_all<H: PageHash>(rt: &impl Abort, core: &mut Core<H>, answers: &[Answer]) {
-    assert!(rt; usize::from(core.guests()) == answers.len());
+    holds(rt, usize::from(core.guests()) == answers.len());
     for (guest, answer) in (0..core.guests()).zip(answers) {
         serve(rt, core, &[(guest, Ask::Propose(0), *answer)]);
     }
@@ -24,7 +25,7 @@ fn salted_row<H: PageHash + Drop>(
     answers: &[Answer],
 ) -> [u32; 6] {
     let ones = [1; 4];
-    assert!(rt; salts.len() <= 4);
+    holds(rt, salts.len() <= 4);
     let mut core = Core::new(alloc, frames, &ones[..salts.len()], salts, hash)
         .ok()
         .expect(rt, "a core");
@@ -38,24 +39,24 @@ fn two_guests(rt: HostRuntime) {
     let alloc = rt.alloc();
     let apart = [Answer::Hinted, Answer::Hinted];
     let report = salted_row(&rt, alloc, Sha256Hash, 2, &[1, 2], &apart);
-    assert_eq!(rt; report, [4, 2, 0, 2, 0, 2]);
+    equal(&rt, report, [4, 2, 0, 2, 0, 2]);
     let paired = [Answer::Hinted, Answer::Paired];
     let report = salted_row(&rt, alloc, Sha256Hash, 2, &[1, 1], &paired);
-    assert_eq!(rt; report, [4, 2, 2, 1, 1, 0]);
+    equal(&rt, report, [4, 2, 2, 1, 1, 0]);
 }
 
 #[test]
 fn hash_without_salt(rt: HostRuntime) {
     let refused = [Answer::Hinted, Answer::Ineligible];
     let report = salted_row(&rt, rt.alloc(), FirstByteHash, 2, &[1, 2], &refused);
-    assert_eq!(rt; report, [4, 2, 0, 2, 0, 1]);
+    equal(&rt, report, [4, 2, 0, 2, 0, 1]);
 }
 
 #[test]
 fn salts_1_2_1(rt: HostRuntime) {
     let answers = [Answer::Hinted, Answer::Hinted, Answer::Paired];
     let report = salted_row(&rt, rt.alloc(), Sha256Hash, 3, &[1, 2, 1], &answers);
-    assert_eq!(rt; report, [6, 3, 2, 2, 1, 1]);
+    equal(&rt, report, [6, 3, 2, 2, 1, 1]);
 }
 
 #[test]
@@ -67,5 +68,5 @@ fn salts_1_1_2_2(rt: HostRuntime) {
         Answer::Paired,
     ];
     let report = salted_row(&rt, rt.alloc(), Sha256Hash, 4, &[1, 1, 2, 2], &answers);
-    assert_eq!(rt; report, [8, 4, 4, 2, 2, 0]);
+    equal(&rt, report, [8, 4, 4, 2, 2, 0]);
 }

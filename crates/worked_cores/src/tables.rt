@@ -1,11 +1,11 @@
 //! What the table shows, and a frame that more pages share than a 16-bit count can hold.
 use crate::asks::{Ask, Line, core_of, frame, numbers, serve};
+use crate::checks::equal;
 use merge_core::Core;
 use page_digest::{FirstByteHash, PageHash, Sha256Hash};
 use share_table::HintFrame;
 use std::alloc::Global;
 use std::process::Abort;
-use std::test::Fail;
 use worked_answers::Answer;
 
 /// What the table of a core shows about a hash.
@@ -43,7 +43,7 @@ fn shown_after(
 }
 
 #[test]
-fn table_shows_core(rt: HostRuntime) -> Result<(), Fail> {
+fn table_shows_core(rt: HostRuntime) {
     let mut page = [0; 4096];
     page[0] = 0x41;
     let code = Sha256Hash.hash(0, &page);
@@ -58,17 +58,16 @@ fn table_shows_core(rt: HostRuntime) -> Result<(), Fail> {
         (1, Ask::Propose(0), Answer::Joined(3)),
     ];
     let (mpn, before, after) = shown_after(&rt, rt.alloc(), code, &hinted, &joined);
-    let mpn = mpn.ok_or("unmapped")?;
+    let mpn = mpn.expect(&rt, "unmapped");
     let hint = HintFrame {
         guest: 0,
         ppn: 0,
         mpn,
     };
-    assert_eq!(rt; (before.len, before.references), (1, 0));
-    assert_eq!(rt; before.hint, Some(hint));
-    assert_eq!(rt; (after.len, after.references), (1, 3));
-    assert_eq!(rt; after.shared, Some((mpn, 3)));
-    Ok(())
+    equal(&rt, (before.len, before.references), (1, 0));
+    equal(&rt, before.hint, Some(hint));
+    equal(&rt, (after.len, after.references), (1, 3));
+    equal(&rt, after.shared, Some((mpn, 3)));
 }
 
 /// Lets `pages` pages of one content share a frame, by stores and proposals in turn; then page 0 is released. Returns
@@ -99,6 +98,6 @@ fn share_all(rt: &impl Abort, alloc: Global, pages: u32) -> [[u32; 6]; 2] {
 #[test]
 fn wide_group(rt: HostRuntime) {
     let [all, fewer] = share_all(&rt, rt.alloc(), 65_536);
-    assert_eq!(rt; all, [131_072, 65_536, 65_536, 1, 65_535, 0]);
-    assert_eq!(rt; fewer, [131_073, 65_535, 65_535, 1, 65_534, 0]);
+    equal(&rt, all, [131_072, 65_536, 65_536, 1, 65_535, 0]);
+    equal(&rt, fewer, [131_073, 65_535, 65_535, 1, 65_534, 0]);
 }

@@ -1,4 +1,5 @@
 //! Clients that enter, lend pages, release them and leave.
+use crate::checks::holds;
 use page_digest::FoldHash;
 use share_domain::{Domain, DomainConfig, Holding, LendFault, NO_FRAME, Slot};
 use std::alloc::Global;
@@ -84,11 +85,11 @@ fn serve(domain: &mut Domain<FoldHash>, ask: Ask) -> Seen {
 fn expect_lines(rt: &impl Abort, mut domain: Domain<FoldHash>, lines: &[Line]) {
     for (ask, seen, counts) in lines {
         let is = serve(&mut domain, *ask);
-        assert!(rt; is == *seen);
+        holds(rt, is == *seen);
         let report = domain.report();
         let counted = [report.clients, report.slots, report.frames, report.shared];
-        assert!(rt; counted == *counts);
-        assert!(rt; report.machines == 1);
+        holds(rt, counted == *counts);
+        holds(rt, report.machines == 1);
     }
 }
 
@@ -143,17 +144,17 @@ fn clients_come_and_go(rt: HostRuntime) {
 fn equal_pages_meet_in_one_machine(rt: HostRuntime) {
     let mut domain = domain_of(&rt, rt.alloc(), 64);
     for _ in 0..2 {
-        assert!(rt; domain.enter().is_some());
+        holds(&rt, domain.enter().is_some());
     }
     for byte in 0..40 {
-        assert!(rt; serve(&mut domain, Ask::Lend(0, byte)) == Seen::Lent(1));
-        assert!(rt; serve(&mut domain, Ask::Lend(1, byte)) == Seen::Lent(2));
-        assert!(rt; serve(&mut domain, Ask::Leave(0)) == Seen::Left(1, 0));
-        assert!(rt; serve(&mut domain, Ask::Leave(0)) == Seen::Left(0, 0));
-        assert!(rt; domain.enter().is_some());
-        assert!(rt; serve(&mut domain, Ask::Leave(1)) == Seen::Left(1, 1));
-        assert!(rt; serve(&mut domain, Ask::Leave(1)) == Seen::Left(0, 0));
-        assert!(rt; domain.enter().is_some());
+        holds(&rt, serve(&mut domain, Ask::Lend(0, byte)) == Seen::Lent(1));
+        holds(&rt, serve(&mut domain, Ask::Lend(1, byte)) == Seen::Lent(2));
+        holds(&rt, serve(&mut domain, Ask::Leave(0)) == Seen::Left(1, 0));
+        holds(&rt, serve(&mut domain, Ask::Leave(0)) == Seen::Left(0, 0));
+        holds(&rt, domain.enter().is_some());
+        holds(&rt, serve(&mut domain, Ask::Leave(1)) == Seen::Left(1, 1));
+        holds(&rt, serve(&mut domain, Ask::Leave(1)) == Seen::Left(0, 0));
+        holds(&rt, domain.enter().is_some());
     }
 }
 
@@ -161,8 +162,8 @@ fn equal_pages_meet_in_one_machine(rt: HostRuntime) {
 #[test]
 fn frames_are_numbered_among_all_machines(rt: HostRuntime) {
     let mut domain = domain_of(&rt, rt.alloc(), 2);
-    assert!(rt; domain.machines() == 2);
-    assert!(rt; domain.enter() == Some(0));
+    holds(&rt, domain.machines() == 2);
+    holds(&rt, domain.enter() == Some(0));
     for byte in 0..8 {
         let loan = domain
             .lend(0, &[byte; 4096])
@@ -172,10 +173,10 @@ fn frames_are_numbered_among_all_machines(rt: HostRuntime) {
             client: 0,
             frame: loan.frame % 3,
         };
-        assert!(rt; loan.frame / 3 == machine);
-        assert!(rt; domain.holding(loan.slot) == Some(held));
-        assert!(rt; machine < domain.machines());
-        assert!(rt; domain.frames(machine).used() == 1);
-        assert!(rt; domain.release(0, loan.slot) == Ok(Some(loan.frame)));
+        holds(&rt, loan.frame / 3 == machine);
+        holds(&rt, domain.holding(loan.slot) == Some(held));
+        holds(&rt, machine < domain.machines());
+        holds(&rt, domain.frames(machine).used() == 1);
+        holds(&rt, domain.release(0, loan.slot) == Ok(Some(loan.frame)));
     }
 }

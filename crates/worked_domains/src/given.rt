@@ -3,6 +3,7 @@ ghost use Rattle.std.specs.Prelude.{◌≡◌, ◌∷◌, [], None, Some};
 ghost use Rattle.machine_frames.specs.FrameMap.{no_frames};
 ghost use Rattle.page_model.specs.Pages.{blank};
 
+use crate::checks::holds;
 use machine_frames::Frames;
 use page_digest::FoldHash;
 use share_domain::{Domain, DomainConfig, GivenFrames};
@@ -28,8 +29,8 @@ fn take_two(rt: &impl Abort, frames: &mut Frames)
     requires { frames.old ≡ no_frames 3 }
     ensures { frames.new ≡ Some blank ∷ Some blank ∷ None ∷ [] }
 {
-    assert!(rt; frames.take_zeroed() == Some(0));
-    assert!(rt; frames.take_zeroed() == Some(1));
+    holds(rt, frames.take_zeroed() == Some(0));
+    holds(rt, frames.take_zeroed() == Some(1));
 }
 
 /// Returns three free frames, of which frame 1 is taken first.
@@ -67,10 +68,10 @@ fn each_machine_has_the_frames_that_were_given_for_it(rt: HostRuntime) {
         &rt,
         "there is memory",
     );
-    assert!(rt; domain.enter() == Some(0));
+    holds(&rt, domain.enter() == Some(0));
     let first = first_frames(&mut domain);
-    assert!(rt; first[0] == Some(0));
-    assert!(rt; first[1] == Some(4));
+    holds(&rt, first[0] == Some(0));
+    holds(&rt, first[1] == Some(4));
 }
 
 /// Gives the frames of two machines, and makes a domain of them.
@@ -78,18 +79,18 @@ fn each_machine_has_the_frames_that_were_given_for_it(rt: HostRuntime) {
 fn a_domain_has_the_frames_that_were_given(rt: HostRuntime) {
     let mut given = GivenFrames::new(rt.alloc(), 2, 3).expect(&rt, "there is memory");
     given.add(three_frames(&rt, rt.alloc()));
-    assert!(rt; !given.are_all());
+    holds(&rt, !given.are_all());
     given.add(three_frames(&rt, rt.alloc()));
-    assert!(rt; given.are_all());
+    holds(&rt, given.are_all());
     let mut domain = Domain::with_frames(rt.alloc(), &CONFIG, FoldHash, given.into_frames()).expect(
         &rt,
         "there is memory",
     );
-    assert!(rt; domain.machines() == 2);
-    assert!(rt; domain.frames(1).total() == 3);
-    assert!(rt; domain.enter() == Some(0));
-    assert!(rt; domain.lend(0, &[5; 4096]).is_ok());
-    assert!(rt; domain.report().frames == 1);
+    holds(&rt, domain.machines() == 2);
+    holds(&rt, domain.frames(1).total() == 3);
+    holds(&rt, domain.enter() == Some(0));
+    holds(&rt, domain.lend(0, &[5; 4096]).is_ok());
+    holds(&rt, domain.report().frames == 1);
 }
 
 /// There is room for the frames of as many machines as there may be.
@@ -97,5 +98,5 @@ fn a_domain_has_the_frames_that_were_given(rt: HostRuntime) {
 fn frames_of_as_many_machines_as_there_may_be(rt: HostRuntime) {
     let mut given = GivenFrames::new(rt.alloc(), 64, 3).expect(&rt, "there is memory");
     given.add(three_frames(&rt, rt.alloc()));
-    assert!(rt; !given.are_all());
+    holds(&rt, !given.are_all());
 }

@@ -1,4 +1,5 @@
 //! Domains of the greatest sizes.
+use crate::checks::holds;
 use page_digest::FoldHash;
 use share_domain::{Domain, DomainConfig, DomainFault, NO_FRAME, Slot, frame_number, limit_fault};
 
@@ -13,11 +14,11 @@ fn many_clients_enter(rt: HostRuntime) {
         salt: 7,
     };
     let mut domain = Domain::new(rt.alloc(), &config, FoldHash).expect(&rt, "there is memory");
-    assert!(rt; domain.machines() == 64);
+    holds(&rt, domain.machines() == 64);
     for client in 0..300 {
-        assert!(rt; domain.enter() == Some(client));
+        holds(&rt, domain.enter() == Some(client));
     }
-    assert!(rt; domain.held_by(299) == 0);
+    holds(&rt, domain.held_by(299) == 0);
 }
 
 /// The first number that no domain has is found. A frame's number differs from that of no frame.
@@ -30,17 +31,17 @@ fn numbers_out_of_range(rt: HostRuntime) {
         clients: 65_536,
         salt: 7,
     };
-    assert!(rt; limit_fault(&config).is_none());
+    holds(&rt, limit_fault(&config).is_none());
     config.clients = 0;
-    assert!(rt; limit_fault(&config) == Some(DomainFault::Clients));
+    holds(&rt, limit_fault(&config) == Some(DomainFault::Clients));
     config.frames = 1;
-    assert!(rt; limit_fault(&config) == Some(DomainFault::Frames));
+    holds(&rt, limit_fault(&config) == Some(DomainFault::Frames));
     config.slots = 1_048_577;
-    assert!(rt; limit_fault(&config) == Some(DomainFault::Slots));
+    holds(&rt, limit_fault(&config) == Some(DomainFault::Slots));
     config.machines = 65;
-    assert!(rt; limit_fault(&config) == Some(DomainFault::Machines));
-    assert!(rt; frame_number(None) == NO_FRAME);
-    assert!(rt; frame_number(Some(7)) == 7);
+    holds(&rt, limit_fault(&config) == Some(DomainFault::Machines));
+    holds(&rt, frame_number(None) == NO_FRAME);
+    holds(&rt, frame_number(Some(7)) == 7);
 }
 
 /// As many slots and frames as a machine may have. The last slot is lent first.
@@ -54,23 +55,23 @@ fn a_million_slots(rt: HostRuntime) {
         salt: 7,
     };
     let mut domain = Domain::new(rt.alloc(), &config, FoldHash).expect(&rt, "there is memory");
-    assert!(rt; domain.enter() == Some(0));
-    assert!(rt; domain.enter() == Some(1));
+    holds(&rt, domain.enter() == Some(0));
+    holds(&rt, domain.enter() == Some(1));
     let last = Slot {
         machine: 0,
         ppn: 1_048_575,
     };
     for client in [1, 0, 1] {
-        assert!(rt; domain.lend(client, &[9; 4096]).is_ok());
+        holds(&rt, domain.lend(client, &[9; 4096]).is_ok());
     }
-    assert!(rt; domain.holding(last).is_some());
-    assert!(rt; domain.held_by(0) == 1);
-    assert!(rt; domain.held_by(1) == 2);
+    holds(&rt, domain.holding(last).is_some());
+    holds(&rt, domain.held_by(0) == 1);
+    holds(&rt, domain.held_by(1) == 2);
     let mut freed = [5; 3];
-    assert!(rt; domain.leave(1, &mut freed) == Some(2));
-    assert!(rt; freed == [NO_FRAME, NO_FRAME, 5]);
-    assert!(rt; domain.held_by(1) == 0);
-    assert!(rt; domain.leave(1, &mut freed) == Some(0));
-    assert!(rt; domain.leave(0, &mut freed) == Some(1));
-    assert!(rt; freed[0] != NO_FRAME);
+    holds(&rt, domain.leave(1, &mut freed) == Some(2));
+    holds(&rt, freed == [NO_FRAME, NO_FRAME, 5]);
+    holds(&rt, domain.held_by(1) == 0);
+    holds(&rt, domain.leave(1, &mut freed) == Some(0));
+    holds(&rt, domain.leave(0, &mut freed) == Some(1));
+    holds(&rt, freed[0] != NO_FRAME);
 }

@@ -1,6 +1,7 @@
 //! How often the pages of a domain are hashed.
 ghost use Rattle.std.specs.Prelude.{◌+◌, slice_index};
 
+use crate::checks::holds;
 use page_digest::PageHash;
 use page_model::{HashFunction, Page};
 use share_domain::{Domain, DomainConfig, Slot};
@@ -34,12 +35,12 @@ fn hashed(rt: &impl Abort, alloc: Global, bytes: &[u8]) -> u32 {
         salt: 7,
     };
     let mut domain = Domain::new(alloc, &config, Counted(&calls)).expect(rt, "there is memory");
-    assert!(rt; domain.enter() == Some(0));
+    holds(rt, domain.enter() == Some(0));
     for byte in bytes {
-        assert!(rt; domain.lend(0, &[*byte; 4096]).is_ok());
+        holds(rt, domain.lend(0, &[*byte; 4096]).is_ok());
     }
     let slot = Slot { machine: 0, ppn: 7 };
-    assert!(rt; domain.release(0, slot).is_ok());
+    holds(rt, domain.release(0, slot).is_ok());
     calls.load(Ordering::SeqCst)
 }
 
@@ -47,7 +48,7 @@ fn hashed(rt: &impl Abort, alloc: Global, bytes: &[u8]) -> u32 {
 /// another salt would hash it again.
 #[test]
 fn each_page_is_hashed_once(rt: HostRuntime) {
-    assert!(rt; hashed(&rt, rt.alloc(), &[5]) == 1);
-    assert!(rt; hashed(&rt, rt.alloc(), &[5, 5]) == 2);
-    assert!(rt; hashed(&rt, rt.alloc(), &[5, 6, 5, 6, 5]) == 5);
+    holds(&rt, hashed(&rt, rt.alloc(), &[5]) == 1);
+    holds(&rt, hashed(&rt, rt.alloc(), &[5, 5]) == 2);
+    holds(&rt, hashed(&rt, rt.alloc(), &[5, 6, 5, 6, 5]) == 5);
 }

@@ -1,17 +1,20 @@
 //! What is printed of each fault.
+use crate::checks::equal;
 use share_domain::{DomainFault, LendFault, NoSuchSlot};
 use std::alloc::Global;
 use std::fmt::Display;
 use std::process::Abort;
-use std::test::Fail;
 
-fn says(rt: &impl Abort, alloc: Global, fault: &impl Display, want: &str) -> Result<(), Fail> {
-    assert_eq!(rt; format!(in alloc; "{fault}")?.as_str(), want);
-    Ok(())
+fn says(rt: &impl Abort, alloc: Global, fault: &impl Display, want: &str) {
+    equal(
+        rt,
+        format!(in alloc; "{fault}").expect(rt, "memory").as_str(),
+        want,
+    );
 }
 
 #[test]
-fn faults_of_a_domain(rt: HostRuntime) -> Result<(), Fail> {
+fn faults_of_a_domain(rt: HostRuntime) {
     let lines = [
         (DomainFault::Machines, "give the domain 1 to 64 machines"),
         (DomainFault::Slots, "give each machine 1 to 1,048,576 slots"),
@@ -29,20 +32,19 @@ fn faults_of_a_domain(rt: HostRuntime) -> Result<(), Fail> {
         ),
     ];
     for (fault, line) in lines {
-        says(&rt, rt.alloc(), &fault, line)?;
+        says(&rt, rt.alloc(), &fault, line);
     }
-    Ok(())
 }
 
 #[test]
-fn faults_of_its_calls(rt: HostRuntime) -> Result<(), Fail> {
+fn faults_of_its_calls(rt: HostRuntime) {
     says(
         &rt,
         rt.alloc(),
         &LendFault::NoClient,
         "no such client is in",
-    )?;
-    says(&rt, rt.alloc(), &LendFault::NoSlot, "no slot is free")?;
-    says(&rt, rt.alloc(), &LendFault::NoFrame, "no frame is free")?;
+    );
+    says(&rt, rt.alloc(), &LendFault::NoSlot, "no slot is free");
+    says(&rt, rt.alloc(), &LendFault::NoFrame, "no frame is free");
     says(&rt, rt.alloc(), &NoSuchSlot, "the slot isn't the client's")
 }

@@ -6,6 +6,8 @@
 #[cfg(test)]
 mod censuses;
 #[cfg(test)]
+mod checks;
+#[cfg(test)]
 mod images;
 #[cfg(test)]
 mod texts;

@@ -1,8 +1,8 @@
+use crate::checks::{equal, holds, holds_at};
 use recent_fingerprints::{PageName, RecentFingerprints};
 use refusing::Refusing;
 use std::alloc::Allocator;
 use std::process::Abort;
-use std::test::Fail;
 
 /// What is asked: the client, the page's number, the fingerprint, and whether another page was noted with it.
 const ASKED: [(u32, u64, u64, bool); 9] = [
@@ -25,21 +25,22 @@ const ASKED: [(u32, u64, u64, bool); 9] = [
 fn ask_all<A: Allocator>(rt: &impl Abort, recent: &mut RecentFingerprints<A>) {
     for (client, number, fingerprint, expected) in ASKED {
         let page = PageName { client, number };
-        assert_eq!(rt; recent.ask(page, fingerprint), expected);
+        equal(rt, recent.ask(page, fingerprint), expected);
     }
 }
 
 #[test]
-fn three_places(rt: HostRuntime) -> Result<(), Fail> {
-    let mut recent = RecentFingerprints::new(rt.alloc(), 3, 4, 0x9e37_79b9_7f4a_7c15)?;
+fn three_places(rt: HostRuntime) {
+    let mut recent = RecentFingerprints::new(rt.alloc(), 3, 4, 0x9e37_79b9_7f4a_7c15).expect(
+        &rt, "memory",
+    );
     ask_all(&rt, &mut recent);
-    Ok(())
 }
 
 // A client's questions don't count once it has ended, also where another client has its number.
 #[test]
-fn ended(rt: HostRuntime) -> Result<(), Fail> {
-    let mut recent = RecentFingerprints::new(rt.alloc(), 4, 2, 0)?;
+fn ended(rt: HostRuntime) {
+    let mut recent = RecentFingerprints::new(rt.alloc(), 4, 2, 0).expect(&rt, "memory");
     let page = PageName {
         client: 1,
         number: 0,
@@ -48,25 +49,25 @@ fn ended(rt: HostRuntime) -> Result<(), Fail> {
         client: 0,
         number: 0,
     };
-    assert!(rt; !recent.was_noted(other, 5));
-    assert!(rt; !recent.ask(page, 5));
-    assert!(rt; recent.was_noted(other, 5));
-    assert!(rt; !recent.was_noted(page, 5));
+    holds(&rt, !recent.was_noted(other, 5));
+    holds(&rt, !recent.ask(page, 5));
+    holds(&rt, recent.was_noted(other, 5));
+    holds(&rt, !recent.was_noted(page, 5));
     recent.forget(1);
-    assert!(rt; !recent.ask(other, 5));
-    assert!(rt; recent.ask(page, 5));
+    holds(&rt, !recent.ask(other, 5));
+    holds(&rt, recent.ask(page, 5));
     recent.forget(0);
     recent.forget(7);
-    assert!(rt; !recent.ask(page, 5));
-    Ok(())
+    holds(&rt, !recent.ask(page, 5));
 }
 
 // As many places and clients as there may be.
 #[test]
-fn as_many_places_as_there_may_be(rt: HostRuntime) -> Result<(), Fail> {
-    let mut recent = RecentFingerprints::new(rt.alloc(), 16_777_216, 65_536, 7)?;
+fn as_many_places_as_there_may_be(rt: HostRuntime) {
+    let mut recent = RecentFingerprints::new(rt.alloc(), 16_777_216, 65_536, 7).expect(
+        &rt, "memory",
+    );
     ask_all(&rt, &mut recent);
-    Ok(())
 }
 
 /// Asks about each, with no more memory once the list is made. Returns whether there was memory for the list.
@@ -74,7 +75,7 @@ fn asks(rt: &impl Abort, heap: &Refusing) -> bool {
     let Ok(mut recent) = RecentFingerprints::new(heap, 3, 4, 7) else {
         return false;
     };
-    assert!(rt; !heap.has_refused());
+    holds(rt, !heap.has_refused());
     heap.refuse_all();
     ask_all(rt, &mut recent);
     true
@@ -87,12 +88,12 @@ fn new_refused_in_turn(rt: HostRuntime) {
     for n in 0..100 {
         let heap = Refusing::new(rt.alloc(), n, 0);
         let is_whole = asks(&rt, &heap);
-        assert!(rt; heap.has_refused() != is_whole, "at {n}");
-        assert!(rt; heap.holds_nothing(), "at {n}");
+        holds_at(&rt, n, heap.has_refused() != is_whole);
+        holds_at(&rt, n, heap.holds_nothing());
         if is_whole {
             whole_at = Some(n);
             break;
         }
     }
-    assert_eq!(rt; whole_at, Some(3));
+    equal(&rt, whole_at, Some(3));
 }

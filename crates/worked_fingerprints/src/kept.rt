@@ -1,9 +1,9 @@
 //! The fingerprints of frames.
+use crate::checks::{holds, holds_at};
 use frame_fingerprints::FrameFingerprints;
 use refusing::Refusing;
 use std::alloc::Allocator;
 use std::process::Abort;
-use std::test::Fail;
 
 /// What is kept of a frame, or no more: the frame, its fingerprint if there is one, and then whether a frame has 5, and 6.
 const KEPT: [(u32, Option<u64>, bool, bool); 9] = [
@@ -25,28 +25,31 @@ fn keep_all<A: Allocator>(rt: &impl Abort, fingerprints: &mut FrameFingerprints<
             None => fingerprints.remove(frame),
             Some(fingerprint) => fingerprints.put(frame, fingerprint),
         }
-        assert!(rt; fingerprints.is_kept(frame) == (frame < 3 && fingerprint.is_some()));
-        assert!(rt; fingerprints.has(5) == has_5);
-        assert!(rt; fingerprints.has(6) == has_6);
+        holds(
+            rt,
+            fingerprints.is_kept(frame) == (frame < 3 && fingerprint.is_some()),
+        );
+        holds(rt, fingerprints.has(5) == has_5);
+        holds(rt, fingerprints.has(6) == has_6);
     }
 }
 
 #[test]
-fn three_frames(rt: HostRuntime) -> Result<(), Fail> {
-    let mut fingerprints = FrameFingerprints::new(rt.alloc(), 3, 0x9e37_79b9_7f4a_7c15)?;
+fn three_frames(rt: HostRuntime) {
+    let mut fingerprints = FrameFingerprints::new(rt.alloc(), 3, 0x9e37_79b9_7f4a_7c15).expect(
+        &rt, "memory",
+    );
     keep_all(&rt, &mut fingerprints);
-    Ok(())
 }
 
 // As many frames as two machines may have.
 #[test]
-fn two_million_frames(rt: HostRuntime) -> Result<(), Fail> {
-    let mut fingerprints = FrameFingerprints::new(rt.alloc(), 2_097_152, 7)?;
+fn two_million_frames(rt: HostRuntime) {
+    let mut fingerprints = FrameFingerprints::new(rt.alloc(), 2_097_152, 7).expect(&rt, "memory");
     fingerprints.put(2_097_151, 5);
-    assert!(rt; fingerprints.is_kept(2_097_151));
-    assert!(rt; fingerprints.has(5));
-    assert!(rt; !fingerprints.has(0));
-    Ok(())
+    holds(&rt, fingerprints.is_kept(2_097_151));
+    holds(&rt, fingerprints.has(5));
+    holds(&rt, !fingerprints.has(0));
 }
 
 /// Keeps fingerprints, with no more memory once the list is made. Returns whether there was memory for the list.
@@ -56,7 +59,7 @@ fn keeps(rt: &impl Abort, heap: &Refusing) -> bool {
     };
     heap.refuse_all();
     keep_all(rt, &mut fingerprints);
-    assert!(rt; !heap.has_refused());
+    holds(rt, !heap.has_refused());
     true
 }
 
@@ -66,7 +69,7 @@ fn refused_in_turn(rt: HostRuntime) {
     for n in 0..3 {
         let heap = Refusing::new(rt.alloc(), n, 0);
         let is_whole = keeps(&rt, &heap);
-        assert!(rt; is_whole == (n == 2));
-        assert!(rt; heap.holds_nothing(), "at {n}");
+        holds(&rt, is_whole == (n == 2));
+        holds_at(&rt, n, heap.holds_nothing());
     }
 }

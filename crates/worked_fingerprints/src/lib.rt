@@ -4,4 +4,6 @@
 #[cfg(test)]
 mod asked;
 #[cfg(test)]
+mod checks;
+#[cfg(test)]
 mod kept;

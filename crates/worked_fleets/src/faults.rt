@@ -1,10 +1,10 @@
 //! Digests that can't be merged.
+use crate::checks::holds;
 use crate::merged::{Refusal, merge_texts};
 use digest_text::Cause;
 use fleet_census::Pairs;
 use std::alloc::Global;
 use std::process::Abort;
-use std::test::Fail;
 
 const WEB: &[u8] = b"guest,salt,pages,sample,digest,copies
 web,0,3,1,00e1000000000000000000000000000a,3
@@ -33,14 +33,19 @@ fn refusal(rt: &impl Abort, alloc: Global, texts: &[&[u8]]) -> Option<Refusal> {
 }
 
 #[test]
-fn reported(rt: HostRuntime) -> Result<(), Fail> {
+fn reported(rt: HostRuntime) {
     let of = |texts: &[&[u8]]| refusal(&rt, rt.alloc(), texts);
-    assert!(rt; of(&[EMPTY]).is_none());
-    assert!(rt; of(&[WEB, CUT]) == Some(Refusal::Line(1, 2, Cause::Total)));
-    assert!(rt; of(&[WEB, EMPTY, SAMPLED]) == Some(Refusal::OtherSample(2)));
-    assert!(rt; of(&[EMPTY, SAMPLED]).is_none());
-    assert!(rt; of(&[WHOLE]).is_none());
-    assert!(rt; of(&[WHOLE, WEB]) == Some(Refusal::TooManyPages));
-    assert!(rt; of(&[HEAVY]) == Some(Refusal::TooManyPages));
-    Ok(())
+    holds(&rt, of(&[EMPTY]).is_none());
+    holds(
+        &rt,
+        of(&[WEB, CUT]) == Some(Refusal::Line(1, 2, Cause::Total)),
+    );
+    holds(
+        &rt,
+        of(&[WEB, EMPTY, SAMPLED]) == Some(Refusal::OtherSample(2)),
+    );
+    holds(&rt, of(&[EMPTY, SAMPLED]).is_none());
+    holds(&rt, of(&[WHOLE]).is_none());
+    holds(&rt, of(&[WHOLE, WEB]) == Some(Refusal::TooManyPages));
+    holds(&rt, of(&[HEAVY]) == Some(Refusal::TooManyPages));
 }

@@ -1,9 +1,9 @@
 //! Merges of many digests.
+use crate::checks::holds;
 use crate::merged::merge_texts;
 use fleet_census::Pairs;
-use std::alloc::{AllocError, Global};
+use std::alloc::Global;
 use std::process::Abort;
-use std::test::Fail;
 
 const WEB: &[u8] = b"guest,salt,pages,sample,digest,copies
 web,0,3,1,00e1000000000000000000000000000a,3
@@ -15,27 +15,31 @@ fn counts_of(
     alloc: Global,
     count: usize,
     pairs: Pairs,
-) -> Result<(usize, u64, u64, usize), AllocError> {
-    let texts = vec![in alloc; WEB; count]?;
+) -> (usize, u64, u64, usize) {
+    let texts = vec![in alloc; WEB; count].expect(rt, "memory");
     let found = merge_texts(rt, alloc, alloc, &texts, pairs)
         .ok()
         .expect(rt, "numbers");
-    Ok((
+    (
         found.guests.len(),
         found.total.pages,
         found.total.frames.others,
         found.pairs.len(),
-    ))
+    )
 }
 
 #[test]
-fn many_digests(rt: HostRuntime) -> Result<(), Fail> {
-    assert!(rt; counts_of(&rt, rt.alloc(), 1_001, Pairs::Omitted)? == (1_001, 3_003, 1, 0));
-    Ok(())
+fn many_digests(rt: HostRuntime) {
+    holds(
+        &rt,
+        counts_of(&rt, rt.alloc(), 1_001, Pairs::Omitted) == (1_001, 3_003, 1, 0),
+    );
 }
 
 #[test]
-fn many_pairs(rt: HostRuntime) -> Result<(), Fail> {
-    assert!(rt; counts_of(&rt, rt.alloc(), 300, Pairs::Counted)? == (300, 900, 1, 300));
-    Ok(())
+fn many_pairs(rt: HostRuntime) {
+    holds(
+        &rt,
+        counts_of(&rt, rt.alloc(), 300, Pairs::Counted) == (300, 900, 1, 300),
+    );
 }

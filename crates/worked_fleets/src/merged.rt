@@ -1,4 +1,5 @@
 //! Texts that are merged, for the tests.
+use crate::checks::holds;
 use digest_text::{Cause, DigestReader, ReadFault};
 use fleet_census::{FleetFault, FleetNumbers, FleetPair, Pairs, merge};
 use std::alloc::{Allocator, Global};
@@ -47,11 +48,11 @@ pub fn merge_texts<A: Allocator + Copy>(
         .expect(rt, "room");
     for (file, text) in texts.iter().enumerate() {
         match DigestReader::new(memory, *text) {
-            Ok(reader) => assert!(rt; readers.push(reader).is_ok()),
+            Ok(reader) => holds(rt, readers.push(reader).is_ok()),
             Err(fault) => return Err(read_refusal(file, fault)),
         }
     }
-    assert!(rt; !readers.is_empty());
+    holds(rt, !readers.is_empty());
     merge(memory, &mut readers, pairs).map_err(refusal_of)
 }
 

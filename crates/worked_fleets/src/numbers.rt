@@ -1,7 +1,7 @@
 //! The numbers of a small fleet, added up by hand. The first digest is that of a page of zeros under salt 0, by sha256sum.
+use crate::checks::holds;
 use crate::merged::{merge_texts, pair_of};
 use fleet_census::{Amount, FleetClass, FleetGuest, FleetPair, FleetTotal, Pairs};
-use std::test::Fail;
 
 const WEB: &[u8] = b"guest,salt,pages,sample,digest,copies
 web,0,7,1,00e1000000000000000000000000000a,3
@@ -32,7 +32,7 @@ fn amount(zeros: u64, others: u64, squares: u128) -> Amount {
 
 // The guests share a content of five copies, and zeros; each has a content of its own.
 #[test]
-fn guests(rt: HostRuntime) -> Result<(), Fail> {
+fn guests(rt: HostRuntime) {
     let found = merge_texts(
         &rt,
         rt.alloc(),
@@ -42,7 +42,7 @@ fn guests(rt: HostRuntime) -> Result<(), Fail> {
     )
     .ok()
     .expect(&rt, "numbers");
-    assert!(rt; found.sample == 1);
+    holds(&rt, found.sample == 1);
     let web = FleetGuest {
         pages: 7,
         zero: 3,
@@ -64,12 +64,14 @@ fn guests(rt: HostRuntime) -> Result<(), Fail> {
         shared: amount(3, 2, 4),
         alone: amount(2, 1, 1),
     };
-    assert!(rt; found.guests.as_slice() == [web, empty, database].as_slice());
-    Ok(())
+    holds(
+        &rt,
+        found.guests.as_slice() == [web, empty, database].as_slice(),
+    );
 }
 
 #[test]
-fn total(rt: HostRuntime) -> Result<(), Fail> {
+fn total(rt: HostRuntime) {
     let found = merge_texts(
         &rt,
         rt.alloc(),
@@ -88,7 +90,7 @@ fn total(rt: HostRuntime) -> Result<(), Fail> {
         zero_reclaimed: 5,
         between: amount(1, 1, 1),
     };
-    assert!(rt; found.total == total);
+    holds(&rt, found.total == total);
     let once = FleetClass {
         from: 1,
         to: 1,
@@ -101,15 +103,17 @@ fn total(rt: HostRuntime) -> Result<(), Fail> {
         contents: amount(1, 1, 1),
         pages: amount(6, 5, 25),
     };
-    assert!(rt; found.copies.as_slice() == [once, five_to_eight].as_slice());
-    assert!(rt; found.pairs.is_empty());
-    Ok(())
+    holds(
+        &rt,
+        found.copies.as_slice() == [once, five_to_eight].as_slice(),
+    );
+    holds(&rt, found.pairs.is_empty());
 }
 
 // The web server and the database have zeros in common, 3 and 3, and a content of 3 and 2 copies; the mail server and the web server
 // one of 4 and 1; the mail server and the database nothing.
 #[test]
-fn pairs(rt: HostRuntime) -> Result<(), Fail> {
+fn pairs(rt: HostRuntime) {
     let of = |guest, other| pair_of(&rt, rt.alloc(), &[WEB, DATABASE, MAIL], guest, other);
     let zeros_and_one = FleetPair {
         contents: amount(1, 1, 1),
@@ -123,34 +127,36 @@ fn pairs(rt: HostRuntime) -> Result<(), Fail> {
         contents: amount(0, 0, 0),
         pages: amount(0, 0, 0),
     };
-    assert!(rt; of(1, 0) == Some(zeros_and_one));
-    assert!(rt; of(2, 0) == Some(one));
-    assert!(rt; of(2, 1) == Some(none));
-    assert!(rt; of(1, 1).is_none());
-    Ok(())
+    holds(&rt, of(1, 0) == Some(zeros_and_one));
+    holds(&rt, of(2, 0) == Some(one));
+    holds(&rt, of(2, 1) == Some(none));
+    holds(&rt, of(1, 1).is_none());
 }
 
 // Of a sample of 16 each content but zeros stands for 16: 5 for 80. The root of 16 times 15 times 25 is 77.46.
 #[test]
-fn estimates(rt: HostRuntime) -> Result<(), Fail> {
+fn estimates(rt: HostRuntime) {
     let shared = amount(6, 5, 25);
-    assert!(rt; shared.estimate(1) == 11 && shared.standard_error(1) == 0);
-    assert!(rt; shared.estimate(16) == 86 && shared.standard_error(16) == 77);
+    holds(&rt, shared.estimate(1) == 11);
+    holds(&rt, shared.standard_error(1) == 0);
+    holds(&rt, shared.estimate(16) == 86);
+    holds(&rt, shared.standard_error(16) == 77);
     let most = amount(u64::MAX, 1, 1);
-    assert!(rt; most.estimate(65_536) == u64::MAX);
-    Ok(())
+    holds(&rt, most.estimate(65_536) == u64::MAX);
 }
 
 // A guest under another salt has other zeros, and shares none.
 #[test]
-fn other_salts(rt: HostRuntime) -> Result<(), Fail> {
+fn other_salts(rt: HostRuntime) {
     let salted = b"guest,salt,pages,sample,digest,copies
 db,7,3,1,ad7facb2586fc6e966c004d7d1d16b02,3
 ";
     let found = merge_texts(&rt, rt.alloc(), rt.alloc(), &[WEB, salted], Pairs::Omitted)
         .ok()
         .expect(&rt, "numbers");
-    assert!(rt; found.total.zero == 3);
-    assert!(rt; matches!(found.guests.get(1), Some(guest) if guest.zero == 0));
-    Ok(())
+    holds(&rt, found.total.zero == 3);
+    holds(
+        &rt,
+        matches!(found.guests.get(1), Some(guest) if guest.zero == 0),
+    );
 }

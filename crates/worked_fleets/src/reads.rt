@@ -1,10 +1,10 @@
 //! Reads that fail in a merge.
+use crate::checks::{holds, holds_at};
 use digest_text::DigestReader;
 use fleet_census::{FleetFault, Pairs, merge};
 use std::alloc::Global;
 use std::io::{self, ErrorKind, Read};
 use std::process::Abort;
-use std::test::Fail;
 
 const TEXT: &[u8] = b"guest,salt,pages,sample,digest,copies
 web,0,7,1,00e1000000000000000000000000000a,3
@@ -33,7 +33,7 @@ impl Read for Pieces<'_> {
 
 // The number of the file whose read failed, in a merge of three digests of which one's reads fail behind this many bytes.
 fn file_of_failure(rt: &impl Abort, alloc: Global, failing: usize, whole: usize) -> Option<usize> {
-    assert!(rt; whole <= TEXT.len());
+    holds(rt, whole <= TEXT.len());
     let mut readers = Vec::new(alloc);
     for file in 0..3 {
         let fails = file == failing;
@@ -41,14 +41,14 @@ fn file_of_failure(rt: &impl Abort, alloc: Global, failing: usize, whole: usize)
         let reader = DigestReader::new(alloc, Pieces { text, fails })
             .ok()
             .expect(rt, "a reader");
-        assert!(rt; reader.failure().is_none());
-        assert!(rt; readers.push(reader).is_ok());
+        holds(rt, reader.failure().is_none());
+        holds(rt, readers.push(reader).is_ok());
     }
-    assert!(rt; !readers.is_empty());
+    holds(rt, !readers.is_empty());
     match merge(alloc, &mut readers, Pairs::Omitted) {
         Err(FleetFault::Read(file, error)) => {
             let noted = readers.get(file).and_then(DigestReader::failure);
-            assert!(rt; noted.is_some_and(|noted| noted.kind() == error.kind()));
+            holds(rt, noted.is_some_and(|noted| noted.kind() == error.kind()));
             Some(file)
         }
         _ => None,
@@ -57,15 +57,15 @@ fn file_of_failure(rt: &impl Abort, alloc: Global, failing: usize, whole: usize)
 
 // In the first line, in a later one, and behind the last.
 #[test]
-fn failing_reads(rt: HostRuntime) -> Result<(), Fail> {
+fn failing_reads(rt: HostRuntime) {
     for whole in [50, 100, TEXT.len()] {
         for file in 0..3 {
-            assert!(rt;
+            holds_at(
+                &rt,
+                (file, whole),
                 file_of_failure(&rt, rt.alloc(), file, whole) == Some(file),
-                "{file}, {whole}"
             );
         }
     }
-    assert!(rt; file_of_failure(&rt, rt.alloc(), 3, 0).is_none());
-    Ok(())
+    holds(&rt, file_of_failure(&rt, rt.alloc(), 3, 0).is_none());
 }

@@ -1,4 +1,5 @@
 //! A thread that works as its budget says: what it uses over any stretch, by a clock of the test's own.
+use crate::checks::{equal, holds};
 use crate::numbers::Numbers;
 use std::process::Abort;
 use work_budget::{Budget, Config};
@@ -43,7 +44,8 @@ fn work(thread: &mut Thread, numbers: &mut Numbers, orders: u32) {
 fn percent_since(rt: &impl Abort, thread: &Thread, now: u64, spent: u64) -> u64 {
     let passed = thread.now.wrapping_sub(now);
     let used = thread.spent.wrapping_sub(spent);
-    assert!(rt; passed > 0 && used < 1_000_000_000_000);
+    holds(rt, passed > 0);
+    holds(rt, used < 1_000_000_000_000);
     used * 100 / passed
 }
 
@@ -57,25 +59,25 @@ fn a_thread_keeps_to_its_share(rt: HostRuntime) {
         waits: 0,
     };
     work(&mut thread, &mut numbers, 100_000);
-    assert_eq!(rt; percent_since(&rt, &thread, 5, 0), 9);
-    assert!(rt; thread.waits > 10_000);
+    equal(&rt, percent_since(&rt, &thread, 5, 0), 9);
+    holds(&rt, thread.waits > 10_000);
     let (now, spent) = (thread.now, thread.spent);
     thread.budget.give_credit(30_000_000_000);
     work(&mut thread, &mut numbers, 1_000);
-    assert_eq!(rt; percent_since(&rt, &thread, now, spent), 49);
+    equal(&rt, percent_since(&rt, &thread, now, spent), 49);
     work(&mut thread, &mut numbers, 1_000_000);
-    assert!(rt; percent_since(&rt, &thread, now, spent) <= 11);
+    holds(&rt, percent_since(&rt, &thread, now, spent) <= 11);
 }
 
 #[test]
 fn what_an_order_takes_too_much_is_owed(rt: HostRuntime) {
     let mut budget = Budget::new(TENTH, 0, 0);
-    assert_eq!(rt; budget.settle(1_000_000, 50_000), 0);
-    assert_eq!(rt; budget.settle(2_000_000, 1_050_000), 8_500_000);
-    assert!(rt; !budget.may_work());
-    assert_eq!(rt; budget.settle(10_500_000, 1_050_000), 0);
+    equal(&rt, budget.settle(1_000_000, 50_000), 0);
+    equal(&rt, budget.settle(2_000_000, 1_050_000), 8_500_000);
+    holds(&rt, !budget.may_work());
+    equal(&rt, budget.settle(10_500_000, 1_050_000), 0);
     budget.pace(1, 1);
-    assert_eq!(rt; budget.settle(10_500_000, 2_050_000), 100_000_000);
+    equal(&rt, budget.settle(10_500_000, 2_050_000), 100_000_000);
 }
 
 #[test]

@@ -1,4 +1,5 @@
 //! What a host has for the page, and how it answers.
+use crate::checks::holds;
 use crate::numbers::Numbers;
 use page_lender::{Belief, Outcome};
 use std::process::Abort;
@@ -21,7 +22,7 @@ impl Host {
 
     /// Answers a question for a loan. The answer may be lost.
     pub fn lend(&mut self, rt: &impl Abort, numbers: &mut Numbers) -> Outcome {
-        assert!(rt; self.given.is_none());
+        holds(rt, self.given.is_none());
         let is_given = numbers.next() % 4 > 0;
         let lent = if is_given {
             self.give(numbers)
@@ -48,7 +49,7 @@ impl Host {
 
     /// Takes a slot back, which it must have. The message or the answer may be lost.
     pub fn release(&mut self, rt: &impl Abort, slot: u32, numbers: &mut Numbers) -> Outcome {
-        assert!(rt; self.has(slot));
+        holds(rt, self.has(slot));
         let came = numbers.next() % 4;
         if came > 1 {
             self.given = None;

@@ -1,4 +1,5 @@
 //! Reads, turns and rests, beside counts of the test's own.
+use crate::checks::{equal, holds};
 use crate::numbers::Numbers;
 use idle_pages::{Glance, LookConfig, PageLooks, PartRest, Way};
 use std::process::Abort;
@@ -23,7 +24,11 @@ fn three_reads_that_are_alike_make_a_page_idle(rt: HostRuntime) {
         let fingerprint = u64::from(numbers.next() % 2);
         page.read(fingerprint);
         last = [fingerprint, last[0], last[1]];
-        assert_eq!(rt; page.is_idle(), last[0] == last[1] && last[1] == last[2]);
+        equal(
+            &rt,
+            page.is_idle(),
+            last[0] == last[1] && last[1] == last[2],
+        );
         if page.is_idle() {
             idle = idle.wrapping_add(1);
             page.asked();
@@ -33,7 +38,7 @@ fn three_reads_that_are_alike_make_a_page_idle(rt: HostRuntime) {
             last = [9, 8, 7];
         }
     }
-    assert!(rt; idle > 1_000);
+    holds(&rt, idle > 1_000);
 }
 
 /// Returns how many of 64 looks are the turn of a page.
@@ -50,18 +55,18 @@ fn turns(page: &PageLooks, rest: u8, is_whole: bool) -> u32 {
 #[test]
 fn a_page_that_was_asked_about_in_vain_is_read_seldom(rt: HostRuntime) {
     let mut page = PageLooks::new();
-    assert_eq!(rt; turns(&page, 0, false), 64);
+    equal(&rt, turns(&page, 0, false), 64);
     for _ in 0..3 {
         page.read(5);
     }
-    assert_eq!(rt; turns(&page, 0, false), 64);
+    equal(&rt, turns(&page, 0, false), 64);
     page.asked();
-    assert_eq!(rt; turns(&page, 0, false), 32);
+    equal(&rt, turns(&page, 0, false), 32);
     page.asked();
     page.asked();
-    assert_eq!(rt; turns(&page, 0, false), 4);
-    assert_eq!(rt; turns(&page, 0, true), 2);
-    assert_eq!(rt; page.looks_apart(&CONFIG, 7, false), 2);
+    equal(&rt, turns(&page, 0, false), 4);
+    equal(&rt, turns(&page, 0, true), 2);
+    equal(&rt, page.looks_apart(&CONFIG, 7, false), 2);
 }
 
 /// Returns how many of 256 looks read a page, and how many take its last fingerprint.
@@ -86,7 +91,7 @@ fn a_page_is_read_where_a_glance_differs(rt: HostRuntime) {
         is_still: false,
         differs: false,
     };
-    assert_eq!(rt; ways(&page, glance), (256, 0));
+    equal(&rt, ways(&page, glance), (256, 0));
     for _ in 0..3 {
         page.read(5);
         page.asked();
@@ -94,14 +99,14 @@ fn a_page_is_read_where_a_glance_differs(rt: HostRuntime) {
     for _ in 0..3 {
         page.asked();
     }
-    assert_eq!(rt; ways(&page, glance), (1, 15));
+    equal(&rt, ways(&page, glance), (1, 15));
     glance.is_over = true;
-    assert_eq!(rt; ways(&page, glance), (16, 0));
+    equal(&rt, ways(&page, glance), (16, 0));
     glance.is_still = true;
-    assert_eq!(rt; ways(&page, glance), (8, 8));
+    equal(&rt, ways(&page, glance), (8, 8));
     glance.is_over = false;
     glance.differs = true;
-    assert_eq!(rt; ways(&page, glance), (256, 0));
+    equal(&rt, ways(&page, glance), (256, 0));
 }
 
 /// Returns how many looks leave a part out that has just been looked at.
@@ -124,11 +129,11 @@ fn a_calm_part_rests(rt: HostRuntime) {
         is_still: false,
     };
     part.looked(&CONFIG, 0, 512);
-    assert_eq!(rt; rests(&mut part), 0);
+    equal(&rt, rests(&mut part), 0);
     for expected in [1u32, 3, 7, 7] {
         part.looked(&CONFIG, 8, 512);
-        assert_eq!(rt; rests(&mut part), expected);
+        equal(&rt, rests(&mut part), expected);
     }
     part.looked(&CONFIG, 9, 512);
-    assert_eq!(rt; rests(&mut part), 0);
+    equal(&rt, rests(&mut part), 0);
 }

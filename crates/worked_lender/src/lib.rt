@@ -6,6 +6,8 @@
 #[cfg(test)]
 mod budgets;
 #[cfg(test)]
+mod checks;
+#[cfg(test)]
 mod host;
 #[cfg(test)]
 mod idle;

@@ -1,11 +1,11 @@
 //! Lives of one page: orders, outcomes, notices, bars and others' events come as chance has it, and the events of each outcome are played.
+use crate::checks::{equal, holds};
 use crate::host::Host;
 use crate::moves::{carry_out, is_bare, others_event, outcome_of, page_of, some_bars};
 use crate::numbers::Numbers;
 use page_lender::{Bars, Belief, Notice, Order, Outcome, PageLender};
 use std::alloc::Allocator;
 use std::process::Abort;
-use std::test::Fail;
 use window_events::{Mappings, Page};
 
 /// What came of a page so far: how often it was mapped, held in vain, brought home, released, and given back.
@@ -70,8 +70,8 @@ fn finish<A: Allocator>(rt: &impl Abort, life: &mut Life, mappings: &mut Mapping
     if was_done || outcome == Outcome::Done {
         carry_out(rt, mappings, 0, order);
     }
-    assert!(rt; life.lender.ordered);
-    assert!(rt; order.has(outcome));
+    holds(rt, life.lender.ordered);
+    holds(rt, order.has(outcome));
     count(&mut life.counts, order, outcome);
     life.lender.done(order, outcome);
 }
@@ -96,9 +96,9 @@ fn set_bars<A: Allocator>(rt: &impl Abort, life: &mut Life, mappings: &Mappings<
         return;
     }
     let page = page_of(rt, mappings, 0);
-    assert!(rt; !page.guarded);
+    holds(rt, !page.guarded);
     let must_own = bars.pinned || bars.inherited || bars.locked || bars.left || bars.ended;
-    assert!(rt; !must_own || !is_bare(&page));
+    holds(rt, !must_own || !is_bare(&page));
 }
 
 /// Does one thing or another.
@@ -148,23 +148,24 @@ fn live<A: Allocator>(rt: &impl Abort, mappings: &mut Mappings<A>, seed: u64, mo
     for _ in 0..moves {
         go_on(rt, &mut life, mappings);
         let page = page_of(rt, mappings, 0);
-        assert!(rt; is_right(life.lender.belief, &page));
-        assert!(rt; life.host.agrees(life.lender.belief));
+        holds(rt, is_right(life.lender.belief, &page));
+        holds(rt, life.host.agrees(life.lender.belief));
     }
     life
 }
 
 #[test]
-fn whatever_comes_is_possible(rt: HostRuntime) -> Result<(), Fail> {
+fn whatever_comes_is_possible(rt: HostRuntime) {
     for seed in 0..4u64 {
-        let mut mappings = Mappings::new(rt.alloc(), &[1, 1], &[0, 1])?;
+        let mut mappings = Mappings::new(rt.alloc(), &[1, 1], &[0, 1]).expect(&rt, "memory");
         let life = live(&rt, &mut mappings, seed, 50_000);
         let counts = life.counts;
-        assert!(rt; counts.mapped > 50 && counts.vain > 100);
-        assert!(rt; counts.home > 10 && counts.released > 100);
-        assert!(rt; counts.given_back > 50);
+        holds(&rt, counts.mapped > 50);
+        holds(&rt, counts.vain > 100);
+        holds(&rt, counts.home > 10);
+        holds(&rt, counts.released > 100);
+        holds(&rt, counts.given_back > 50);
     }
-    Ok(())
 }
 
 /// Bars that end a page's part for good.
@@ -185,8 +186,8 @@ fn follow(rt: &impl Abort, lender: &mut PageLender, outcome: Outcome) -> Order {
     }
     let belief = lender.belief;
     let due = belief.due();
-    assert!(rt; lender.ordered);
-    assert!(rt; due.has(outcome));
+    holds(rt, lender.ordered);
+    holds(rt, due.has(outcome));
     lender.done(due, outcome);
     due
 }
@@ -194,22 +195,32 @@ fn follow(rt: &impl Abort, lender: &mut PageLender, outcome: Outcome) -> Order {
 #[test]
 fn a_page_is_shown_and_leaves(rt: HostRuntime) {
     let mut lender = PageLender::new();
-    assert!(rt; lender.choose());
-    assert_eq!(rt; follow(&rt, &mut lender, Outcome::Done), Order::Copy);
-    assert_eq!(rt; follow(&rt, &mut lender, Outcome::Lent(7, 3)), Order::Lend);
-    assert_eq!(rt; follow(&rt, &mut lender, Outcome::Done), Order::Hold);
-    assert!(rt; !lender.bar(LEFT));
-    assert_eq!(rt; follow(&rt, &mut lender, Outcome::Done), Order::LetGo);
-    assert!(rt; lender.bar(LEFT));
-    assert_eq!(rt;
+    holds(&rt, lender.choose());
+    equal(&rt, follow(&rt, &mut lender, Outcome::Done), Order::Copy);
+    equal(
+        &rt,
+        follow(&rt, &mut lender, Outcome::Lent(7, 3)),
+        Order::Lend,
+    );
+    equal(&rt, follow(&rt, &mut lender, Outcome::Done), Order::Hold);
+    holds(&rt, !lender.bar(LEFT));
+    equal(&rt, follow(&rt, &mut lender, Outcome::Done), Order::LetGo);
+    holds(&rt, lender.bar(LEFT));
+    equal(
+        &rt,
         follow(&rt, &mut lender, Outcome::Unknown),
-        Order::Release(7)
+        Order::Release(7),
     );
-    assert_eq!(rt;
+    equal(
+        &rt,
         follow(&rt, &mut lender, Outcome::Refused),
-        Order::FindSlot(7)
+        Order::FindSlot(7),
     );
-    assert_eq!(rt; follow(&rt, &mut lender, Outcome::Done), Order::Release(7));
-    assert_eq!(rt; follow(&rt, &mut lender, Outcome::Done), Order::Wait);
-    assert!(rt; !lender.choose());
+    equal(
+        &rt,
+        follow(&rt, &mut lender, Outcome::Done),
+        Order::Release(7),
+    );
+    equal(&rt, follow(&rt, &mut lender, Outcome::Done), Order::Wait);
+    holds(&rt, !lender.choose());
 }

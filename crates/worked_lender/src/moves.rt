@@ -1,4 +1,5 @@
 //! What guests, others and a system that carries out orders do.
+use crate::checks::holds;
 use crate::host::Host;
 use crate::numbers::Numbers;
 use page_lender::{Bars, Order, Outcome};
@@ -9,7 +10,7 @@ use window_events::{Event, Mappings, Page, View};
 /// Plays an event that must be possible.
 pub fn must<A: Allocator>(rt: &impl Abort, mappings: &mut Mappings<A>, event: Event) {
     let is_possible = mappings.apply(&event);
-    assert!(rt; is_possible);
+    holds(rt, is_possible);
 }
 
 /// Returns a page, which is there.
@@ -29,7 +30,7 @@ pub fn is_bare(page: &Page) -> bool {
 fn give_back<A: Allocator>(rt: &impl Abort, mappings: &mut Mappings<A>, page: u32) {
     let shown = mappings.shown(page);
     must(rt, mappings, Event::Discard(page));
-    assert!(rt; mappings.shown(page) == shown);
+    holds(rt, mappings.shown(page) == shown);
 }
 
 /// Carries out an order on a page: the events that it stands for, each of which must be possible.

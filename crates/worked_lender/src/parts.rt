@@ -1,10 +1,10 @@
 //! A part of a window is split and made whole, as looks find it.
+use crate::checks::{equal, holds};
 use crate::moves::{is_bare, must, page_of};
 use crate::numbers::Numbers;
 use page_lender::{Bars, Notice};
 use std::alloc::Allocator;
 use std::process::Abort;
-use std::test::Fail;
 use window_events::{Event, Mappings};
 use window_lender::{Part, PartConfig, PartLook, PartOrder, Run, WindowLender};
 
@@ -55,13 +55,13 @@ fn some_look(numbers: &mut Numbers) -> PartLook {
 
 /// Counts a change, which may come only after a pause.
 fn count(rt: &impl Abort, life: &mut PartLife, order: PartOrder) {
-    assert!(rt; life.since >= 3);
+    holds(rt, life.since >= 3);
     life.since = 0;
     if order == PartOrder::Split {
-        assert!(rt; life.part.whole);
+        holds(rt, life.part.whole);
         life.splits = life.splits.wrapping_add(1);
     } else {
-        assert!(rt; !life.part.whole);
+        holds(rt, !life.part.whole);
         life.wholes = life.wholes.wrapping_add(1);
     }
 }
@@ -82,7 +82,7 @@ fn make_whole<A: Allocator, B: Allocator>(
             must(rt, mappings, Event::Write(page, shown));
         }
     }
-    assert!(rt; lender.is_quiet(0, pages));
+    holds(rt, lender.is_quiet(0, pages));
     lender.heard(0, pages, Notice::Written);
 }
 
@@ -103,10 +103,10 @@ pub fn look_at<A: Allocator, B: Allocator>(
         return;
     }
     count(rt, life, order);
-    assert!(rt; order == PartOrder::Split || !look.may_pin);
+    holds(rt, order == PartOrder::Split || !look.may_pin);
     for place in 0..pages {
         let page = page_of(rt, mappings, first.wrapping_add(place));
-        assert!(rt; !page.guarded);
+        holds(rt, !page.guarded);
     }
     if numbers.coin() {
         return;
@@ -135,9 +135,9 @@ fn asked<A: Allocator>(lender: &WindowLender<A>, part: &mut Part) -> PartOrder {
 
 /// Orders a copy of a page, so that the page is held.
 fn hold<A: Allocator>(rt: &impl Abort, lender: &mut WindowLender<A>) -> Run {
-    assert!(rt; lender.len() == 4);
-    assert!(rt; lender.choose(2));
-    assert!(rt; lender.len() == 4);
+    holds(rt, lender.len() == 4);
+    holds(rt, lender.choose(2));
+    holds(rt, lender.len() == 4);
     lender.next(2, 1)
 }
 
@@ -156,32 +156,32 @@ fn bar<A: Allocator>(lender: &mut WindowLender<A>, called: bool) {
 }
 
 #[test]
-fn a_part_is_split_and_made_whole(rt: HostRuntime) -> Result<(), Fail> {
-    let mut lender = WindowLender::new(rt.alloc(), 0, 4)?;
+fn a_part_is_split_and_made_whole(rt: HostRuntime) {
+    let mut lender = WindowLender::new(rt.alloc(), 0, 4).expect(&rt, "memory");
     let mut part = PartLife::new().part;
     let run = hold(&rt, &mut lender);
-    assert_eq!(rt; asked(&lender, &mut part), PartOrder::Stay);
-    assert!(rt; lender.is_open(run));
+    equal(&rt, asked(&lender, &mut part), PartOrder::Stay);
+    holds(&rt, lender.is_open(run));
     lender.withdraw(run);
     let order = asked(&lender, &mut part);
-    assert_eq!(rt; order, PartOrder::Split);
+    equal(&rt, order, PartOrder::Split);
     part.done(order);
     for _ in 0..4 {
-        assert_eq!(rt; asked(&lender, &mut part), PartOrder::Stay);
+        equal(&rt, asked(&lender, &mut part), PartOrder::Stay);
     }
     bar(&mut lender, true);
-    assert_eq!(rt; asked(&lender, &mut part), PartOrder::Stay);
+    equal(&rt, asked(&lender, &mut part), PartOrder::Stay);
     bar(&mut lender, false);
     let order = asked(&lender, &mut part);
-    assert_eq!(rt; order, PartOrder::MakeWhole);
+    equal(&rt, order, PartOrder::MakeWhole);
     part.done(order);
-    assert_eq!(rt;
+    equal(
+        &rt,
         part,
         Part {
             whole: true,
             pause: 3,
-            alone: 0
-        }
+            alone: 0,
+        },
     );
-    Ok(())
 }

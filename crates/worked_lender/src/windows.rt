@@ -1,5 +1,6 @@
 //! The life of a window of four pages: runs, outcomes, bars and others' events come as chance has it, and the events of each outcome are
 //! played, one page after another.
+use crate::checks::{equal, holds};
 use crate::host::Host;
 use crate::lives::is_right;
 use crate::moves::{carry_out, is_bare, outcome_of, page_of, some_bars};
@@ -8,7 +9,6 @@ use crate::parts::{PartLife, look_at};
 use page_lender::{Order, Outcome, PageLender};
 use std::alloc::Allocator;
 use std::process::Abort;
-use std::test::Fail;
 use window_events::{Event, Mappings};
 use window_lender::{Loan, Run, WindowLender, Work};
 
@@ -50,7 +50,7 @@ fn try_page<A: Allocator>(
     place: u32,
     order: Order,
 ) -> Outcome {
-    assert!(rt; place < PAGES);
+    holds(rt, place < PAGES);
     let page = FIRST + place;
     let mut host = outside.hosts[place as usize];
     let (outcome, was_done) = outcome_of(
@@ -91,9 +91,9 @@ fn pass_done<A: Allocator>(
         return run;
     }
     count(&mut outside.counts, run.work, done);
-    assert!(rt; lender.is_open(run));
-    assert!(rt; done <= run.count);
-    assert!(rt; run.work.has(Outcome::Done));
+    holds(rt, lender.is_open(run));
+    holds(rt, done <= run.count);
+    holds(rt, run.work.has(Outcome::Done));
     lender.done(run, done, Outcome::Done)
 }
 
@@ -104,9 +104,9 @@ fn pass_one<A: Allocator>(
     run: Run,
     outcome: Outcome,
 ) -> Run {
-    assert!(rt; lender.is_open(run));
-    assert!(rt; 1 <= run.count);
-    assert!(rt; run.work.has(outcome));
+    holds(rt, lender.is_open(run));
+    holds(rt, 1 <= run.count);
+    holds(rt, run.work.has(outcome));
     match outcome {
         Outcome::Lent(slot, frame) => lender.lent(run, &[Loan { slot, frame }]),
         other => lender.done(run, 1, other),
@@ -124,7 +124,7 @@ fn give_back<A: Allocator>(
         return;
     }
     outside.counts.withdrawn = outside.counts.withdrawn.wrapping_add(1);
-    assert!(rt; lender.is_open(run));
+    holds(rt, lender.is_open(run));
     lender.withdraw(run);
 }
 
@@ -166,7 +166,7 @@ fn set_bars<A: Allocator, B: Allocator>(
 ) {
     let bars = some_bars(&mut outside.numbers);
     let from = outside.numbers.next() % PAGES;
-    assert!(rt; lender.len() == PAGES);
+    holds(rt, lender.len() == PAGES);
     let may_go_on = lender.bar(from, PAGES - from, bars);
     if !may_go_on {
         return;
@@ -174,8 +174,8 @@ fn set_bars<A: Allocator, B: Allocator>(
     let must_own = bars.pinned || bars.inherited || bars.locked || bars.left || bars.ended;
     for place in from..PAGES {
         let page = page_of(rt, mappings, FIRST + place);
-        assert!(rt; !page.guarded);
-        assert!(rt; !must_own || !is_bare(&page));
+        holds(rt, !page.guarded);
+        holds(rt, !must_own || !is_bare(&page));
     }
 }
 
@@ -199,11 +199,11 @@ fn others_event(numbers: &mut Numbers) -> Event {
 
 /// Chooses pages to be lent, or to be given back.
 fn choose<A: Allocator>(rt: &impl Abort, outside: &mut Outside, lender: &mut WindowLender<A>) {
-    assert!(rt; lender.len() == PAGES);
+    holds(rt, lender.len() == PAGES);
     let from = outside.numbers.next() % PAGES;
     let are_zeros = outside.numbers.next() % 4 == 0;
     for place in from..PAGES {
-        assert!(rt; place < lender.len());
+        holds(rt, place < lender.len());
         if are_zeros {
             lender.choose_zeros(place);
         } else {
@@ -254,7 +254,7 @@ fn next_run<A: Allocator>(
     lender: &mut WindowLender<A>,
 ) -> Option<Run> {
     let from = outside.numbers.next() % PAGES;
-    assert!(rt; from < lender.len());
+    holds(rt, from < lender.len());
     let run = lender.next(from, PAGES);
     if run.work == Work::Wait {
         None
@@ -273,8 +273,8 @@ fn check<A: Allocator, B: Allocator>(
     for place in 0..PAGES {
         let page = page_of(rt, mappings, FIRST + place);
         let known = lender_of(rt, lender, place);
-        assert!(rt; is_right(known.belief, &page));
-        assert!(rt; outside.hosts[place as usize].agrees(known.belief));
+        holds(rt, is_right(known.belief, &page));
+        holds(rt, outside.hosts[place as usize].agrees(known.belief));
     }
 }
 
@@ -308,21 +308,25 @@ fn live<A: Allocator, B: Allocator>(
         open = go_on(rt, &mut outside, lender, mappings, open);
         check(rt, &outside, lender, mappings);
     }
-    assert!(rt; outside.part.splits > 10 && outside.part.wholes > 10);
+    holds(rt, outside.part.splits > 10);
+    holds(rt, outside.part.wholes > 10);
     outside.counts
 }
 
 #[test]
-fn whatever_comes_to_a_window_is_possible(rt: HostRuntime) -> Result<(), Fail> {
+fn whatever_comes_to_a_window_is_possible(rt: HostRuntime) {
     let mut longest = 0;
     for seed in 0..4u64 {
-        let mut mappings = Mappings::new(rt.alloc(), &[1, 1, 1, 1, 1], &[0, 1, 1])?;
-        let mut lender = WindowLender::new(rt.alloc(), FIRST, PAGES)?;
+        let mut mappings = Mappings::new(rt.alloc(), &[1, 1, 1, 1, 1], &[0, 1, 1]).expect(
+            &rt, "memory",
+        );
+        let mut lender = WindowLender::new(rt.alloc(), FIRST, PAGES).expect(&rt, "memory");
         let counts = live(&rt, &mut lender, &mut mappings, seed, 50_000);
-        assert!(rt; counts.mapped > 50 && counts.released > 100);
-        assert!(rt; counts.withdrawn > 100 && counts.given_back > 50);
+        holds(&rt, counts.mapped > 50);
+        holds(&rt, counts.released > 100);
+        holds(&rt, counts.withdrawn > 100);
+        holds(&rt, counts.given_back > 50);
         longest = longest.max(counts.longest);
     }
-    assert_eq!(rt; longest, PAGES);
-    Ok(())
+    equal(&rt, longest, PAGES);
 }

@@ -4,6 +4,7 @@ ghost use Rattle.merge_run.specs.View.{closed_names, port_names, end_names, ends
 
 use crate::answers::Reply::{Done, Number};
 use crate::answers::{Reply, rounded};
+use crate::checks::{equal, holds, holds_at};
 use crate::makes::{Merging, new_machine, step};
 use crate::ports::{Ask, ask_closed, ask_open, close_first, expect_none_open};
 use merge_run::{Fault, Settled, Unsettled, settle};
@@ -88,7 +89,7 @@ impl<A: Allocator> Course<A> {
         let reply = step(rt, &mut self.merger, guest);
         if reply == Done {
             let entry = self.merger.journal().last().expect(rt, "no entry");
-            assert_eq!(rt; entry.guest, guest);
+            equal(rt, entry.guest, guest);
         }
         reply
     }
@@ -126,8 +127,10 @@ impl<A: Allocator + Sync> Course<A> {
         workers: u32,
         limit: u32,
     ) -> Reply {
-        assert!(rt; 1 <= workers && workers <= 64);
-        assert!(rt; 1 <= limit && limit <= 1024);
+        holds(rt, 1 <= workers);
+        holds(rt, workers <= 64);
+        holds(rt, 1 <= limit);
+        holds(rt, limit <= 1024);
         rounded(self.merger.round(rt, lists, workers, limit))
     }
 }
@@ -139,7 +142,7 @@ pub fn play<A: Allocator>(rt: &impl Abort, course: Course<A>, rows: &[(Call, Rep
         let (call, wanted) = rows[number];
         let (next, reply) = make_call(rt, course, call);
         course = next;
-        assert!(rt; reply == wanted, "row {number}");
+        holds_at(rt, number, reply == wanted);
     }
     course
 }

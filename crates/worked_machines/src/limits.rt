@@ -1,5 +1,6 @@
 //! Which machines can be made, and a journal that is full.
 use crate::answers::Reply::{Busy, Done, Ended, Full, Got, Nothing, Number, Sent};
+use crate::checks::{equal, equal_at};
 use crate::course::Call::{Close, Entries, Guest, Step};
 use crate::course::{made, play, play_to_end};
 use crate::ports::Ask::{Count, Load, Verdict};
@@ -51,7 +52,7 @@ fn cause_of(alloc: Global, numbers: Numbers) -> Option<Fault> {
 /// Checks each row's cause.
 fn expect_causes(rt: &impl Abort, alloc: Global, rows: &[(Numbers, Option<Fault>)]) {
     for (numbers, fault) in rows {
-        assert_eq!(rt; cause_of(alloc, *numbers), *fault, "{numbers:?}");
+        equal_at(rt, numbers, cause_of(alloc, *numbers), *fault);
     }
 }
 
@@ -115,7 +116,7 @@ fn full_journal(rt: HostRuntime) {
         (Entries, Number(1)),
     ];
     let course = play(&rt, course, &rows);
-    assert_eq!(rt; course.numbers(), [1, 0, 0, 0, 0, 0]);
+    equal(&rt, course.numbers(), [1, 0, 0, 0, 0, 0]);
     let rows = [
         (Guest(0, Verdict), Got(Byte(0))),
         (Guest(0, Verdict), Nothing),

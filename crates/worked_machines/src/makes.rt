@@ -4,6 +4,7 @@ ghost use Rattle.share_rings.specs.Ends.{port_name};
 ghost use Rattle.merge_run.specs.View.{end_names, port_names, ends_of};
 
 use crate::answers::{Reply, got, sent, stepped};
+use crate::checks::holds;
 use merge_run::{Config, Fault, Machine, Merger};
 use page_digest::Sha256Hash;
 use share_rings::Port;
@@ -37,7 +38,7 @@ pub fn new_machine<A: Allocator + Copy>(
 pub fn step<A: Allocator>(rt: &impl Abort, merger: &mut Merging<A>, guest: u8) -> Reply
     ensures { end_names (ends_of merger.new) ≡ end_names (ends_of merger.old) }
 {
-    assert!(rt; (guest as usize) < merger.ends().len());
+    holds(rt, (guest as usize) < merger.ends().len());
     stepped(merger.step(guest))
 }
 

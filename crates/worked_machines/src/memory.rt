@@ -1,4 +1,5 @@
 //! What a machine's pages hold. A page that the machine hasn't stops the test.
+use crate::checks::holds;
 use crate::makes::Merging;
 use merge_run::Settled;
 use page_digest::Sha256Hash;
@@ -14,9 +15,9 @@ pub fn byte_so_far<A: Allocator>(
     at: u32,
 ) -> u8 {
     let core = merger.core();
-    assert!(rt; guest < core.guests());
-    assert!(rt; ppn < core.pages(guest));
-    assert!(rt; at < 4096);
+    holds(rt, guest < core.guests());
+    holds(rt, ppn < core.pages(guest));
+    holds(rt, at < 4096);
     merger.read(guest, ppn, at)
 }
 
@@ -29,9 +30,9 @@ pub fn byte<A: Allocator>(
     at: u32,
 ) -> u8 {
     let core = settled.core();
-    assert!(rt; guest < core.guests());
-    assert!(rt; ppn < core.pages(guest));
-    assert!(rt; at < 4096);
+    holds(rt, guest < core.guests());
+    holds(rt, ppn < core.pages(guest));
+    holds(rt, at < 4096);
     settled.read(guest, ppn, at)
 }
 
@@ -43,8 +44,8 @@ pub fn frame<A: Allocator>(
     ppn: u32,
 ) -> Option<u32> {
     let core = settled.core();
-    assert!(rt; guest < core.guests());
-    assert!(rt; ppn < core.pages(guest));
+    holds(rt, guest < core.guests());
+    holds(rt, ppn < core.pages(guest));
     core.frame(guest, ppn)
 }
 
@@ -56,6 +57,6 @@ pub fn sizes<A: Allocator>(
 ) -> (u8, u32) {
     let core = settled.core();
     let guests = core.guests();
-    assert!(rt; guest < guests);
+    holds(rt, guest < guests);
     (guests, core.pages(guest))
 }

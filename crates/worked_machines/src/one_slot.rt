@@ -1,6 +1,7 @@
 //! One guest whose two rings hold one item each, from the first answer to the last.
 use crate::answers::Reply;
 use crate::answers::Reply::{Blocked, Busy, Done, Ended, Got, Idle, Nothing, Sent, TooEarly};
+use crate::checks::{equal, holds};
 use crate::course::Call::{Close, Guest, Settle, Step};
 use crate::course::{Course, made, play, settled};
 use crate::memory::{byte, sizes};
@@ -64,22 +65,24 @@ fn is_first_load(request: &Request) -> bool {
 
 fn look_at_journal(rt: &impl Abort, journal: &[Entry]) {
     assert_eq!(rt; journal.len(), 3);
-    assert!(rt; journal[0].guest == 0 && journal[1].guest == 0 && journal[2].guest == 0);
-    assert!(rt; is_first_load(&journal[0].request));
-    assert!(rt; matches!(journal[1].request, Request::Count));
-    assert!(rt; matches!(journal[2].request, Request::Close));
+    holds(rt, journal[0].guest == 0);
+    holds(rt, journal[1].guest == 0);
+    holds(rt, journal[2].guest == 0);
+    holds(rt, is_first_load(&journal[0].request));
+    holds(rt, matches!(journal[1].request, Request::Count));
+    holds(rt, matches!(journal[2].request, Request::Close));
 }
 
 fn look_at_memory<A: Allocator>(rt: &impl Abort, settled: &Settled<Sha256Hash, A>) {
-    assert_eq!(rt; numbers(&settled.report()), [3, 0, 0, 0, 0, 0]);
-    assert_eq!(rt; settled.core().entries(), 3);
-    assert_eq!(rt; sizes(rt, settled, 0), (1, 1));
-    assert_eq!(rt; byte(rt, settled, 0, 0, 4095), 0);
+    equal(rt, numbers(&settled.report()), [3, 0, 0, 0, 0, 0]);
+    equal(rt, settled.core().entries(), 3);
+    equal(rt, sizes(rt, settled, 0), (1, 1));
+    equal(rt, byte(rt, settled, 0, 0, 4095), 0);
 }
 
 fn look_at_port<A: Allocator>(rt: &impl Abort, settled: &Settled<Sha256Hash, A>) {
-    assert!(rt; settled.core().guests() == 1);
-    assert!(rt; settled.port(0).drained());
+    holds(rt, settled.core().guests() == 1);
+    holds(rt, settled.port(0).drained());
 }
 
 /// Runs a new machine of one guest from beginning to end.
@@ -102,6 +105,6 @@ fn no_memory_after_the_start(rt: HostRuntime) {
     let course = made(&rt, &heap, 1, &[1], 1, 4);
     heap.refuse_all();
     run_to_the_end(&rt, course);
-    assert!(rt; !heap.has_refused());
-    assert!(rt; heap.holds_nothing());
+    holds(&rt, !heap.has_refused());
+    holds(&rt, heap.holds_nothing());
 }

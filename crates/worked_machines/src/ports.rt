@@ -5,6 +5,7 @@ ghost use Rattle.merge_run.specs.View.{closed_names, port_names};
 
 use crate::answers::Reply::{Other, Sent};
 use crate::answers::{Reply, got, sent};
+use crate::checks::holds;
 use share_rings::{ClosedPort, Port};
 use std::alloc::Allocator;
 use std::process::Abort;
@@ -72,7 +73,7 @@ pub fn close_first<A: Allocator>(
 ) -> Reply
     ensures { closed_names closed.new.items ++ port_names open.new.items ≡ closed_names closed.old.items ++ port_names open.old.items }
 {
-    assert!(rt; closed.len() < closed.capacity());
+    holds(rt, closed.len() < closed.capacity());
     let port = take_first(open).expect(rt, "no port is open");
     let Ok(port) = port.close() else {
         panic!(rt; "busy at the close");
@@ -95,5 +96,5 @@ fn take_first<A: Allocator>(ports: &mut Vec<Port<A>, A>) -> Option<Port<A>>
 pub fn expect_none_open<A: Allocator>(rt: &impl Abort, ports: &Vec<Port<A>, A>)
     ensures { port_names ports.now.items ≡ [] }
 {
-    assert!(rt; ports.is_empty());
+    holds(rt, ports.is_empty());
 }

@@ -1,11 +1,11 @@
 //! Memory that is refused to a new machine.
+use crate::checks::{equal_at, holds_at};
 use crate::course::new_course;
 use crate::one_slot::run_to_the_end;
 use merge_run::Fault;
 use refusing::Refusing;
 use std::alloc::Global;
 use std::process::Abort;
-use std::test::Fail;
 
 const MOST: u64 = 100;
 
@@ -18,29 +18,29 @@ fn make_refused(rt: &impl Abort, alloc: Global, n: u64) -> bool {
     let heap = Refusing::new(alloc, n, 0);
     let is_made = match new_course(&heap, 1, &[1], 1, 4) {
         Ok(course) => {
-            assert!(rt; !heap.has_refused(), "at {n}");
+            holds_at(rt, n, !heap.has_refused());
             heap.refuse_all();
             run_to_the_end(rt, course);
-            assert!(rt; !heap.has_refused(), "a call after {n} took memory");
+            holds_at(rt, n, !heap.has_refused());
             true
         }
         Err(fault) => {
-            assert!(rt; heap.has_refused(), "at {n}");
-            assert_eq!(rt; fault, Fault::OutOfMemory, "at {n}");
+            holds_at(rt, n, heap.has_refused());
+            equal_at(rt, n, fault, Fault::OutOfMemory);
             false
         }
     };
-    assert!(rt; heap.holds_nothing(), "at {n}");
+    holds_at(rt, n, heap.holds_nothing());
     is_made
 }
 
 // n counts up until a run has no refusal.
 #[test]
-fn new_machine_refused_in_turn(rt: HostRuntime) -> Result<(), Fail> {
+fn new_machine_refused_in_turn(rt: HostRuntime) {
     for n in BEFORE..BEFORE + MOST {
         if make_refused(&rt, rt.alloc(), n) {
-            return Ok(());
+            return;
         }
     }
-    Err(Fail::from("each run was refused"))
+    panic!(rt; "each run was refused")
 }

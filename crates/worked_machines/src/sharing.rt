@@ -1,5 +1,6 @@
 //! Two guests whose equal pages come to share one frame, and a store that copies it.
 use crate::answers::Reply::{Done, Got, Nothing, Sent};
+use crate::checks::{equal, holds};
 use crate::course::Call::{Close, Guest, Step};
 use crate::course::{Course, made, play, settled};
 use crate::makes::Merging;
@@ -41,7 +42,7 @@ fn share<A: Allocator>(rt: &impl Abort, course: Course<A>) -> Course<A> {
             (Guest(1, Verdict), Nothing),
         ],
     );
-    assert_eq!(rt; course.numbers(), [6, 3, 3, 1, 2, 0]);
+    equal(rt, course.numbers(), [6, 3, 3, 1, 2, 0]);
     course
 }
 
@@ -67,7 +68,7 @@ fn copy<A: Allocator>(rt: &impl Abort, course: Course<A>) -> Course<A> {
             (Guest(1, Verdict), Nothing),
         ],
     );
-    assert_eq!(rt; course.numbers(), [10, 3, 2, 2, 1, 0]);
+    equal(rt, course.numbers(), [10, 3, 2, 2, 1, 0]);
     course
 }
 
@@ -145,12 +146,12 @@ fn look_at_end<A: Allocator>(rt: &impl Abort, course: Course<A>) -> ([u8; 3], Se
 fn equal_pages_of_two_guests(rt: HostRuntime) {
     let course = share(&rt, made(&rt, rt.alloc(), 3, &[2, 1], 8, 16));
     let (before, seen) = look_at_end(&rt, course);
-    assert_eq!(rt; before, [b'A', b'A', b'A']);
-    assert_eq!(rt; seen.numbers, [8, 3, 3, 1, 2, 0]);
-    assert_eq!(rt; seen.sizes, [(2, 2), (2, 1)]);
-    assert_eq!(rt; seen.first, [b'A', b'A', b'A']);
-    assert_eq!(rt; seen.last, [0, 0, 0]);
-    assert!(rt; seen.is_one_frame);
+    equal(&rt, before, [b'A', b'A', b'A']);
+    equal(&rt, seen.numbers, [8, 3, 3, 1, 2, 0]);
+    equal(&rt, seen.sizes, [(2, 2), (2, 1)]);
+    equal(&rt, seen.first, [b'A', b'A', b'A']);
+    equal(&rt, seen.last, [0, 0, 0]);
+    holds(&rt, seen.is_one_frame);
 }
 
 // Neither a store nor a proposal nor a load asks for memory, so none is refused.
@@ -160,10 +161,10 @@ fn a_store_copies_a_shared_page(rt: HostRuntime) {
     let course = made(&rt, &heap, 3, &[2, 1], 8, 16);
     heap.refuse_all();
     let (before, seen) = look_at_end(&rt, copy(&rt, share(&rt, course)));
-    assert!(rt; !heap.has_refused());
-    assert_eq!(rt; before, [b'A', b'A', b'B']);
-    assert_eq!(rt; seen.numbers, [12, 3, 2, 2, 1, 0]);
-    assert_eq!(rt; seen.sizes, [(2, 2), (2, 1)]);
-    assert_eq!(rt; seen.first, [b'A', b'A', b'B']);
-    assert!(rt; !seen.is_one_frame);
+    holds(&rt, !heap.has_refused());
+    equal(&rt, before, [b'A', b'A', b'B']);
+    equal(&rt, seen.numbers, [12, 3, 2, 2, 1, 0]);
+    equal(&rt, seen.sizes, [(2, 2), (2, 1)]);
+    equal(&rt, seen.first, [b'A', b'A', b'B']);
+    holds(&rt, !seen.is_one_frame);
 }

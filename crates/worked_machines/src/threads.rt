@@ -5,6 +5,7 @@ ghost use Rattle.merge_run.specs.View.{end_names, ends_of, guest_count};
 
 use crate::answers::Reply::{Got, Nothing};
 use crate::answers::got;
+use crate::checks::equal;
 use crate::makes::{Merging, new_machine};
 use merge_run::{Step, settle};
 use page_model::Verdict;
@@ -241,9 +242,9 @@ fn guests_in_threads_of_their_own(rt: HostRuntime) {
         closed: 1,
         others: 0,
     };
-    assert_eq!(rt; ran.first.tally, all);
-    assert_eq!(rt; ran.second.tally, all);
+    equal(&rt, ran.first.tally, all);
+    equal(&rt, ran.second.tally, all);
     let (entries, numbers) = settled(&rt, rt.alloc(), ran);
-    assert_eq!(rt; entries, 202);
-    assert_eq!(rt; numbers, [202, 0, 0, 0, 0, 0]);
+    equal(&rt, entries, 202);
+    equal(&rt, numbers, [202, 0, 0, 0, 0, 0]);
 }

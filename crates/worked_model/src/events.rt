@@ -1,24 +1,22 @@
 //! Orders of events, each played through in one call.
+use crate::checks::{equal, holds};
 use event_world::World;
 use page_model::{Entry, Event, Request, RequestFault};
-use std::alloc::AllocError;
 use std::process::Abort;
-use std::test::Fail;
 
 /// Plays these events, of guests that the world has.
-fn play(rt: &impl Abort, world: &mut World, events: &[Event]) -> Result<(), AllocError> {
+fn play(rt: &impl Abort, world: &mut World, events: &[Event]) {
     for event in events {
         let (Event::Send(guest, _) | Event::Take(guest) | Event::Give(guest) | Event::Get(guest)) =
             event;
-        assert!(rt; usize::from(*guest) < world.guests());
-        world.happen(event)?;
+        holds(rt, usize::from(*guest) < world.guests());
+        world.happen(event).expect(rt, "memory");
     }
-    Ok(())
 }
 
 /// Returns how many requests this guest sent, how many were taken, and how many verdicts were given and got.
 fn counts(rt: &impl Abort, world: &World, guest: u8) -> [usize; 4] {
-    assert!(rt; usize::from(guest) < world.guests());
+    holds(rt, usize::from(guest) < world.guests());
     let traffic = world.traffic(guest);
     [
         traffic.sent().len(),
@@ -29,8 +27,8 @@ fn counts(rt: &impl Abort, world: &World, guest: u8) -> [usize; 4] {
 }
 
 #[test]
-fn events_out_of_order(rt: HostRuntime) -> Result<(), Fail> {
-    let mut world = World::new(rt.alloc(), 1)?;
+fn events_out_of_order(rt: HostRuntime) {
+    let mut world = World::new(rt.alloc(), 1).expect(&rt, "memory");
     let events = [
         Event::Get(0),
         Event::Take(0),
@@ -40,14 +38,13 @@ fn events_out_of_order(rt: HostRuntime) -> Result<(), Fail> {
         Event::Give(0),
         Event::Get(0),
     ];
-    play(&rt, &mut world, &events)?;
-    assert_eq!(rt; counts(&rt, &world, 0), [1, 1, 1, 1]);
+    play(&rt, &mut world, &events);
+    equal(&rt, counts(&rt, &world, 0), [1, 1, 1, 1]);
     let entry = Entry {
         guest: 0,
         request: Request::Count,
     };
-    assert_eq!(rt; world.journal(), [entry].as_slice());
-    Ok(())
+    equal(&rt, world.journal(), [entry].as_slice());
 }
 
 /// One request of each kind, the close last.
@@ -64,32 +61,31 @@ fn requests() -> Result<[Request; 6], RequestFault> {
 
 /// Whether what this guest sent was taken, given and got, each once and in order.
 fn goes_through(rt: &impl Abort, world: &World, guest: u8, places: &[usize]) -> bool {
-    assert!(rt; usize::from(guest) < world.guests());
+    holds(rt, usize::from(guest) < world.guests());
     let traffic = world.traffic(guest);
     traffic.taken() == traffic.sent() && traffic.given() == places && traffic.got() == places
 }
 
 #[test]
-fn each_request_goes_through_once(rt: HostRuntime) -> Result<(), Fail> {
-    let mut world = World::new(rt.alloc(), 2)?;
-    for request in requests()? {
-        play(&rt, &mut world, &[Event::Send(1, request)])?;
+fn each_request_goes_through_once(rt: HostRuntime) {
+    let mut world = World::new(rt.alloc(), 2).expect(&rt, "memory");
+    for request in requests().expect(&rt, "a request") {
+        play(&rt, &mut world, &[Event::Send(1, request)]);
     }
     let others = [
         Event::Send(1, Request::Count),
         Event::Send(0, Request::Close),
         Event::Take(0),
     ];
-    play(&rt, &mut world, &others)?;
+    play(&rt, &mut world, &others);
     for _ in 0..7 {
         play(
             &rt,
             &mut world,
             &[Event::Take(1), Event::Give(1), Event::Get(1)],
-        )?;
+        );
     }
-    assert_eq!(rt; counts(&rt, &world, 1), [6, 6, 6, 6]);
-    assert!(rt; goes_through(&rt, &world, 1, &[1, 2, 3, 4, 5, 6]));
-    assert_eq!(rt; world.journal().len(), 7);
-    Ok(())
+    equal(&rt, counts(&rt, &world, 1), [6, 6, 6, 6]);
+    holds(&rt, goes_through(&rt, &world, 1, &[1, 2, 3, 4, 5, 6]));
+    equal(&rt, world.journal().len(), 7);
 }

@@ -2,6 +2,8 @@
 //! Besides the tests it has one case of a law that no call shows, `copies`.
 #![tactic(auto)]
 
+#[cfg(test)]
+mod checks;
 pub mod copies;
 #[cfg(test)]
 mod events;

@@ -1,6 +1,6 @@
 //! Requests at their bounds, their parts, their copies, and what ends a guest's part.
+use crate::checks::{equal, equal_at, holds};
 use page_model::{Request, RequestFault, Verdict};
-use std::test::Fail;
 
 #[test]
 fn request_bounds(rt: HostRuntime) {
@@ -12,12 +12,8 @@ fn request_bounds(rt: HostRuntime) {
         (0, 0, Some(RequestFault::Length)),
         (4090, 65, Some(RequestFault::Length)),
     ] {
-        assert!(rt; len <= 65);
-        assert_eq!(rt;
-            Request::store(3, at, &bytes[..len]).err(),
-            fault,
-            "a store at {at}"
-        );
+        holds(&rt, len <= 65);
+        equal_at(&rt, at, Request::store(3, at, &bytes[..len]).err(), fault);
     }
     for (at, len, fault) in [
         (4095, 1, None),
@@ -25,21 +21,24 @@ fn request_bounds(rt: HostRuntime) {
         (0, 0, Some(RequestFault::Length)),
         (0, 65, Some(RequestFault::Length)),
     ] {
-        assert_eq!(rt; Request::load(3, at, len).err(), fault, "a load at {at}");
+        equal_at(&rt, at, Request::load(3, at, len).err(), fault);
     }
 }
 
 #[test]
-fn requests_keep_their_parts(rt: HostRuntime) -> Result<(), Fail> {
-    let Request::Store(store) = Request::store(3, 5, b"hi")? else {
-        return Err(Fail::from("no store"));
+fn requests_keep_their_parts(rt: HostRuntime) {
+    let Request::Store(store) = Request::store(3, 5, b"hi").expect(&rt, "a request") else {
+        panic!(rt; "no store");
     };
-    assert_eq!(rt; (store.ppn(), store.at(), store.bytes().len()), (3, 5, 2));
-    let Request::Load(load) = Request::load(4, 6, 7)? else {
-        return Err(Fail::from("no load"));
+    equal(
+        &rt,
+        (store.ppn(), store.at(), store.bytes().len()),
+        (3, 5, 2),
+    );
+    let Request::Load(load) = Request::load(4, 6, 7).expect(&rt, "a request") else {
+        panic!(rt; "no load");
     };
-    assert_eq!(rt; (load.ppn(), load.at(), load.len()), (4, 6, 7));
-    Ok(())
+    equal(&rt, (load.ppn(), load.at(), load.len()), (4, 6, 7));
 }
 
 fn one_of_each() -> Result<[Request; 6], RequestFault> {
@@ -54,32 +53,30 @@ fn one_of_each() -> Result<[Request; 6], RequestFault> {
 }
 
 #[test]
-fn copies_are_equal(rt: HostRuntime) -> Result<(), Fail> {
-    for request in one_of_each()? {
-        assert_eq!(rt; request.clone()?, request);
+fn copies_are_equal(rt: HostRuntime) {
+    for request in one_of_each().expect(&rt, "a request") {
+        equal(&rt, &request.clone().expect(&rt, "memory"), &request);
     }
-    Ok(())
 }
 
 #[test]
-fn one_request_and_one_verdict_close(rt: HostRuntime) -> Result<(), Fail> {
+fn one_request_and_one_verdict_close(rt: HostRuntime) {
     let mut closing = 0u32;
-    for request in one_of_each()? {
+    for request in one_of_each().expect(&rt, "a request") {
         closing = closing.wrapping_add(u32::from(request.is_close()));
     }
-    assert_eq!(rt; closing, 1);
-    assert!(rt; Request::Close.is_close());
-    assert!(rt; Verdict::Closed.is_closed());
-    assert!(rt; !Verdict::NoFrame.is_closed());
-    Ok(())
+    equal(&rt, closing, 1);
+    holds(&rt, Request::Close.is_close());
+    holds(&rt, Verdict::Closed.is_closed());
+    holds(&rt, !Verdict::NoFrame.is_closed());
 }
 
 #[test]
-fn faults_say_what_to_do(rt: HostRuntime) -> Result<(), Fail> {
-    let said = format!(in rt.alloc(); "{}", RequestFault::Length)?;
-    assert_eq!(rt;
+fn faults_say_what_to_do(rt: HostRuntime) {
+    let said = format!(in rt.alloc(); "{}", RequestFault::Length).expect(&rt, "memory");
+    equal(
+        &rt,
         said.as_str(),
-        "a store or load is of 1 to 64 bytes: split a longer one"
+        "a store or load is of 1 to 64 bytes: split a longer one",
     );
-    Ok(())
 }

@@ -1,6 +1,6 @@
 //! Machine shapes at their limits.
+use crate::checks::equal;
 use page_model::{MAX_FRAMES, MAX_PAGES, MachineShape, ShapeFault};
-use std::test::Fail;
 
 #[test]
 fn shape_limits(rt: HostRuntime) {
@@ -33,10 +33,9 @@ fn shape_limits(rt: HostRuntime) {
 }
 
 #[test]
-fn a_shape_keeps_its_parts(rt: HostRuntime) -> Result<(), Fail> {
-    let shape = MachineShape::new(3, &[2, 1], &[7, 8])?;
-    assert_eq!(rt; shape.frames(), 3);
-    assert_eq!(rt; shape.pages(), [2, 1].as_slice());
-    assert_eq!(rt; shape.salts(), [7, 8].as_slice());
-    Ok(())
+fn a_shape_keeps_its_parts(rt: HostRuntime) {
+    let shape = MachineShape::new(3, &[2, 1], &[7, 8]).expect(&rt, "a shape");
+    equal(&rt, shape.frames(), 3);
+    equal(&rt, shape.pages(), [2, 1].as_slice());
+    equal(&rt, shape.salts(), [7, 8].as_slice());
 }

@@ -3,10 +3,10 @@ ghost use Rattle.std.specs.Prelude.{◌≡◌};
 ghost use Rattle.watched_machine.specs.Reports.{last_of};
 ghost use Rattle.watched_machine.specs.Lists.{published, told_id, watch_id};
 
+use crate::checks::equal;
 use crate::makes::{mixed, one_page};
 use page_model::Report;
 use std::sync::Wait;
-use std::test::Fail;
 use std::thread;
 use std::thread::{Threads, join};
 use watched_machine::{Publisher, Told, Watch};
@@ -43,13 +43,12 @@ fn read_elsewhere<R: Threads + Wait + Sync>(rt: &R, told: Told, watch: Watch) ->
 }
 
 #[test]
-fn what_is_told_goes_to_another_thread(rt: HostRuntime) -> Result<(), Fail> {
+fn what_is_told_goes_to_another_thread(rt: HostRuntime) {
     let mut publisher = Publisher::new(&rt, rt.alloc()).expect(&rt, "memory");
     let watch = publisher.watch().expect(&rt, "a watch");
     let told = publisher.publish(&rt, one_page(5)).expect(&rt, "memory");
-    assert_eq!(rt; read_elsewhere(&rt, told, watch), Some(one_page(5)));
+    equal(&rt, read_elsewhere(&rt, told, watch), Some(one_page(5)));
     publisher.end(&rt);
-    Ok(())
 }
 
 // Publishes reports of 1, 2, .. entries, and returns how many were published.
@@ -121,7 +120,7 @@ fn run_beside<R: Threads + Wait + Sync>(
 // Two watches read while reports are published: each of 5,000 reads returns a report, all its six numbers were published
 // together, and it never has fewer entries than the one before.
 #[test]
-fn entries_never_fall(rt: HostRuntime) -> Result<(), Fail> {
+fn entries_never_fall(rt: HostRuntime) {
     let mut publisher = Publisher::new(&rt, rt.alloc()).expect(&rt, "memory");
     let first = publisher.watch().expect(&rt, "a watch");
     let second = publisher.watch().expect(&rt, "a watch");
@@ -132,7 +131,6 @@ fn entries_never_fall(rt: HostRuntime) -> Result<(), Fail> {
         falls: 0,
         strangers: 0,
     };
-    assert_eq!(rt; done, PUBLISHED);
-    assert_eq!(rt; tallies, (all, all));
-    Ok(())
+    equal(&rt, done, PUBLISHED);
+    equal(&rt, tallies, (all, all));
 }

@@ -3,10 +3,10 @@ ghost use Rattle.std.specs.Prelude.{◌≡◌, ◌<◌, Contains, IfSome};
 ghost use Rattle.watched_machine.specs.Reports.{last_of};
 ghost use Rattle.watched_machine.specs.Lists.{published, publisher_id, told_id, watch_id};
 
+use crate::checks::{equal, holds};
 use crate::makes::{mixed, one_page};
 use page_model::Report;
 use std::sync::Wait;
-use std::test::Fail;
 use std::thread::{Threads, join};
 use watched_machine::{Publisher, Told, Watch};
 
@@ -47,13 +47,12 @@ fn publish_each<R: Wait>(rt: &R, publisher: &mut Publisher, watch: &mut Watch) -
 }
 
 #[test]
-fn a_million_reports(rt: HostRuntime) -> Result<(), Fail> {
+fn a_million_reports(rt: HostRuntime) {
     let mut publisher = Publisher::new(&rt, rt.alloc()).expect(&rt, "memory");
     let mut watch = publisher.watch().expect(&rt, "a watch");
     let done = publish_each(&rt, &mut publisher, &mut watch);
     publisher.end(&rt);
-    assert_eq!(rt; done, MANY);
-    Ok(())
+    equal(&rt, done, MANY);
 }
 
 // Reads in another thread, and returns what was seen there.
@@ -73,15 +72,14 @@ fn see_elsewhere<R: Threads + Wait + Sync>(rt: &R, watch: Watch) -> Told
 }
 
 #[test]
-fn what_was_seen_comes_back(rt: HostRuntime) -> Result<(), Fail> {
+fn what_was_seen_comes_back(rt: HostRuntime) {
     let mut publisher = Publisher::new(&rt, rt.alloc()).expect(&rt, "memory");
     let watch = publisher.watch().expect(&rt, "a watch");
     let early = publisher.tell();
     let told = publisher.publish(&rt, one_page(5)).expect(&rt, "memory");
     let seen = see_elsewhere(&rt, watch);
-    assert!(rt; publisher.has_published(&seen));
-    assert!(rt; publisher.has_published(&told));
-    assert!(rt; publisher.has_published(&early));
+    holds(&rt, publisher.has_published(&seen));
+    holds(&rt, publisher.has_published(&told));
+    holds(&rt, publisher.has_published(&early));
     publisher.end(&rt);
-    Ok(())
 }

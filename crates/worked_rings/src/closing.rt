@@ -2,11 +2,11 @@
 ghost use Rattle.std.specs.Prelude.{◌≡◌, length};
 ghost use Rattle.share_rings.specs.Ends.{closed_name, end_name, end_taken, end_given};
 
+use crate::checks::{equal, holds};
 use page_model::{Request, Verdict};
 use share_rings::{ClosedPort, Meeting, MergerEnd, meet};
 use std::alloc::Allocator;
 use std::process::Abort;
-use std::test::Fail;
 
 /// How far a pair has come, whether its merger's end has ended, and whether its port is drained.
 fn stage<A: Allocator>(port: &mut ClosedPort<A>, end: &mut MergerEnd<A>) -> (Meeting, bool, bool)
@@ -18,22 +18,17 @@ fn stage<A: Allocator>(port: &mut ClosedPort<A>, end: &mut MergerEnd<A>) -> (Mee
 }
 
 /// Takes the close, which is to be the only request left, and answers it. All of the `slots` slots are free for that.
-fn answer_close<A: Allocator>(
-    rt: &impl Abort,
-    end: &mut MergerEnd<A>,
-    slots: u32,
-) -> Result<(), Fail>
+fn answer_close<A: Allocator>(rt: &impl Abort, end: &mut MergerEnd<A>, slots: u32)
     requires { length (end_given end.old) ≡ length (end_taken end.old) }
     ensures { end_name end.new ≡ end_name end.old }
 {
     assert_eq!(rt; end.free(), slots);
-    assert!(rt; slots > 0);
+    holds(rt, slots > 0);
     let Some(Request::Close) = end.take() else {
-        return Err(Fail::from("the close was not taken"));
+        panic!(rt; "the close was not taken");
     };
-    assert!(rt; !end.ended());
+    holds(rt, !end.ended());
     end.give(Verdict::Closed);
-    Ok(())
 }
 
 /// Answers the close of a pair whose other requests are answered, and receives the answer.
@@ -42,21 +37,22 @@ pub fn close_is_answered<A: Allocator>(
     mut port: ClosedPort<A>,
     mut end: MergerEnd<A>,
     slots: u32,
-) -> Result<(), Fail>
+)
     requires pair { closed_name port ≡ end_name end }
     requires answered { length (end_given end) ≡ length (end_taken end) }
 {
-    assert_eq!(rt;
+    equal(
+        rt,
         stage(&mut port, &mut end),
-        (Meeting::Running, false, false)
+        (Meeting::Running, false, false),
     );
-    answer_close(rt, &mut end, slots)?;
-    assert_eq!(rt;
+    answer_close(rt, &mut end, slots);
+    equal(
+        rt,
         stage(&mut port, &mut end),
-        (Meeting::Undrained, true, false)
+        (Meeting::Undrained, true, false),
     );
-    assert_eq!(rt; port.verdict(), Some(Verdict::Closed));
-    assert_eq!(rt; stage(&mut port, &mut end), (Meeting::Met, true, true));
-    assert_eq!(rt; (port.verdict(), end.take()), (None, None));
-    Ok(())
+    equal(rt, &port.verdict(), &Some(Verdict::Closed));
+    equal(rt, stage(&mut port, &mut end), (Meeting::Met, true, true));
+    equal(rt, &(port.verdict(), end.take()), &(None, None));
 }

@@ -1,11 +1,11 @@
 //! The capacities of a pair, and what goes through its ring of requests.
+use crate::checks::{equal, equal_at, holds};
 use crate::sends::{FILLING, SLOTS, fill, refuses_each, request_of};
-use page_model::{MAX_RING_CAPACITY, RequestFault};
+use page_model::MAX_RING_CAPACITY;
 use share_rings::{Busy, MergerEnd, RingFault, SendFault, ring_pair};
 use std::alloc::Global;
 use std::fmt::Display;
 use std::process::Abort;
-use std::test::Fail;
 
 #[test]
 fn ring_pair_bounds(rt: HostRuntime) {
@@ -15,42 +15,40 @@ fn ring_pair_bounds(rt: HostRuntime) {
         (1, None),
         (MAX_RING_CAPACITY, None),
     ] {
-        assert_eq!(rt;
-            ring_pair(rt.alloc(), capacity).err(),
-            fault,
-            "a capacity of {capacity}"
-        );
+        equal_at(&rt, capacity, ring_pair(rt.alloc(), capacity).err(), fault);
     }
 }
 
 /// Takes the requests of the calls that fill the ring, in order.
-fn takes_each(rt: &impl Abort, end: &mut MergerEnd) -> Result<(), RequestFault> {
+fn takes_each(rt: &impl Abort, end: &mut MergerEnd) {
     for call in FILLING {
-        assert_eq!(rt; end.take(), Some(request_of(call)?), "{call:?}");
+        let due = request_of(call).expect(rt, "a request");
+        equal_at(rt, call, &end.take(), &Some(due));
     }
-    assert_eq!(rt; end.take(), None);
-    Ok(())
+    holds(rt, end.take().is_none());
 }
 
 #[test]
-fn ring_pair_of_six_slots(rt: HostRuntime) -> Result<(), Fail> {
-    let (mut port, mut end) = ring_pair(rt.alloc(), SLOTS)?;
+fn ring_pair_of_six_slots(rt: HostRuntime) {
+    let (mut port, mut end) = ring_pair(rt.alloc(), SLOTS).expect(&rt, "memory");
     fill(&rt, &mut port);
     refuses_each(&rt, &mut port);
-    takes_each(&rt, &mut end)?;
-    Ok(())
+    takes_each(&rt, &mut end);
 }
 
-fn says(rt: &impl Abort, alloc: Global, fault: &impl Display, want: &str) -> Result<(), Fail> {
-    assert_eq!(rt; format!(in alloc; "{fault}")?.as_str(), want);
-    Ok(())
+fn says(rt: &impl Abort, alloc: Global, fault: &impl Display, want: &str) {
+    equal(
+        rt,
+        format!(in alloc; "{fault}").expect(rt, "memory").as_str(),
+        want,
+    );
 }
 
 #[test]
-fn faults_say_what_to_do(rt: HostRuntime) -> Result<(), Fail> {
+fn faults_say_what_to_do(rt: HostRuntime) {
     let full = "the ring of requests is full: take verdicts, let the merger serve, and send again";
-    says(&rt, rt.alloc(), &Busy, full)?;
-    says(&rt, rt.alloc(), &SendFault::Busy, full)?;
+    says(&rt, rt.alloc(), &Busy, full);
+    says(&rt, rt.alloc(), &SendFault::Busy, full);
     says(
         &rt,
         rt.alloc(),

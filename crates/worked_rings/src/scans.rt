@@ -1,4 +1,5 @@
 //! Scans, by their first numbers.
+use crate::checks::equal;
 use share_rings::Scan;
 
 /// Returns the first three numbers of a scan.
@@ -8,9 +9,9 @@ pub fn numbers(mut scan: Scan) -> [u32; 3] {
 
 #[test]
 fn scans(rt: HostRuntime) {
-    assert_eq!(rt; numbers(Scan::sequential(2)), [0, 1, 0]);
-    assert_eq!(rt; numbers(Scan::random(7, 1)), [0, 0, 0]);
+    equal(&rt, numbers(Scan::sequential(2)), [0, 1, 0]);
+    equal(&rt, numbers(Scan::random(7, 1)), [0, 0, 0]);
     // The first words of the reference generator for the seed 0 are 298703107 and 4236525527.
     let [first, second, _] = numbers(Scan::random(0, 1000));
-    assert_eq!(rt; [first, second], [107, 527]);
+    equal(&rt, [first, second], [107, 527]);
 }

@@ -2,6 +2,7 @@
 ghost use Rattle.std.specs.Prelude.{◌≡◌};
 ghost use Rattle.share_rings.specs.Ends.{port_name};
 
+use crate::checks::equal_at;
 use page_model::{Request, RequestFault};
 use share_rings::{Port, SendFault};
 use std::alloc::Allocator;
@@ -63,7 +64,7 @@ pub fn fill<A: Allocator>(rt: &impl Abort, port: &mut Port<A>)
     ensures { port_name port.new ≡ port_name port.old }
 {
     for call in FILLING {
-        assert_eq!(rt; send(port, call), Ok(()), "{call:?}");
+        equal_at(rt, call, send(port, call), Ok(()));
     }
 }
 
@@ -72,7 +73,7 @@ pub fn refuses_each<A: Allocator>(rt: &impl Abort, port: &mut Port<A>)
     ensures { port_name port.new ≡ port_name port.old }
 {
     for (call, fault) in REFUSED {
-        assert_eq!(rt; send(port, call), Err(fault), "{call:?}");
+        equal_at(rt, call, send(port, call), Err(fault));
     }
 }
 

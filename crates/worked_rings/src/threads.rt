@@ -2,11 +2,11 @@
 ghost use Rattle.std.specs.Prelude.{◌≡◌, length, IfSome};
 ghost use Rattle.share_rings.specs.Ends.{port_name, closed_name, end_name, end_taken, end_given};
 
+use crate::checks::equal;
 use crate::serving::serve_one;
 use page_model::Verdict;
 use share_rings::{ClosedPort, Meeting, MergerEnd, Port, meet, ring_pair};
 use std::snapshot::Snapshot;
-use std::test::Fail;
 use std::thread;
 use std::thread::Promise;
 
@@ -106,17 +106,16 @@ fn serve_to_the_end(end: &mut MergerEnd)
 }
 
 #[test]
-fn ring_pair_in_two_threads(rt: HostRuntime) -> Result<(), Fail> {
-    let (port, mut end) = ring_pair(rt.alloc(), 2)?;
+fn ring_pair_in_two_threads(rt: HostRuntime) {
+    let (port, mut end) = ring_pair(rt.alloc(), 2).expect(&rt, "memory");
     let promise = SamePort(Snapshot::of(&port));
     let Ok(child) = thread::spawn_with(&rt, promise, move || run_guest(port)) else {
-        return Err(Fail::from("no thread"));
+        panic!(rt; "no thread");
     };
     serve_to_the_end(&mut end);
     let Some(mut guest) = child.join(&rt) else {
-        return Err(Fail::from("the port was busy to the end"));
+        panic!(rt; "the port was busy to the end");
     };
-    assert_eq!(rt; meet(&mut guest.port, &mut end), Meeting::Met);
-    assert_eq!(rt; guest.in_order, PROPOSALS);
-    Ok(())
+    equal(&rt, meet(&mut guest.port, &mut end), Meeting::Met);
+    equal(&rt, guest.in_order, PROPOSALS);
 }

@@ -1,4 +1,5 @@
 //! A run whose round has enough proposals for a second worker, with each growth of memory refused in turn.
+use crate::checks::{equal, equal_at, holds, holds_at};
 use crate::makes::{Ask, Numbers};
 use crate::plain::{Outcome, got, ran};
 use merge_run::{Gate, RunFault};
@@ -9,7 +10,6 @@ use std::alloc::{AllocError, Global};
 use std::process::Abort;
 use std::sync::Wait;
 use std::sync::atomic::{AtomicBool, Ordering};
-use std::test::Fail;
 use std::thread::{self, Threads};
 use worked_answers::Answer;
 
@@ -125,9 +125,9 @@ fn check_whole(rt: &impl Abort, ran: &Outcome) {
     let answers = &ran.answers[0];
     assert_eq!(rt; answers.len(), REQUESTS + 1);
     for nth in 0..answers.len() {
-        assert!(rt; answers[nth] == due(nth), "verdict {nth}");
+        holds_at(rt, nth, answers[nth] == due(nth));
     }
-    assert_eq!(rt; ran.report, [83, 41, 0, 41, 0, 41]);
+    equal(rt, ran.report, [83, 41, 0, 41, 0, 41]);
 }
 
 /// Runs the script with memory from `heap`. Returns why there is no such run; if there is one, it is whole.
@@ -148,7 +148,7 @@ fn fault_of_run<R: Threads + Wait + Sync + Abort>(
     let hash = Waiting { meeting: &meeting };
     match ran(rt, alloc, heap, &numbers, &[script], hash, &meeting) {
         Ok(ran) => {
-            assert!(rt; !meeting.missed.load(Ordering::SeqCst));
+            holds(rt, !meeting.missed.load(Ordering::SeqCst));
             check_whole(rt, &ran);
             None
         }
@@ -160,28 +160,27 @@ fn fault_of_run<R: Threads + Wait + Sync + Abort>(
 // run, each refusal is reported. The later ones are of a round, whose memory is for its workers alone: they change
 // nothing, and there are some, so the run serves by rounds.
 #[test]
-fn rounds_refused_in_turn(rt: HostRuntime) -> Result<(), Fail> {
-    let script = script(rt.alloc())?;
+fn rounds_refused_in_turn(rt: HostRuntime) {
+    let script = script(rt.alloc()).expect(&rt, "memory");
     let mut whole_though_refused = 0u32;
     for n in 0..MOST {
         let heap = Refusing::new(rt.alloc(), BEFORE + n, 0);
         let fault = fault_of_run(&rt, rt.alloc(), &heap, &script);
-        assert!(rt; heap.holds_nothing(), "at {n}");
+        holds_at(&rt, n, heap.holds_nothing());
         match fault {
             None if heap.has_refused() => {
                 whole_though_refused = whole_though_refused.wrapping_add(1);
             }
             None => {
-                assert!(rt; whole_though_refused > 0);
-                return Ok(());
+                holds(&rt, whole_though_refused > 0);
+                return;
             }
             Some(fault) => {
-                assert!(rt; heap.has_refused(), "at {n}");
-                assert_eq!(rt; fault, RunFault::OutOfMemory, "at {n}");
-                assert_eq!(rt; whole_though_refused, 0, "at {n}");
+                holds_at(&rt, n, heap.has_refused());
+                equal_at(&rt, n, fault, RunFault::OutOfMemory);
+                equal_at(&rt, n, whole_though_refused, 0);
             }
         }
     }
-    assert!(rt; false, "no growth is the last");
-    Ok(())
+    panic!(rt; "no growth is the last");
 }

@@ -1,10 +1,10 @@
 //! How often, and in what order, a run calls its gate.
+use crate::checks::{equal, holds};
 use crate::makes::{Ask, Numbers};
 use crate::plain::replayed;
 use merge_run::Gate;
 use std::alloc::{AllocError, Global};
 use std::sync::atomic::{AtomicBool, AtomicU32, AtomicU64, Ordering};
-use std::test::Fail;
 
 const GUESTS: usize = 3;
 
@@ -103,7 +103,7 @@ fn loads(alloc: Global, times: u32) -> Result<Vec<Ask>, AllocError> {
 // The gate is called once before each send and once after each verdict, the close included, though with a ring of one
 // item many tries fail.
 #[test]
-fn gate_is_called_once_for_each_number(rt: HostRuntime) -> Result<(), Fail> {
+fn gate_is_called_once_for_each_number(rt: HostRuntime) {
     let numbers = Numbers {
         frames: 3,
         pages: &[1, 1, 1],
@@ -111,7 +111,7 @@ fn gate_is_called_once_for_each_number(rt: HostRuntime) -> Result<(), Fail> {
         ring: 1,
         journal: 24,
     };
-    let long = loads(rt.alloc(), 20)?;
+    let long = loads(rt.alloc(), 20).expect(&rt, "memory");
     let gate = Counting::new();
     replayed(
         &rt,
@@ -119,11 +119,10 @@ fn gate_is_called_once_for_each_number(rt: HostRuntime) -> Result<(), Fail> {
         &numbers,
         &[&[], &[Ask::Count], &long],
         &gate,
-    )?;
-    assert!(rt; !gate.has_failed());
-    assert_eq!(rt; gate.calls(0), Some((1, 1)));
-    assert_eq!(rt; gate.calls(1), Some((2, 2)));
-    assert_eq!(rt; gate.calls(2), Some((21, 21)));
-    assert_eq!(rt; gate.requests.load(Ordering::SeqCst), 24);
-    Ok(())
+    );
+    holds(&rt, !gate.has_failed());
+    equal(&rt, gate.calls(0), Some((1, 1)));
+    equal(&rt, gate.calls(1), Some((2, 2)));
+    equal(&rt, gate.calls(2), Some((21, 21)));
+    equal(&rt, gate.requests.load(Ordering::SeqCst), 24);
 }

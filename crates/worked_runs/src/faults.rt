@@ -1,10 +1,10 @@
 //! The order in which the causes of a run's fault are checked.
+use crate::checks::{equal, equal_at, holds};
 use crate::makes::{Ask, Numbers};
 use crate::plain::fault_without_memory;
 use merge_run::{JournalFull, RunFault};
 use page_model::{MAX_ENTRIES, MAX_FRAMES, MAX_PAGES, MAX_RING_CAPACITY};
 use refusing::Refusing;
-use std::test::Fail;
 
 const SCRIPT: [Ask; 3] = [Ask::Store(0, 0x41), Ask::Load(0), Ask::Propose(0)];
 
@@ -16,7 +16,7 @@ const STOPPED: RunFault = RunFault::Stopped(JournalFull);
 // The two scripts need eight entries. All memory is refused as well, but none is asked for until every other cause is
 // checked.
 #[test]
-fn order_of_faults(rt: HostRuntime) -> Result<(), Fail> {
+fn order_of_faults(rt: HostRuntime) {
     let cases: [Case; 14] = [
         (0, (0, 1), &[], 0, 0, RunFault::Frames),
         (MAX_FRAMES + 1, (1, 1), &[0, 0], 1, 7, RunFault::Frames),
@@ -43,13 +43,13 @@ fn order_of_faults(rt: HostRuntime) -> Result<(), Fail> {
             journal,
         };
         let answer = fault_without_memory(&rt, &heap, &numbers, &[&SCRIPT, &SCRIPT]);
-        assert_eq!(rt;
+        equal_at(
+            &rt,
+            (frames, first, second, ring, journal),
             answer,
             Some(fault),
-            "{frames} {first} {second} {ring} {journal}"
         );
-        assert_eq!(rt; heap.has_refused(), fault == RunFault::OutOfMemory);
-        assert!(rt; heap.holds_nothing());
+        equal(&rt, heap.has_refused(), fault == RunFault::OutOfMemory);
+        holds(&rt, heap.holds_nothing());
     }
-    Ok(())
 }

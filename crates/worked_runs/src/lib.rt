@@ -6,6 +6,8 @@ mod ahead;
 #[cfg(test)]
 mod answers;
 #[cfg(test)]
+mod checks;
+#[cfg(test)]
 mod counting;
 #[cfg(test)]
 mod empty;

@@ -1,9 +1,9 @@
 //! A script that is much longer than its rings.
+use crate::checks::{equal, holds};
 use crate::makes::{Ask, Numbers};
 use crate::plain::{got, replayed};
 use merge_run::OpenGate;
 use std::alloc::{AllocError, Global};
-use std::test::Fail;
 use worked_answers::Answer;
 
 const REQUESTS: u8 = 50;
@@ -34,7 +34,7 @@ fn wanted(alloc: Global) -> Result<Vec<Answer>, AllocError> {
 
 // Alternate stores and loads, over rings of one item each.
 #[test]
-fn fifty_requests_over_one_slot(rt: HostRuntime) -> Result<(), Fail> {
+fn fifty_requests_over_one_slot(rt: HostRuntime) {
     let numbers = Numbers {
         frames: 1,
         pages: &[1],
@@ -42,9 +42,8 @@ fn fifty_requests_over_one_slot(rt: HostRuntime) -> Result<(), Fail> {
         ring: 1,
         journal: u32::from(REQUESTS) + 1,
     };
-    let asks = script(rt.alloc())?;
-    let ran = replayed(&rt, rt.alloc(), &numbers, &[&asks], &OpenGate)?;
-    assert!(rt; got(&ran, 0, &wanted(rt.alloc())?));
-    assert_eq!(rt; ran.report, [51, 1, 0, 1, 0, 0]);
-    Ok(())
+    let asks = script(rt.alloc()).expect(&rt, "memory");
+    let ran = replayed(&rt, rt.alloc(), &numbers, &[&asks], &OpenGate);
+    holds(&rt, got(&ran, 0, &wanted(rt.alloc()).expect(&rt, "memory")));
+    equal(&rt, ran.report, [51, 1, 0, 1, 0, 0]);
 }

@@ -1,9 +1,9 @@
 //! The most guests that there can be, with 256,000 requests together.
+use crate::checks::equal;
 use crate::makes::{Ask, Numbers};
 use crate::plain::replayed;
 use merge_run::OpenGate;
 use std::alloc::{AllocError, Global};
-use std::test::Fail;
 
 const GUESTS: u32 = 64;
 
@@ -69,7 +69,7 @@ fn salts() -> [u32; 64] {
 
 // Each run ends, though there are many more threads than processors.
 #[test]
-fn most_guests(rt: HostRuntime) -> Result<(), Fail> {
+fn most_guests(rt: HostRuntime) {
     let journal = GUESTS * (REQUESTS + 1);
     let numbers = Numbers {
         frames: FRAMES,
@@ -78,11 +78,10 @@ fn most_guests(rt: HostRuntime) -> Result<(), Fail> {
         ring: RING,
         journal,
     };
-    let scripts = scripts(rt.alloc())?;
-    let asks = slices(rt.alloc(), &scripts)?;
+    let scripts = scripts(rt.alloc()).expect(&rt, "memory");
+    let asks = slices(rt.alloc(), &scripts).expect(&rt, "memory");
     for _ in 0..RUNS {
-        let ran = replayed(&rt, rt.alloc(), &numbers, &asks, &OpenGate)?;
-        assert_eq!(rt; ran.journal, journal as usize);
+        let ran = replayed(&rt, rt.alloc(), &numbers, &asks, &OpenGate);
+        equal(&rt, ran.journal, journal as usize);
     }
-    Ok(())
 }

@@ -1,9 +1,9 @@
 //! Two guests that wait for each other, so that the run ends only if each has its own thread.
+use crate::checks::{equal, holds};
 use crate::makes::{Ask, Numbers};
 use crate::plain::{fault_of, got, replayed};
 use merge_run::{Gate, JournalFull, RunFault};
 use std::sync::atomic::{AtomicBool, Ordering};
-use std::test::Fail;
 use std::thread;
 use worked_answers::Answer;
 
@@ -84,7 +84,7 @@ impl Gate for Meeting {
 
 // On one thread guest 0 would wait in vain for guest 1, or guest 1 for guest 0.
 #[test]
-fn guests_that_wait_for_each_other(rt: HostRuntime) -> Result<(), Fail> {
+fn guests_that_wait_for_each_other(rt: HostRuntime) {
     let numbers = Numbers {
         frames: 2,
         pages: &[1, 1],
@@ -93,21 +93,20 @@ fn guests_that_wait_for_each_other(rt: HostRuntime) -> Result<(), Fail> {
         journal: 6,
     };
     let gate = Meeting::new();
-    let ran = replayed(&rt, rt.alloc(), &numbers, &[&SCRIPT, &SCRIPT], &gate)?;
-    assert!(rt; !gate.has_failed());
-    assert!(rt; gate.is_over());
+    let ran = replayed(&rt, rt.alloc(), &numbers, &[&SCRIPT, &SCRIPT], &gate);
+    holds(&rt, !gate.has_failed());
+    holds(&rt, gate.is_over());
     let hinted = [Answer::Mapped, Answer::Hinted, Answer::Closed];
     let paired = [Answer::Mapped, Answer::Paired, Answer::Closed];
     let first_leads = got(&ran, 0, &hinted) && got(&ran, 1, &paired);
     let second_leads = got(&ran, 0, &paired) && got(&ran, 1, &hinted);
-    assert!(rt; first_leads || second_leads);
-    assert_eq!(rt; ran.report, [6, 2, 2, 1, 1, 0]);
-    Ok(())
+    holds(&rt, first_leads || second_leads);
+    equal(&rt, ran.report, [6, 2, 2, 1, 1, 0]);
 }
 
 // If the journal lacks room for one request, no guest begins.
 #[test]
-fn no_guest_begins_without_room(rt: HostRuntime) -> Result<(), Fail> {
+fn no_guest_begins_without_room(rt: HostRuntime) {
     let numbers = Numbers {
         frames: 2,
         pages: &[1, 1],
@@ -117,7 +116,6 @@ fn no_guest_begins_without_room(rt: HostRuntime) -> Result<(), Fail> {
     };
     let gate = Meeting::new();
     let fault = fault_of(&rt, rt.alloc(), &numbers, &[&SCRIPT, &SCRIPT], &gate);
-    assert_eq!(rt; fault, Some(RunFault::Stopped(JournalFull)));
-    assert!(rt; !gate.has_begun());
-    Ok(())
+    equal(&rt, fault, Some(RunFault::Stopped(JournalFull)));
+    holds(&rt, !gate.has_begun());
 }

@@ -13,7 +13,6 @@ use refusing::Refusing;
 use std::alloc::{Allocator, Global};
 use std::process::Abort;
 use std::sync::Wait;
-use std::test::Fail;
 use std::thread::Threads;
 use worked_answers::{Answer, numbers};
 
@@ -134,9 +133,9 @@ pub fn replayed<R: Threads + Wait + Sync + Abort, G: Gate + Sync>(
     numbers: &Numbers<'_>,
     asks: &[&[Ask]],
     gate: &G,
-) -> Result<Outcome, Fail> {
+) -> Outcome {
     let Setting { config, scripts } = setting_of(rt, alloc, numbers, asks);
-    let finished = run_plainly(rt, alloc, &config, Sha256Hash, scripts, gate)?;
-    check_replay(rt, alloc, &config, &finished)?;
-    Ok(compared(rt, alloc, &finished))
+    let finished = run_plainly(rt, alloc, &config, Sha256Hash, scripts, gate).expect(rt, "a run");
+    check_replay(rt, alloc, &config, &finished);
+    compared(rt, alloc, &finished)
 }

@@ -1,4 +1,5 @@
 //! Memory that is refused to a run.
+use crate::checks::{equal, equal_at, holds, holds_at};
 use crate::makes::{Ask, Numbers};
 use crate::plain::{Outcome, got, ran};
 use merge_run::{OpenGate, RunFault};
@@ -22,9 +23,12 @@ const SECOND: [Ask; 2] = [Ask::Store(0, 0x41), Ask::Propose(0)];
 
 fn check_whole(rt: &impl Abort, ran: &Outcome) {
     assert_eq!(rt; ran.answers.len(), 2);
-    assert!(rt; got(ran, 0, &[Answer::Mapped, Answer::Closed]));
-    assert!(rt; got(ran, 1, &[Answer::Mapped, Answer::Hinted, Answer::Closed]));
-    assert_eq!(rt; ran.report, [5, 2, 0, 2, 0, 1]);
+    holds(rt, got(ran, 0, &[Answer::Mapped, Answer::Closed]));
+    holds(
+        rt,
+        got(ran, 1, &[Answer::Mapped, Answer::Hinted, Answer::Closed]),
+    );
+    equal(rt, ran.report, [5, 2, 0, 2, 0, 1]);
 }
 
 /// Runs the scripts with memory from `heap`. Returns why there is no such run; if there is one, it is whole.
@@ -64,13 +68,13 @@ fn run_refused_in_turn(rt: HostRuntime) {
     for n in 0..MOST {
         let heap = Refusing::new(rt.alloc(), BEFORE + n, 0);
         let fault = fault_of_run(&rt, rt.alloc(), &heap);
-        assert!(rt; heap.holds_nothing(), "at {n}");
+        holds_at(&rt, n, heap.holds_nothing());
         if fault.is_none() {
-            assert!(rt; !heap.has_refused(), "at {n}");
+            holds_at(&rt, n, !heap.has_refused());
             return;
         }
-        assert!(rt; heap.has_refused(), "at {n}");
-        assert_eq!(rt; fault, Some(RunFault::OutOfMemory), "at {n}");
+        holds_at(&rt, n, heap.has_refused());
+        equal_at(&rt, n, fault, Some(RunFault::OutOfMemory));
     }
-    assert!(rt; false, "no growth is the last");
+    panic!(rt; "no growth is the last");
 }

@@ -1,11 +1,11 @@
 //! A run's journal, replayed on one thread.
+use crate::checks::{equal, holds};
 use merge_core::{Core, CoreFault};
 use merge_run::{Config, Finished};
 use page_digest::Sha256Hash;
 use page_model::{Entry, MAX_ENTRIES, Verdict};
 use std::alloc::{AllocError, Global};
 use std::process::Abort;
-use std::test::Fail;
 use worked_answers::numbers;
 
 /// Makes an empty list for each guest.
@@ -29,21 +29,15 @@ fn new_core(alloc: Global, config: &Config) -> Result<Core<Sha256Hash>, CoreFaul
 }
 
 fn apply(rt: &impl Abort, core: &mut Core<Sha256Hash>, entry: &Entry) -> Verdict {
-    assert!(rt; entry.guest < core.guests());
-    assert!(rt; core.entries() < MAX_ENTRIES);
+    holds(rt, entry.guest < core.guests());
+    holds(rt, core.entries() < MAX_ENTRIES);
     core.apply(entry.guest, &entry.request)
 }
 
 /// Appends a verdict to the guest's list.
-fn keep(
-    rt: &impl Abort,
-    lists: &mut Vec<Vec<Verdict>>,
-    guest: usize,
-    verdict: Verdict,
-) -> Result<(), AllocError> {
-    assert!(rt; guest < lists.len());
-    lists[guest].push(verdict)?;
-    Ok(())
+fn keep(rt: &impl Abort, lists: &mut Vec<Vec<Verdict>>, guest: usize, verdict: Verdict) {
+    holds(rt, guest < lists.len());
+    lists[guest].push(verdict).expect(rt, "memory");
 }
 
 /// Returns each guest's verdicts.
@@ -52,13 +46,13 @@ fn apply_all(
     alloc: Global,
     core: &mut Core<Sha256Hash>,
     journal: &[Entry],
-) -> Result<Vec<Vec<Verdict>>, AllocError> {
-    let mut lists = empty_lists(alloc, usize::from(core.guests()))?;
+) -> Vec<Vec<Verdict>> {
+    let mut lists = empty_lists(alloc, usize::from(core.guests())).expect(rt, "memory");
     for entry in journal {
         let verdict = apply(rt, core, entry);
-        keep(rt, &mut lists, usize::from(entry.guest), verdict)?;
+        keep(rt, &mut lists, usize::from(entry.guest), verdict);
     }
-    Ok(lists)
+    lists
 }
 
 /// Checks that a fresh core that applies the journal entry by entry gives each guest's verdicts and the report.
@@ -67,13 +61,13 @@ pub fn check_replay(
     alloc: Global,
     config: &Config,
     finished: &Finished<Sha256Hash>,
-) -> Result<(), Fail> {
-    let mut core = new_core(alloc, config)?;
-    let lists = apply_all(rt, alloc, &mut core, finished.settled.journal())?;
-    assert!(rt; lists == finished.verdicts);
-    assert_eq!(rt;
+) {
+    let mut core = new_core(alloc, config).expect(rt, "a core");
+    let lists = apply_all(rt, alloc, &mut core, finished.settled.journal());
+    holds(rt, lists == finished.verdicts);
+    equal(
+        rt,
         numbers(&core.report()),
-        numbers(&finished.settled.report())
+        numbers(&finished.settled.report()),
     );
-    Ok(())
 }

@@ -1,4 +1,5 @@
 //! Dialogues of clients with a host of one machine of five slots and three frames. What is expected was worked out by hand.
+use crate::checks::holds;
 use arrayvec::ArrayVec;
 use host_messages::{ClientMessage, Lent, MessageFault, Name, Question, Wanted};
 use host_sessions::{Host, HostConfig, Link, Received, Session, SessionFault};
@@ -165,109 +166,179 @@ const D: Name = [13; 16];
 #[test]
 fn clients_ask_lend_and_release(rt: HostRuntime) {
     let mut host = host_of(&rt, rt.alloc());
-    assert!(rt; host.connect(A) == Some(0));
-    assert!(rt; host.connect(B) == Some(1));
-    assert!(rt; say(&mut host, 0, &ClientMessage::Hello(None)) == Got::Welcome(10));
-    assert!(rt; say(&mut host, 1, &ClientMessage::Hello(None)) == Got::Welcome(11));
-    assert!(rt; say(&mut host, 0, &question_of(true)) == Got::Seen(false));
-    assert!(rt; say(&mut host, 1, &question_of(true)) == Got::Seen(false));
-    assert!(rt; say(&mut host, 0, &question()) == Got::Seen(false));
-    assert!(rt; say(&mut host, 0, &question()) == Got::Seen(false));
-    assert!(rt; say(&mut host, 1, &question_of(true)) == Got::Seen(true));
-    assert!(rt; say(&mut host, 0, &question()) == Got::Seen(false));
-    assert!(rt; say(&mut host, 1, &question()) == Got::Seen(true));
-    assert!(rt; say(&mut host, 0, &ClientMessage::Lend(2)) == Got::Lent(2, 1));
-    assert!(rt; say(&mut host, 1, &ClientMessage::Lend(1)) == Got::Lent(1, 3));
-    assert!(rt; host.report().frames == 1);
+    holds(&rt, host.connect(A) == Some(0));
+    holds(&rt, host.connect(B) == Some(1));
+    holds(
+        &rt,
+        say(&mut host, 0, &ClientMessage::Hello(None)) == Got::Welcome(10),
+    );
+    holds(
+        &rt,
+        say(&mut host, 1, &ClientMessage::Hello(None)) == Got::Welcome(11),
+    );
+    holds(
+        &rt,
+        say(&mut host, 0, &question_of(true)) == Got::Seen(false),
+    );
+    holds(
+        &rt,
+        say(&mut host, 1, &question_of(true)) == Got::Seen(false),
+    );
+    holds(&rt, say(&mut host, 0, &question()) == Got::Seen(false));
+    holds(&rt, say(&mut host, 0, &question()) == Got::Seen(false));
+    holds(
+        &rt,
+        say(&mut host, 1, &question_of(true)) == Got::Seen(true),
+    );
+    holds(&rt, say(&mut host, 0, &question()) == Got::Seen(false));
+    holds(&rt, say(&mut host, 1, &question()) == Got::Seen(true));
+    holds(
+        &rt,
+        say(&mut host, 0, &ClientMessage::Lend(2)) == Got::Lent(2, 1),
+    );
+    holds(
+        &rt,
+        say(&mut host, 1, &ClientMessage::Lend(1)) == Got::Lent(1, 3),
+    );
+    holds(&rt, host.report().frames == 1);
     // Slots are given from the last one on: 4 and 3 are the first session's, and 2 is the other's.
-    assert!(rt; say(&mut host, 1, &release(4)) == Got::Freed(0, 1));
-    assert!(rt; slots_of(&host, 0) == 2);
-    assert!(rt; slots_of(&host, 1) == 1);
-    assert!(rt; host.report().slots == 3);
-    assert!(rt; say(&mut host, 0, &release(4)) == Got::Freed(0, 1));
-    assert!(rt; say(&mut host, 0, &release(3)) == Got::Freed(0, 1));
-    assert!(rt; slots_of(&host, 0) == 0);
-    assert!(rt; say(&mut host, 1, &release(2)) == Got::Freed(1, 1));
-    assert!(rt; host.report().frames == 0);
+    holds(&rt, say(&mut host, 1, &release(4)) == Got::Freed(0, 1));
+    holds(&rt, slots_of(&host, 0) == 2);
+    holds(&rt, slots_of(&host, 1) == 1);
+    holds(&rt, host.report().slots == 3);
+    holds(&rt, say(&mut host, 0, &release(4)) == Got::Freed(0, 1));
+    holds(&rt, say(&mut host, 0, &release(3)) == Got::Freed(0, 1));
+    holds(&rt, slots_of(&host, 0) == 0);
+    holds(&rt, say(&mut host, 1, &release(2)) == Got::Freed(1, 1));
+    holds(&rt, host.report().frames == 0);
     // A session has three slots at most.
-    assert!(rt; say(&mut host, 0, &ClientMessage::Lend(4)) == Got::Lent(3, 1));
-    assert!(rt; slots_of(&host, 0) == 3);
+    holds(
+        &rt,
+        say(&mut host, 0, &ClientMessage::Lend(4)) == Got::Lent(3, 1),
+    );
+    holds(&rt, slots_of(&host, 0) == 3);
 }
 
 #[test]
 fn faults_end_a_session_and_its_slots_stay(rt: HostRuntime) {
     let mut host = host_of(&rt, rt.alloc());
-    assert!(rt; host.connect(A) == Some(0));
-    assert!(rt; say(&mut host, 0, &question()) == Got::Fault(SessionFault::Early));
-    assert!(rt; say(&mut host, 0, &ClientMessage::Hello(None)) == Got::Nothing);
-    assert!(rt; host.disconnect(0));
-    assert!(rt; !host.disconnect(0));
-    assert!(rt; host.connect(B) == Some(0));
-    assert!(rt; say(&mut host, 0, &ClientMessage::Hello(None)) == Got::Welcome(11));
-    assert!(rt; say(&mut host, 0, &ClientMessage::Lend(1)) == Got::Lent(1, 1));
-    let short = SessionFault::Message(MessageFault::Length);
-    assert!(rt;
-        send(&mut host, 0, &[4, 0, 0, 0, 1, 0, 0, 0, 4, 0, 0, 0, 0, 0, 0]) == Got::Fault(short)
+    holds(&rt, host.connect(A) == Some(0));
+    holds(
+        &rt,
+        say(&mut host, 0, &question()) == Got::Fault(SessionFault::Early),
     );
-    assert!(rt; say(&mut host, 0, &release(4)) == Got::Nothing);
-    assert!(rt; link_of(&host, 0) == Some(Link::Broken(short)));
-    assert!(rt; host.disconnect(0));
+    holds(
+        &rt,
+        say(&mut host, 0, &ClientMessage::Hello(None)) == Got::Nothing,
+    );
+    holds(&rt, host.disconnect(0));
+    holds(&rt, !host.disconnect(0));
+    holds(&rt, host.connect(B) == Some(0));
+    holds(
+        &rt,
+        say(&mut host, 0, &ClientMessage::Hello(None)) == Got::Welcome(11),
+    );
+    holds(
+        &rt,
+        say(&mut host, 0, &ClientMessage::Lend(1)) == Got::Lent(1, 1),
+    );
+    let short = SessionFault::Message(MessageFault::Length);
+    holds(
+        &rt,
+        send(&mut host, 0, &[4, 0, 0, 0, 1, 0, 0, 0, 4, 0, 0, 0, 0, 0, 0]) == Got::Fault(short),
+    );
+    holds(&rt, say(&mut host, 0, &release(4)) == Got::Nothing);
+    holds(&rt, link_of(&host, 0) == Some(Link::Broken(short)));
+    holds(&rt, host.disconnect(0));
     // A session that sent a packet at fault isn't taken up.
-    assert!(rt; host.connect(C) == Some(1));
-    assert!(rt; say(&mut host, 1, &hello(B, 1)) == Got::Welcome(12));
-    assert!(rt; say(&mut host, 1, &ClientMessage::Hello(None)) == Got::Fault(SessionFault::Again));
-    assert!(rt; host.report().slots == 1);
-    assert!(rt; end(&mut host, 0) == 1);
-    assert!(rt; host.report().slots == 0);
-    assert!(rt; host.session(0) == Session::Free);
+    holds(&rt, host.connect(C) == Some(1));
+    holds(&rt, say(&mut host, 1, &hello(B, 1)) == Got::Welcome(12));
+    holds(
+        &rt,
+        say(&mut host, 1, &ClientMessage::Hello(None)) == Got::Fault(SessionFault::Again),
+    );
+    holds(&rt, host.report().slots == 1);
+    holds(&rt, end(&mut host, 0) == 1);
+    holds(&rt, host.report().slots == 0);
+    holds(&rt, host.session(0) == Session::Free);
 }
 
 #[test]
 fn a_session_is_taken_up_by_its_name(rt: HostRuntime) {
     let mut host = host_of(&rt, rt.alloc());
-    assert!(rt; host.connect(A) == Some(0));
-    assert!(rt; say(&mut host, 0, &ClientMessage::Hello(None)) == Got::Welcome(10));
-    assert!(rt; say(&mut host, 0, &ClientMessage::Lend(2)) == Got::Lent(2, 1));
+    holds(&rt, host.connect(A) == Some(0));
+    holds(
+        &rt,
+        say(&mut host, 0, &ClientMessage::Hello(None)) == Got::Welcome(10),
+    );
+    holds(
+        &rt,
+        say(&mut host, 0, &ClientMessage::Lend(2)) == Got::Lent(2, 1),
+    );
     // It is connected still.
-    assert!(rt; host.connect(B) == Some(1));
-    assert!(rt; say(&mut host, 1, &hello(A, 1)) == Got::Welcome(11));
-    assert!(rt; host.disconnect(0));
-    assert!(rt; link_of(&host, 0) == Some(Link::Gone));
-    assert!(rt; host.report().slots == 2);
-    assert!(rt; say(&mut host, 0, &release(4)) == Got::Nothing);
-    assert!(rt; host.connect(C) == Some(2));
-    assert!(rt; host.connect(D) == None);
-    assert!(rt; say(&mut host, 2, &hello(A, 1)) == Got::Resumed(10, 0, 0));
-    assert!(rt; host.session(0) == Session::Free);
-    assert!(rt; slots_of(&host, 2) == 2);
-    assert!(rt; slots_of(&host, 1) == 0);
-    assert!(rt; say(&mut host, 1, &release(4)) == Got::Freed(0, 1));
-    assert!(rt; say(&mut host, 2, &release(4)) == Got::Freed(0, 1));
-    assert!(rt; end(&mut host, 2) == 1);
-    assert!(rt; host.report().slots == 0);
-    assert!(rt; host.report().clients == 1);
+    holds(&rt, host.connect(B) == Some(1));
+    holds(&rt, say(&mut host, 1, &hello(A, 1)) == Got::Welcome(11));
+    holds(&rt, host.disconnect(0));
+    holds(&rt, link_of(&host, 0) == Some(Link::Gone));
+    holds(&rt, host.report().slots == 2);
+    holds(&rt, say(&mut host, 0, &release(4)) == Got::Nothing);
+    holds(&rt, host.connect(C) == Some(2));
+    holds(&rt, host.connect(D) == None);
+    holds(
+        &rt,
+        say(&mut host, 2, &hello(A, 1)) == Got::Resumed(10, 0, 0),
+    );
+    holds(&rt, host.session(0) == Session::Free);
+    holds(&rt, slots_of(&host, 2) == 2);
+    holds(&rt, slots_of(&host, 1) == 0);
+    holds(&rt, say(&mut host, 1, &release(4)) == Got::Freed(0, 1));
+    holds(&rt, say(&mut host, 2, &release(4)) == Got::Freed(0, 1));
+    holds(&rt, end(&mut host, 2) == 1);
+    holds(&rt, host.report().slots == 0);
+    holds(&rt, host.report().clients == 1);
 }
 
 #[test]
 fn slots_of_a_lost_reply_are_released(rt: HostRuntime) {
     let mut host = host_of(&rt, rt.alloc());
-    assert!(rt; host.connect(A) == Some(0));
-    assert!(rt; say(&mut host, 0, &ClientMessage::Hello(None)) == Got::Welcome(10));
-    assert!(rt; say(&mut host, 0, &ClientMessage::Lend(1)) == Got::Lent(1, 1));
-    assert!(rt; say(&mut host, 0, &ClientMessage::Lend(4)) == Got::Lent(2, 2));
-    assert!(rt; host.disconnect(0));
+    holds(&rt, host.connect(A) == Some(0));
+    holds(
+        &rt,
+        say(&mut host, 0, &ClientMessage::Hello(None)) == Got::Welcome(10),
+    );
+    holds(
+        &rt,
+        say(&mut host, 0, &ClientMessage::Lend(1)) == Got::Lent(1, 1),
+    );
+    holds(
+        &rt,
+        say(&mut host, 0, &ClientMessage::Lend(4)) == Got::Lent(2, 2),
+    );
+    holds(&rt, host.disconnect(0));
     // The first reply came, and the second one got lost, with two slots.
-    assert!(rt; host.connect(B) == Some(1));
-    assert!(rt; say(&mut host, 1, &hello(A, 1)) == Got::Resumed(10, 0, 2));
-    assert!(rt; slots_of(&host, 1) == 1);
-    assert!(rt; host.report().slots == 1);
-    assert!(rt; host.disconnect(1));
+    holds(&rt, host.connect(B) == Some(1));
+    holds(
+        &rt,
+        say(&mut host, 1, &hello(A, 1)) == Got::Resumed(10, 0, 2),
+    );
+    holds(&rt, slots_of(&host, 1) == 1);
+    holds(&rt, host.report().slots == 1);
+    holds(&rt, host.disconnect(1));
     // Both sides count from one now, and the message that got lost before the host heard it changes nothing.
-    assert!(rt; host.connect(C) == Some(0));
-    assert!(rt; say(&mut host, 0, &hello(A, 1)) == Got::Resumed(10, 1, 0));
-    assert!(rt; say(&mut host, 0, &ClientMessage::Lend(1)) == Got::Lent(1, 2));
-    assert!(rt; host.disconnect(0));
-    assert!(rt; host.connect(D) == Some(1));
-    assert!(rt; say(&mut host, 1, &hello(A, 2)) == Got::Resumed(10, 0, 0));
-    assert!(rt; slots_of(&host, 1) == 2);
+    holds(&rt, host.connect(C) == Some(0));
+    holds(
+        &rt,
+        say(&mut host, 0, &hello(A, 1)) == Got::Resumed(10, 1, 0),
+    );
+    holds(
+        &rt,
+        say(&mut host, 0, &ClientMessage::Lend(1)) == Got::Lent(1, 2),
+    );
+    holds(&rt, host.disconnect(0));
+    holds(&rt, host.connect(D) == Some(1));
+    holds(
+        &rt,
+        say(&mut host, 1, &hello(A, 2)) == Got::Resumed(10, 0, 0),
+    );
+    holds(&rt, slots_of(&host, 1) == 2);
 }

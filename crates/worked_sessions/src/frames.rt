@@ -3,6 +3,7 @@ ghost use Rattle.std.specs.Prelude.{◌≡◌, ◌∷◌, [], None, Some, replic
 ghost use Rattle.machine_frames.specs.FrameMap.{no_frames};
 ghost use Rattle.page_model.specs.Pages.{blank};
 
+use crate::checks::holds;
 use host_messages::{ClientMessage, Lent};
 use host_sessions::{Host, HostConfig, Received};
 use machine_frames::Frames;
@@ -23,8 +24,8 @@ fn take_two(rt: &impl Abort, frames: &mut Frames)
     requires { frames.old ≡ no_frames 3 }
     ensures { frames.new ≡ Some blank ∷ Some blank ∷ None ∷ [] }
 {
-    assert!(rt; frames.take_zeroed() == Some(0));
-    assert!(rt; frames.take_zeroed() == Some(1));
+    holds(rt, frames.take_zeroed() == Some(0));
+    holds(rt, frames.take_zeroed() == Some(1));
 }
 
 /// Returns three free frames, of which frame 1 is taken first.
@@ -95,13 +96,13 @@ fn lend_16(host: &mut Host<FoldHash>) -> [Option<u32>; 2] {
 #[test]
 fn each_machine_has_its_own_frames(rt: HostRuntime) {
     let mut host = host_of_two(&rt, rt.alloc());
-    assert!(rt; host.connect([10; 16]) == Some(0));
+    holds(&rt, host.connect([10; 16]) == Some(0));
     let hello = ClientMessage::Hello(None).to_bytes();
     match host.receive(0, hello.as_slice(), &[]) {
-        Received::Welcome(welcome) => assert!(rt; welcome.frames == 6),
+        Received::Welcome(welcome) => holds(&rt, welcome.frames == 6),
         _ => panic!(rt; "no welcome"),
     }
     let first = lend_16(&mut host);
-    assert!(rt; first[0] == Some(0));
-    assert!(rt; first[1] == Some(4));
+    holds(&rt, first[0] == Some(0));
+    holds(&rt, first[1] == Some(4));
 }

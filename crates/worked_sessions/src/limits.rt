@@ -2,6 +2,7 @@
 ghost use Rattle.std.specs.Prelude.{◌≡◌, replicate};
 ghost use Rattle.machine_frames.specs.FrameMap.{no_frames};
 
+use crate::checks::holds;
 use host_messages::{ClientMessage, Name};
 use host_sessions::{Host, HostConfig, Received};
 use machine_frames::Frames;
@@ -63,8 +64,11 @@ fn many_sessions_begin(rt: HostRuntime) {
     let mut host = large_host(&rt, rt.alloc());
     let hello = ClientMessage::Hello(None).to_bytes();
     for number in 0..300 {
-        assert!(rt; host.connect(name_of(number)) == Some(number));
-        assert!(rt; frames_welcomed(host.receive(number, hello.as_slice(), &[])) == 128);
+        holds(&rt, host.connect(name_of(number)) == Some(number));
+        holds(
+            &rt,
+            frames_welcomed(host.receive(number, hello.as_slice(), &[])) == 128,
+        );
     }
-    assert!(rt; host.report().clients == 300);
+    holds(&rt, host.report().clients == 300);
 }

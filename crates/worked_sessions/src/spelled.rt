@@ -1,4 +1,5 @@
 //! The bytes of each message, as a Python script spells them by the table of `docs/FORMATS.md`.
+use crate::checks::holds;
 use arrayvec::ArrayVec;
 use host_messages::{ClientMessage, HostMessage, Lent, MessageFault, Question, Wanted, Welcome};
 use std::process::Abort;
@@ -67,15 +68,18 @@ fn messages_of_clients(rt: HostRuntime) {
     let mut slots = ArrayVec::new();
     slots.push((1 << 32) + 5);
     slots.push(258);
-    assert!(rt; is_client(&ClientMessage::Hello(None), &HELLO));
+    holds(&rt, is_client(&ClientMessage::Hello(None), &HELLO));
     let wanted = Wanted {
         name: NAME,
         loans: (1 << 32) + 9,
     };
-    assert!(rt; is_client(&ClientMessage::Hello(Some(wanted)), &HELLO_NAMED));
-    assert!(rt; is_client(&ClientMessage::Ask(questions), &ASK));
-    assert!(rt; is_client(&ClientMessage::Lend(128), &LEND));
-    assert!(rt; is_client(&ClientMessage::Release(slots), &RELEASE));
+    holds(
+        &rt,
+        is_client(&ClientMessage::Hello(Some(wanted)), &HELLO_NAMED),
+    );
+    holds(&rt, is_client(&ClientMessage::Ask(questions), &ASK));
+    holds(&rt, is_client(&ClientMessage::Lend(128), &LEND));
+    holds(&rt, is_client(&ClientMessage::Release(slots), &RELEASE));
 }
 
 #[test]
@@ -102,26 +106,53 @@ fn messages_of_a_host(rt: HostRuntime) {
         frame: u32::MAX,
         sharers: 0,
     });
-    assert!(rt; is_host(&HostMessage::Welcome(welcome), &WELCOME));
-    assert!(rt; is_host(&HostMessage::Seen(seen), &SEEN));
-    assert!(rt; is_host(&HostMessage::Loans(loans), &LOANS));
+    holds(&rt, is_host(&HostMessage::Welcome(welcome), &WELCOME));
+    holds(&rt, is_host(&HostMessage::Seen(seen), &SEEN));
+    holds(&rt, is_host(&HostMessage::Loans(loans), &LOANS));
 }
 
 #[test]
 fn faults(rt: HostRuntime) {
-    assert!(rt; fault_of(&HELLO[..7]) == Some(MessageFault::Head));
-    assert!(rt; fault_of(&[]) == Some(MessageFault::Head));
-    assert!(rt; fault_of(&WELCOME) == Some(MessageFault::Kind));
-    assert!(rt; fault_of(&[1, 0, 0, 0, 1, 0, 0, 0]) == Some(MessageFault::Version));
-    assert!(rt; fault_of(&[1, 0, 0, 0, 3, 0, 0, 0, 0]) == Some(MessageFault::Version));
-    assert!(rt; fault_of(&[1, 0, 0, 1, 2, 0, 0, 0]) == Some(MessageFault::Kind));
-    assert!(rt; fault_of(&[3, 0, 0, 0, 129, 0, 0, 0]) == Some(MessageFault::Count));
-    assert!(rt; fault_of(&[3, 0, 0, 0, 255, 255, 255, 255]) == Some(MessageFault::Count));
-    assert!(rt; fault_of(&HELLO_NAMED[..24]) == Some(MessageFault::Length));
-    assert!(rt; fault_of(&ASK[..39]) == Some(MessageFault::Length));
-    assert!(rt; fault_of(&[3, 0, 0, 0, 1, 0, 0, 0, 0]) == Some(MessageFault::Length));
+    holds(&rt, fault_of(&HELLO[..7]) == Some(MessageFault::Head));
+    holds(&rt, fault_of(&[]) == Some(MessageFault::Head));
+    holds(&rt, fault_of(&WELCOME) == Some(MessageFault::Kind));
+    holds(
+        &rt,
+        fault_of(&[1, 0, 0, 0, 1, 0, 0, 0]) == Some(MessageFault::Version),
+    );
+    holds(
+        &rt,
+        fault_of(&[1, 0, 0, 0, 3, 0, 0, 0, 0]) == Some(MessageFault::Version),
+    );
+    holds(
+        &rt,
+        fault_of(&[1, 0, 0, 1, 2, 0, 0, 0]) == Some(MessageFault::Kind),
+    );
+    holds(
+        &rt,
+        fault_of(&[3, 0, 0, 0, 129, 0, 0, 0]) == Some(MessageFault::Count),
+    );
+    holds(
+        &rt,
+        fault_of(&[3, 0, 0, 0, 255, 255, 255, 255]) == Some(MessageFault::Count),
+    );
+    holds(
+        &rt,
+        fault_of(&HELLO_NAMED[..24]) == Some(MessageFault::Length),
+    );
+    holds(&rt, fault_of(&ASK[..39]) == Some(MessageFault::Length));
+    holds(
+        &rt,
+        fault_of(&[3, 0, 0, 0, 1, 0, 0, 0, 0]) == Some(MessageFault::Length),
+    );
     let mut answers = SEEN;
     answers[9] = 2;
-    assert!(rt; HostMessage::from_bytes(&answers).err() == Some(MessageFault::Answer));
-    assert!(rt; HostMessage::from_bytes(&HELLO).err() == Some(MessageFault::Kind));
+    holds(
+        &rt,
+        HostMessage::from_bytes(&answers).err() == Some(MessageFault::Answer),
+    );
+    holds(
+        &rt,
+        HostMessage::from_bytes(&HELLO).err() == Some(MessageFault::Kind),
+    );
 }

@@ -1,4 +1,5 @@
 //! Pages that clients lend and release.
+use crate::checks::holds;
 use lent_slots::{LentSlots, SlotFault};
 use machine_frames::Frames;
 use merge_core::SaltedHash;
@@ -35,8 +36,10 @@ const SALT: u32 = 7;
 
 /// Makes slots over so many frames.
 fn slots_of(rt: &impl Abort, alloc: Global, count: u32, frames: u32) -> LentSlots<FoldHash> {
-    assert!(rt; count >= 1 && count <= 1_048_576);
-    assert!(rt; frames >= 2 && frames <= 1_048_576);
+    holds(rt, count >= 1);
+    holds(rt, count <= 1_048_576);
+    holds(rt, frames >= 2);
+    holds(rt, frames <= 1_048_576);
     let frames = Frames::new(alloc, frames).expect(rt, "there is memory");
     LentSlots::new(alloc, count, 2, SALT, FoldHash, frames).expect(rt, "there is memory")
 }
@@ -69,9 +72,9 @@ fn counts_of(slots: &LentSlots<FoldHash>) -> [u32; 3] {
 fn expect_lines(rt: &impl Abort, mut slots: LentSlots<FoldHash>, lines: &[Line]) {
     for (ask, seen, counts) in lines {
         let is = serve(&mut slots, *ask);
-        assert!(rt; is == *seen);
+        holds(rt, is == *seen);
         let counted = counts_of(&slots);
-        assert!(rt; counted == *counts);
+        holds(rt, counted == *counts);
     }
 }
 
@@ -128,13 +131,13 @@ fn no_page_is_hashed_again(rt: HostRuntime) {
             salt: SALT,
             hash: u64::from(byte),
         };
-        assert!(rt; slots.lend(0, &[byte; 4096], known).is_ok());
+        holds(&rt, slots.lend(0, &[byte; 4096], known).is_ok());
     }
-    assert!(rt; slots.release(4).is_none());
-    assert!(rt; calls.load(Ordering::SeqCst) == 0);
+    holds(&rt, slots.release(4).is_none());
+    holds(&rt, calls.load(Ordering::SeqCst) == 0);
     let other = SaltedHash { salt: 8, hash: 7 };
-    assert!(rt; slots.lend(0, &[7; 4096], other).is_err());
-    assert!(rt; calls.load(Ordering::SeqCst) == 1);
+    holds(&rt, slots.lend(0, &[7; 4096], other).is_err());
+    holds(&rt, calls.load(Ordering::SeqCst) == 1);
 }
 
 /// Clients 0 and 1 are counted, and client 7 is not. The last slot is lent first.
@@ -142,16 +145,16 @@ fn no_page_is_hashed_again(rt: HostRuntime) {
 fn slots_are_found_by_their_client(rt: HostRuntime) {
     let mut slots = slots_of(&rt, rt.alloc(), 5, 3);
     for client in [0, 1, 7, 1] {
-        assert!(rt; lend(&mut slots, client, 5) != Seen::NoSlot);
+        holds(&rt, lend(&mut slots, client, 5) != Seen::NoSlot);
     }
-    assert!(rt; slots.held_by(1) == 2);
-    assert!(rt; slots.held_by(7) == 1);
-    assert!(rt; slots.first_of(1) == Some(1));
-    assert!(rt; slots.first_of(7) == Some(2));
-    assert!(rt; slots.release(1).is_none());
-    assert!(rt; slots.first_of(1) == Some(3));
-    assert!(rt; slots.release(3).is_none());
-    assert!(rt; slots.first_of(1).is_none());
-    assert!(rt; slots.held_by(1) == 0);
-    assert!(rt; slots.first_of(0) == Some(4));
+    holds(&rt, slots.held_by(1) == 2);
+    holds(&rt, slots.held_by(7) == 1);
+    holds(&rt, slots.first_of(1) == Some(1));
+    holds(&rt, slots.first_of(7) == Some(2));
+    holds(&rt, slots.release(1).is_none());
+    holds(&rt, slots.first_of(1) == Some(3));
+    holds(&rt, slots.release(3).is_none());
+    holds(&rt, slots.first_of(1).is_none());
+    holds(&rt, slots.held_by(1) == 0);
+    holds(&rt, slots.first_of(0) == Some(4));
 }

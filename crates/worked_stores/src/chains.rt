@@ -1,11 +1,10 @@
 //! Two shared frames and a hint of one truncated hash, in one of two buckets.
-ghost use Rattle.std.specs.Prelude.{◌≡◌, IfOk};
+ghost use Rattle.std.specs.Prelude.{◌≡◌};
 
-use crate::equal::equal;
+use crate::checks::{equal, holds};
 use packed_entries::{Chains, Entry, Key, U24};
-use std::alloc::{AllocError, Allocator, Global};
+use std::alloc::{Allocator, Global};
 use std::process::Abort;
-use std::test::Fail;
 
 const CAPACITY: u32 = 3;
 
@@ -31,29 +30,29 @@ fn hint(key: u32, guest: u8, ppn: u32, mpn: u32) -> Option<Entry> {
     })
 }
 
-fn new_chains(alloc: Global) -> Result<Chains<Global>, AllocError>
-    ensures { IfOk result (λ chains. chains.capacity ≡ CAPACITY) }
+fn new_chains(rt: &impl Abort, alloc: Global) -> Chains<Global>
+    ensures { result.capacity ≡ CAPACITY }
 {
-    Chains::new(alloc, 2, CAPACITY)
+    Chains::new(alloc, 2, CAPACITY).expect(rt, "memory")
 }
 
 fn add<A: Allocator>(rt: &impl Abort, chains: &mut Chains<A>, entry: Option<Entry>)
     requires { chains.old.capacity ≡ CAPACITY }
     ensures { chains.new.capacity ≡ CAPACITY }
 {
-    assert!(rt; chains.len() < CAPACITY);
+    holds(rt, chains.len() < CAPACITY);
     match entry {
         Some(entry) => chains.add(entry),
-        None => assert!(rt; false),
+        None => holds(rt, false),
     }
 }
 
-fn three_entries(rt: &impl Abort, alloc: Global) -> Result<Chains<Global>, AllocError> {
-    let mut chains = new_chains(alloc)?;
+fn three_entries(rt: &impl Abort, alloc: Global) -> Chains<Global> {
+    let mut chains = new_chains(rt, alloc);
     add(rt, &mut chains, shared(FIRST, 5, 65_534));
     add(rt, &mut chains, hint(HINT, 3, 9, 16_777_215));
     add(rt, &mut chains, shared(SECOND, 6, 1));
-    Ok(chains)
+    chains
 }
 
 /// A change of an entry that is in the chains.
@@ -69,15 +68,15 @@ enum Step {
 }
 
 fn replace<A: Allocator>(rt: &impl Abort, chains: &mut Chains<A>, hash: u64, mpn: u32, count: u16) {
-    assert!(rt; chains.find_shared(hash).is_some());
+    holds(rt, chains.find_shared(hash).is_some());
     match U24::new(mpn) {
         Some(mpn) => chains.replace(Entry::Shared { hash, mpn, count }),
-        None => assert!(rt; false),
+        None => holds(rt, false),
     }
 }
 
 fn remove_hint<A: Allocator>(rt: &impl Abort, chains: &mut Chains<A>) {
-    assert!(rt; chains.find_hint(HINT).is_some());
+    holds(rt, chains.find_hint(HINT).is_some());
     chains.remove(Key::Hint(HINT));
 }
 
@@ -85,11 +84,11 @@ fn remove_hint<A: Allocator>(rt: &impl Abort, chains: &mut Chains<A>) {
 fn take_step<A: Allocator>(rt: &impl Abort, chains: &mut Chains<A>, step: Step) -> u16 {
     match step {
         Step::CountUp(hash) => {
-            assert!(rt; chains.find_shared(hash).is_some());
+            holds(rt, chains.find_shared(hash).is_some());
             return chains.count_up(hash);
         }
         Step::CountDown(hash) => {
-            assert!(rt; chains.find_shared(hash).is_some());
+            holds(rt, chains.find_shared(hash).is_some());
             return chains.count_down(hash);
         }
         Step::ReplaceSecond(mpn, count) => replace(rt, chains, SECOND, mpn, count),
@@ -105,21 +104,21 @@ type Found = (
     Option<(u8, u32, u32)>,
 );
 
-/// Returns the number of entries, and what is found of the first frame, the second, and the hint.
-fn found<A: Allocator>(chains: &Chains<A>) -> Found {
-    (
+/// Compares the number of entries, and what is found of the first frame, the second, and the hint.
+fn finds<A: Allocator>(rt: &impl Abort, chains: &Chains<A>, due: Found) {
+    let found = (
         chains.len(),
         chains.find_shared(FIRST),
         chains.find_shared(SECOND),
         chains.find_hint(HINT),
-    )
+    );
+    equal(rt, found, due);
 }
 
 #[test]
-fn new_chains_are_empty(rt: HostRuntime) -> Result<(), Fail> {
-    let chains = new_chains(rt.alloc())?;
+fn new_chains_are_empty(rt: HostRuntime) {
+    let chains = new_chains(&rt, rt.alloc());
     equal(&rt, (chains.len(), chains.bytes()), (0, 56));
-    Ok(())
 }
 
 const HINTED: Option<(u8, u32, u32)> = Some((3, 9, 16_777_215));
@@ -151,15 +150,13 @@ const STEPS: [(Step, u16, Found); 6] = [
 fn take_steps(rt: &impl Abort, chains: &mut Chains<Global>) {
     for (step, before, after) in STEPS {
         equal(rt, take_step(rt, chains, step), before);
-        equal(rt, found(chains), after);
+        finds(rt, chains, after);
     }
 }
 
 #[test]
-fn one_bucket(rt: HostRuntime) -> Result<(), Fail> {
-    let mut chains = three_entries(&rt, rt.alloc())?;
-    let whole = (3, Some((5, 65_534)), Some((6, 1)), HINTED);
-    equal(&rt, found(&chains), whole);
+fn one_bucket(rt: HostRuntime) {
+    let mut chains = three_entries(&rt, rt.alloc());
+    finds(&rt, &chains, (3, Some((5, 65_534)), Some((6, 1)), HINTED));
     take_steps(&rt, &mut chains);
-    Ok(())
 }

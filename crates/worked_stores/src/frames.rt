@@ -1,13 +1,12 @@
 //! Frames at their limits, frames taken, copied and given back, and frames with memory refused.
 ghost use Rattle.machine_frames.specs.FrameMap.{IsTaken};
 
-use crate::equal::equal;
+use crate::checks::{equal, holds, holds_at};
 use machine_frames::{Frames, FramesFault};
 use page_model::{MAX_FRAMES, PAGE_BYTES, Page};
 use refusing::Refusing;
 use std::alloc::Allocator;
 use std::process::Abort;
-use std::test::Fail;
 
 /// Makes frames, of which no more is known.
 pub(crate) fn new_frames<A: Allocator + Clone>(
@@ -23,9 +22,9 @@ fn are_refused<A: Allocator>(made: Result<Frames<A>, FramesFault>) -> bool {
 
 #[test]
 fn limits(rt: HostRuntime) {
-    assert!(rt; are_refused(new_frames(rt.alloc(), 0)));
-    assert!(rt; are_refused(new_frames(rt.alloc(), MAX_FRAMES + 1)));
-    assert!(rt; new_frames(rt.alloc(), 1).is_ok());
+    holds(&rt, are_refused(new_frames(rt.alloc(), 0)));
+    holds(&rt, are_refused(new_frames(rt.alloc(), MAX_FRAMES + 1)));
+    holds(&rt, new_frames(rt.alloc(), 1).is_ok());
 }
 
 /// Takes a frame, and writes its last byte.
@@ -37,11 +36,10 @@ fn write_end<A: Allocator>(rt: &impl Abort, frames: &mut Frames<A>) {
 
 // The most frames that there can be: their room is reserved, and the memory of only one is touched.
 #[test]
-fn most_frames(rt: HostRuntime) -> Result<(), Fail> {
-    let mut frames = new_frames(rt.alloc(), MAX_FRAMES)?;
+fn most_frames(rt: HostRuntime) {
+    let mut frames = new_frames(rt.alloc(), MAX_FRAMES).expect(&rt, "memory");
     equal(&rt, (frames.total(), frames.used()), (MAX_FRAMES, 0));
     write_end(&rt, &mut frames);
-    Ok(())
 }
 
 /// Takes a frame whose first byte is then 0x41, and a copy of it.
@@ -63,26 +61,25 @@ fn is_blank(page: &Page) -> bool {
 fn take_again<A: Allocator>(rt: &impl Abort, frames: &mut Frames<A>, mpn: u32)
     requires { IsTaken frames.old mpn }
 {
-    assert!(rt; frames.take_zeroed().is_none());
+    holds(rt, frames.take_zeroed().is_none());
     frames.give_back(mpn);
     let again = frames.take_zeroed().expect(rt, "full");
-    assert!(rt; is_blank(frames.bytes(again)));
+    holds(rt, is_blank(frames.bytes(again)));
     equal(rt, (frames.used(), frames.total()), (2, 2));
 }
 
 /// Takes, writes, copies and gives back, on two frames.
 fn use_two<A: Allocator>(rt: &impl Abort, frames: &mut Frames<A>) {
     let (letter, copy) = take_two(rt, frames);
-    assert!(rt; frames.bytes(letter) == frames.bytes(copy));
+    holds(rt, frames.bytes(letter) == frames.bytes(copy));
     equal(rt, frames.bytes(copy)[0], 0x41);
     take_again(rt, frames, letter);
 }
 
 #[test]
-fn frames(rt: HostRuntime) -> Result<(), Fail> {
-    let mut frames = new_frames(rt.alloc(), 2)?;
+fn frames(rt: HostRuntime) {
+    let mut frames = new_frames(rt.alloc(), 2).expect(&rt, "memory");
     use_two(&rt, &mut frames);
-    Ok(())
 }
 
 /// Takes another frame, fills its end and gives it back.
@@ -102,7 +99,7 @@ fn copy_over<A: Allocator>(rt: &impl Abort, frames: &mut Frames<A>, mpn: u32)
     equal(rt, frames.used(), 1);
     let copy = frames.take_copy(mpn).expect(rt, "full");
     equal(rt, (frames.bytes(copy)[4095], frames.used()), (0, 2));
-    assert!(rt; frames.take_copy(copy).is_none());
+    holds(rt, frames.take_copy(copy).is_none());
 }
 
 /// Takes a frame, and copies it into one that was used and given back.
@@ -114,10 +111,9 @@ fn copy_into_used<A: Allocator>(rt: &impl Abort, frames: &mut Frames<A>) {
 
 // A frame that was given back with other bytes is taken again as a copy.
 #[test]
-fn copied_again(rt: HostRuntime) -> Result<(), Fail> {
-    let mut frames = new_frames(rt.alloc(), 2)?;
+fn copied_again(rt: HostRuntime) {
+    let mut frames = new_frames(rt.alloc(), 2).expect(&rt, "memory");
     copy_into_used(&rt, &mut frames);
-    Ok(())
 }
 
 const MOST_REQUESTS: u64 = 100;
@@ -142,8 +138,8 @@ fn refused_growth(rt: HostRuntime) {
     for n in 0..MOST_REQUESTS {
         let heap = Refusing::new(rt.alloc(), n, 0);
         let is_made = uses_two(&rt, &heap);
-        assert!(rt; heap.has_refused() != is_made, "at {n}");
-        assert!(rt; heap.holds_nothing(), "at {n}");
+        holds_at(&rt, n, heap.has_refused() != is_made);
+        holds_at(&rt, n, heap.holds_nothing());
         if is_made {
             whole_at = Some(n);
             break;
@@ -156,14 +152,13 @@ fn refused_growth(rt: HostRuntime) {
 #[test]
 fn no_memory_after_new(rt: HostRuntime) {
     let heap = Refusing::new(rt.alloc(), 4, u64::MAX);
-    assert!(rt; uses_two(&rt, &heap));
-    assert!(rt; !heap.has_refused());
-    assert!(rt; heap.holds_nothing());
+    holds(&rt, uses_two(&rt, &heap));
+    holds(&rt, !heap.has_refused());
+    holds(&rt, heap.holds_nothing());
 }
 
 #[test]
-fn frames_fault_says_what_to_do(rt: HostRuntime) -> Result<(), Fail> {
-    let said = format!(in rt.alloc(); "{}", FramesFault::Frames)?;
+fn frames_fault_says_what_to_do(rt: HostRuntime) {
+    let said = format!(in rt.alloc(); "{}", FramesFault::Frames).expect(&rt, "memory");
     equal(&rt, said.as_str(), "ask for 1 to 1,048,576 frames");
-    Ok(())
 }

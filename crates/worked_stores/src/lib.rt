@@ -5,7 +5,7 @@
 #[cfg(test)]
 mod chains;
 #[cfg(test)]
-mod equal;
+mod checks;
 #[cfg(test)]
 mod frames;
 #[cfg(test)]

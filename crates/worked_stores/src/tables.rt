@@ -1,12 +1,11 @@
 ghost use Rattle.std.specs.Prelude.{◌≡◌, IfOk};
 
-use crate::equal::equal;
+use crate::checks::{equal, holds, holds_at};
 use packed_entries::Packed;
 use refusing::Refusing;
 use share_table::{HintFrame, Table};
 use std::alloc::{AllocError, Allocator, Global};
 use std::process::Abort;
-use std::test::Fail;
 
 /// What is put into a table.
 #[derive(Clone, Copy)]
@@ -24,10 +23,10 @@ fn add<A: Allocator>(rt: &impl Abort, table: &mut Table<A>, capacity: u32, hash:
     requires { table.old.capacity ≡ capacity }
     ensures { table.new.capacity ≡ capacity }
 {
-    assert!(rt; table.find_shared(hash).is_none());
-    assert!(rt; table.len() < capacity);
-    assert!(rt; table.references() < 1_048_575);
-    assert!(rt; mpn < BELOW);
+    holds(rt, table.find_shared(hash).is_none());
+    holds(rt, table.len() < capacity);
+    holds(rt, table.references() < 1_048_575);
+    holds(rt, mpn < BELOW);
     table.add_shared(hash, mpn);
 }
 
@@ -42,10 +41,10 @@ fn hint<A: Allocator>(
     requires { table.old.capacity ≡ capacity }
     ensures { table.new.capacity ≡ capacity }
 {
-    assert!(rt; table.find_hint(key).is_none());
-    assert!(rt; table.len() < capacity);
-    assert!(rt; hint.ppn < BELOW);
-    assert!(rt; hint.mpn < BELOW);
+    holds(rt, table.find_hint(key).is_none());
+    holds(rt, table.len() < capacity);
+    holds(rt, hint.ppn < BELOW);
+    holds(rt, hint.mpn < BELOW);
     table.put_hint(key, hint.guest, hint.ppn, hint.mpn);
 }
 
@@ -66,40 +65,35 @@ fn new_table<A: Allocator + Clone>(
 ) -> Result<Table<A>, AllocError>
     ensures { IfOk result (λ table. table.capacity ≡ capacity) }
 {
-    assert!(rt; capacity >= 1);
-    assert!(rt; capacity <= 1_048_576);
+    holds(rt, capacity >= 1);
+    holds(rt, capacity <= 1_048_576);
     Table::new(alloc, capacity)
 }
 
 /// Makes a table of these entries.
-fn table_of(
-    rt: &impl Abort,
-    alloc: Global,
-    capacity: u32,
-    entries: &[Row],
-) -> Result<Table<Global>, AllocError> {
-    let mut table = new_table(rt, alloc, capacity)?;
+fn table_of(rt: &impl Abort, alloc: Global, capacity: u32, entries: &[Row]) -> Table<Global> {
+    let mut table = new_table(rt, alloc, capacity).expect(rt, "memory");
     for entry in entries {
         put(rt, &mut table, capacity, *entry);
     }
-    Ok(table)
+    table
 }
 
 /// Counts one page more for the frame under `hash`.
 fn join<A: Allocator>(rt: &impl Abort, table: &mut Table<A>, hash: u64) -> u32 {
-    assert!(rt; table.find_shared(hash).is_some());
-    assert!(rt; table.references() < 1_048_576);
+    holds(rt, table.find_shared(hash).is_some());
+    holds(rt, table.references() < 1_048_576);
     table.join(hash)
 }
 
 /// Counts one page less for the frame under `hash`.
 fn leave<A: Allocator>(rt: &impl Abort, table: &mut Table<A>, hash: u64) -> u32 {
-    assert!(rt; table.find_shared(hash).is_some());
+    holds(rt, table.find_shared(hash).is_some());
     table.leave(hash)
 }
 
 fn drop_hint<A: Allocator>(rt: &impl Abort, table: &mut Table<A>, key: u32) {
-    assert!(rt; table.find_hint(key).is_some());
+    holds(rt, table.find_hint(key).is_some());
     table.drop_hint(key);
 }
 
@@ -134,30 +128,30 @@ type Found = (
     Option<HintFrame>,
 );
 
-/// Returns the numbers of entries, of references and of pages of the first frame, and what is found of the first frame,
-/// the second, and the hint.
-fn found<A: Allocator>(table: &Table<A>) -> Found {
-    (
+/// Compares the numbers of entries, of references and of pages of the first frame, and what is found of the first
+/// frame, the second, and the hint.
+fn finds<A: Allocator>(rt: &impl Abort, table: &Table<A>, due: Found) {
+    let found = (
         [table.len(), table.references(), table.count(FIRST)],
         table.find_shared(FIRST),
         table.find_shared(SECOND),
         table.find_hint(7),
-    )
+    );
+    equal(rt, found, due);
 }
 
 #[test]
-fn table_hint(rt: HostRuntime) -> Result<(), Fail> {
+fn table_hint(rt: HostRuntime) {
     let hint = HintFrame {
         guest: 3,
         ppn: 5,
         mpn: 1,
     };
-    let mut table = table_of(&rt, rt.alloc(), 2, &[Row::Hint(7, hint)])?;
-    equal(&rt, found(&table), ([1, 0, 0], None, None, Some(hint)));
+    let mut table = table_of(&rt, rt.alloc(), 2, &[Row::Hint(7, hint)]);
+    finds(&rt, &table, ([1, 0, 0], None, None, Some(hint)));
     drop_hint(&rt, &mut table, 7);
-    equal(&rt, found(&table), ([0, 0, 0], None, None, None));
+    finds(&rt, &table, ([0, 0, 0], None, None, None));
     equal(&rt, table.count(7), 0);
-    Ok(())
 }
 
 const HINT: HintFrame = HintFrame {
@@ -189,28 +183,27 @@ const STEPS: [(Step, u32, Found); 4] = [
 fn take_steps(rt: &impl Abort, table: &mut Table) {
     for (step, count, after) in STEPS {
         equal(rt, take_step(rt, table, step), count);
-        equal(rt, found(table), after);
+        finds(rt, table, after);
     }
 }
 
 // Two shared frames and a hint whose hashes have the same low 32 bits.
 #[test]
-fn one_chain(rt: HostRuntime) -> Result<(), Fail> {
+fn one_chain(rt: HostRuntime) {
     let entries = [
         Row::Shared(FIRST, 0),
         Row::Shared(SECOND, 1),
         Row::Hint(7, HINT),
     ];
-    let mut table = table_of(&rt, rt.alloc(), 3, &entries)?;
+    let mut table = table_of(&rt, rt.alloc(), 3, &entries);
     let whole = ([3, 4, 2], Some((0, 2)), Some((1, 2)), Some(HINT));
-    equal(&rt, found(&table), whole);
+    finds(&rt, &table, whole);
     take_steps(&rt, &mut table);
-    Ok(())
 }
 
-/// Returns the count of the frame under 7, the field of its entry, and how many counts are kept elsewhere.
-fn shown<A: Allocator>(table: &Table<A>) -> (u32, Option<u16>, u32) {
-    (table.count(7), table.field(7), table.extended())
+/// Compares the count of the frame under 7, the field of its entry, and how many counts are kept elsewhere.
+fn shows<A: Allocator>(rt: &impl Abort, table: &Table<A>, due: (u32, Option<u16>, u32)) {
+    equal(rt, (table.count(7), table.field(7), table.extended()), due);
 }
 
 /// Joins pages to the frame under 7, so that its count goes up from `first` to `last`.
@@ -232,7 +225,7 @@ fn widen<A: Allocator>(rt: &impl Abort, table: &mut Table<A>)
     requires { table.old.capacity ≡ 1 }
 {
     add(rt, table, 1, 7, 0);
-    equal(rt, shown(table), (2, Some(2), 0));
+    shows(rt, table, (2, Some(2), 0));
     go_up(rt, table);
     go_down(rt, table);
     equal(rt, (table.find_shared(7), table.len()), (None, 0));
@@ -244,7 +237,7 @@ fn go_up<A: Allocator>(rt: &impl Abort, table: &mut Table<A>) {
         (65_536, 65_536, (65_536, Some(0), 1)),
     ] {
         joins(rt, table, first, last);
-        equal(rt, shown(table), after);
+        shows(rt, table, after);
     }
 }
 
@@ -255,15 +248,14 @@ fn go_down<A: Allocator>(rt: &impl Abort, table: &mut Table<A>) {
         (0, 0, (0, None, 0)),
     ] {
         leaves(rt, table, first, last);
-        equal(rt, shown(table), after);
+        shows(rt, table, after);
     }
 }
 
 #[test]
-fn wide_count(rt: HostRuntime) -> Result<(), Fail> {
-    let mut table = new_table(&rt, rt.alloc(), 1)?;
+fn wide_count(rt: HostRuntime) {
+    let mut table = new_table(&rt, rt.alloc(), 1).expect(&rt, "memory");
     widen(&rt, &mut table);
-    Ok(())
 }
 
 /// Makes a table, and widens its count with no more memory. Returns whether there was memory for the table.
@@ -271,7 +263,7 @@ fn widens(rt: &impl Abort, heap: &Refusing) -> bool {
     let Ok(mut table) = new_table(rt, heap, 1) else {
         return false;
     };
-    assert!(rt; !heap.has_refused());
+    holds(rt, !heap.has_refused());
     heap.refuse_all();
     widen(rt, &mut table);
     true
@@ -284,8 +276,8 @@ fn new_refused_in_turn(rt: HostRuntime) {
     for n in 0..100 {
         let heap = Refusing::new(rt.alloc(), n, 0);
         let is_whole = widens(&rt, &heap);
-        assert!(rt; heap.has_refused() != is_whole, "at {n}");
-        assert!(rt; heap.holds_nothing(), "at {n}");
+        holds_at(&rt, n, heap.has_refused() != is_whole);
+        holds_at(&rt, n, heap.holds_nothing());
         if is_whole {
             whole_at = Some(n);
             break;
@@ -296,22 +288,21 @@ fn new_refused_in_turn(rt: HostRuntime) {
 
 // A table of the greatest capacity. Its frames are written as they are made, and its bucket heads.
 #[test]
-fn greatest_capacity(rt: HostRuntime) -> Result<(), Fail> {
-    let table = table_of(&rt, rt.alloc(), 1_048_576, &[Row::Shared(7, 16_777_215)])?;
+fn greatest_capacity(rt: HostRuntime) {
+    let table = table_of(&rt, rt.alloc(), 1_048_576, &[Row::Shared(7, 16_777_215)]);
     equal(&rt, table.bytes(), 20_971_520);
     equal(&rt, table.find_shared(7), Some((16_777_215, 2)));
     equal(&rt, table.len(), 1);
-    Ok(())
 }
 
-fn bytes_of(rt: &impl Abort, alloc: Global, capacity: u32) -> Result<u64, AllocError> {
-    let table = new_table(rt, alloc, capacity)?;
-    Ok(table.bytes())
+fn bytes_of(rt: &impl Abort, alloc: Global, capacity: u32) -> u64 {
+    let table = new_table(rt, alloc, capacity).expect(rt, "memory");
+    table.bytes()
 }
 
 // At most 20 bytes a frame of 4,096 bytes, and at least 18 if the capacity isn't a power of two.
 #[test]
-fn bytes_a_frame(rt: HostRuntime) -> Result<(), Fail> {
+fn bytes_a_frame(rt: HostRuntime) {
     for (capacity, want) in [
         (1, 20),
         (2, 40),
@@ -320,11 +311,10 @@ fn bytes_a_frame(rt: HostRuntime) -> Result<(), Fail> {
         (1024, 20_480),
         (1025, 20_496),
     ] {
-        let bytes = bytes_of(&rt, rt.alloc(), capacity)?;
+        let bytes = bytes_of(&rt, rt.alloc(), capacity);
         equal(&rt, bytes, want);
-        assert!(rt; bytes.saturating_mul(200) < u64::from(capacity) * 4096);
+        holds(&rt, bytes.saturating_mul(200) < u64::from(capacity) * 4096);
     }
-    Ok(())
 }
 
 // The greatest MPN and link, and one more of each.
@@ -336,9 +326,10 @@ fn packed_shared_bounds(rt: HostRuntime) {
         (0, 8_388_608, false),
         (0, 8_388_607, true),
     ] {
-        assert!(rt;
+        holds_at(
+            &rt,
+            (mpn, link),
             Packed::shared(0, mpn, 1, link).is_some() == is_packed,
-            "{mpn} {link}"
         );
     }
 }
@@ -352,9 +343,10 @@ fn packed_hint_bounds(rt: HostRuntime) {
         (0, 16_777_216, false),
         (0, 16_777_215, true),
     ] {
-        assert!(rt;
+        holds_at(
+            &rt,
+            (ppn, mpn),
             Packed::hint(0, 0, ppn, mpn, 0).is_some() == is_packed,
-            "{ppn} {mpn}"
         );
     }
 }
@@ -371,15 +363,18 @@ fn packed_values(rt: HostRuntime) {
     let shared = [
         0x01, 0x23, 0x45, 0x67, 0x89, 0xab, 0xcd, 0xef, 0, 0, 5, 0, 3, 0, 0, 1,
     ];
-    assert!(rt; reads(&shared, &Packed::shared(hash, 5, 3, 0)));
+    holds(&rt, reads(&shared, &Packed::shared(hash, 5, 3, 0)));
     let wide = [
         0x01, 0x23, 0x45, 0x67, 0x89, 0xab, 0xcd, 0xef, 0, 0, 5, 0, 0, 0, 0, 1,
     ];
-    assert!(rt; reads(&wide, &Packed::shared(hash, 5, 0, 0)));
+    holds(&rt, reads(&wide, &Packed::shared(hash, 5, 0, 0)));
     let hint = [
         0xde, 0xad, 0xbe, 0xef, 2, 0, 1, 2, 0, 0xab, 0xcd, 0, 0, 0, 0, 0x12,
     ];
-    assert!(rt; reads(&hint, &Packed::hint(0xdead_beef, 2, 0x102, 0xabcd, 9)));
+    holds(
+        &rt,
+        reads(&hint, &Packed::hint(0xdead_beef, 2, 0x102, 0xabcd, 9)),
+    );
 }
 
 // Tag 0 with a count is no frame.
@@ -388,5 +383,5 @@ fn no_frame(rt: HostRuntime) {
     let refused = [
         0xde, 0xad, 0xbe, 0xef, 2, 0, 1, 2, 0, 0xab, 0xcd, 0, 1, 0, 0, 0x12,
     ];
-    assert!(rt; reads(&refused, &None));
+    holds(&rt, reads(&refused, &None));
 }

@@ -1,17 +1,17 @@
 //! `merge_core`: a machine on one thread.
+use crate::checks::holds;
 use merge_core::{Core, CoreFault};
 use page_digest::Sha256Hash;
 use page_model::{Request, Verdict};
 use std::alloc::Global;
 use std::process::Abort;
 use std::sync::Wait;
-use std::test::Fail;
 use std::thread::Threads;
 
 /// Applies a request of guest 0.
 fn apply(rt: &impl Abort, core: &mut Core<Sha256Hash>, request: &Request) -> Verdict {
-    assert!(rt; core.guests() > 0);
-    assert!(rt; core.entries() < 1_000);
+    holds(rt, core.guests() > 0);
+    holds(rt, core.entries() < 1_000);
     core.apply(0, request)
 }
 
@@ -20,20 +20,22 @@ fn propose_hashed<R: Threads + Wait + Sync + Abort>(
     rt: &R,
     alloc: Global,
     core: &mut Core<Sha256Hash>,
-) -> Result<Verdict, Fail> {
-    assert!(rt; core.guests() > 0);
-    assert!(rt; core.entries() < 1_000);
-    let hashes = core.hash_ahead(rt, alloc, 2, &[(0, 0)])?;
-    Ok(match hashes[0] {
+) -> Verdict {
+    holds(rt, core.guests() > 0);
+    holds(rt, core.entries() < 1_000);
+    let hashes = core
+        .hash_ahead(rt, alloc, 2, &[(0, 0)])
+        .expect(rt, "memory");
+    match hashes[0] {
         None => core.apply(0, &Request::Propose(0)),
         Some(hash) => core.apply_hashed(0, &Request::Propose(0), hash),
-    })
+    }
 }
 
 /// Returns the first byte of page 0 of guest 0, and whether it has a frame.
 fn look(rt: &impl Abort, core: &Core<Sha256Hash>) -> (u8, bool) {
-    assert!(rt; core.guests() > 0);
-    assert!(rt; core.pages(0) > 0);
+    holds(rt, core.guests() > 0);
+    holds(rt, core.pages(0) > 0);
     (core.read(0, 0, 0), core.frame(0, 0).is_some())
 }
 
@@ -42,18 +44,22 @@ fn look(rt: &impl Abort, core: &Core<Sha256Hash>) -> (u8, bool) {
 fn serve_two<R: Threads + Wait + Sync + Abort>(
     rt: &R,
     alloc: Global,
-) -> Result<(Verdict, (u8, bool), u32, u32), Fail> {
-    let mut core = Core::new(alloc, 1, &[1], &[0], Sha256Hash)?;
-    let stored = apply(rt, &mut core, &Request::store(0, 0, &[0x41])?);
-    assert!(rt; stored == Verdict::Mapped);
-    let verdict = propose_hashed(rt, alloc, &mut core)?;
-    assert!(rt; core.report().entries() == 2);
-    Ok((
+) -> (Verdict, (u8, bool), u32, u32) {
+    let mut core = Core::new(alloc, 1, &[1], &[0], Sha256Hash).expect(rt, "memory");
+    let stored = apply(
+        rt,
+        &mut core,
+        &Request::store(0, 0, &[0x41]).expect(rt, "memory"),
+    );
+    holds(rt, stored == Verdict::Mapped);
+    let verdict = propose_hashed(rt, alloc, &mut core);
+    holds(rt, core.report().entries() == 2);
+    (
         verdict,
         look(rt, &core),
         core.frames().used(),
         core.table().len(),
-    ))
+    )
 }
 
 /// Returns why there is no machine of these frames.
@@ -62,9 +68,8 @@ fn fault_of(alloc: Global, frames: u32) -> Option<CoreFault> {
 }
 
 #[test]
-fn a_core(rt: HostRuntime) -> Result<(), Fail> {
-    let seen = serve_two(&rt, rt.alloc())?;
-    assert!(rt; seen == (Verdict::Hinted, (0x41, true), 1, 1));
-    assert!(rt; fault_of(rt.alloc(), 0) == Some(CoreFault::Frames));
-    Ok(())
+fn a_core(rt: HostRuntime) {
+    let seen = serve_two(&rt, rt.alloc());
+    holds(&rt, seen == (Verdict::Hinted, (0x41, true), 1, 1));
+    holds(&rt, fault_of(rt.alloc(), 0) == Some(CoreFault::Frames));
 }

@@ -3,6 +3,7 @@ ghost use Rattle.std.specs.Prelude.{◌≡◌, ◌<◌, ◌∷◌, [], IfOk, IfS
 ghost use Rattle.share_rings.specs.Ends.{closed_name, port_name};
 ghost use Rattle.merge_run.specs.View.{closed_names, end_names, ends_of, guest_count, port_names};
 
+use crate::checks::holds;
 use merge_run::{Config, Fault, Machine, Merger, Settled, Step, settle};
 use page_digest::Sha256Hash;
 use page_model::Verdict;
@@ -10,7 +11,6 @@ use share_rings::{ClosedPort, Port};
 use std::alloc::{AllocError, Global};
 use std::process::Abort;
 use std::sync::Wait;
-use std::test::Fail;
 use std::thread::Threads;
 
 /// A machine of one guest with one page.
@@ -70,47 +70,44 @@ fn serve<R: Threads + Wait + Sync + Abort>(
     ensures port { IfSome result (λ closed. closed_name closed ≡ port_name port) }
 {
     let mut port = port;
-    assert!(rt; port.store(0, 0, &[0x41]).is_ok());
-    assert!(rt; merger.step(0) == Ok(Step::Done));
-    assert!(rt; port.verdict() == Some(Verdict::Mapped));
+    holds(rt, port.store(0, 0, &[0x41]).is_ok());
+    holds(rt, merger.step(0) == Ok(Step::Done));
+    holds(rt, port.verdict() == Some(Verdict::Mapped));
     let mut closed = port.close().ok()?;
-    assert!(rt; merger.round(rt, alloc, 2, 64) == Ok(1));
-    assert!(rt; closed.verdict() == Some(Verdict::Closed));
+    holds(rt, merger.round(rt, alloc, 2, 64) == Ok(1));
+    holds(rt, closed.verdict() == Some(Verdict::Closed));
     Some(closed)
 }
 
 /// Returns the first byte of page 0 of guest 0.
 fn first_byte(rt: &impl Abort, merger: &Merger<Sha256Hash>) -> u8 {
     let core = merger.core();
-    assert!(rt; core.guests() > 0);
-    assert!(rt; core.pages(0) > 0);
+    holds(rt, core.guests() > 0);
+    holds(rt, core.pages(0) > 0);
     merger.read(0, 0, 0)
 }
 
 /// Checks what a settled machine shows.
 fn look(rt: &impl Abort, settled: &Settled<Sha256Hash>) {
     let core = settled.core();
-    assert!(rt; core.guests() == 1);
-    assert!(rt; core.pages(0) > 0);
-    assert!(rt; settled.read(0, 0, 0) == 0x41);
-    assert!(rt; settled.port(0).drained());
-    assert!(rt; settled.journal().len() == 2);
-    assert!(rt; settled.report().mapped() == 1);
+    holds(rt, core.guests() == 1);
+    holds(rt, core.pages(0) > 0);
+    holds(rt, settled.read(0, 0, 0) == 0x41);
+    holds(rt, settled.port(0).drained());
+    holds(rt, settled.journal().len() == 2);
+    holds(rt, settled.report().mapped() == 1);
 }
 
 #[test]
-fn a_machine(rt: HostRuntime) -> Result<(), Fail> {
-    let (mut merger, ports) = new_machine(rt.alloc())?;
-    let port = only(ports).ok_or("not one port")?;
-    let port = serve(&rt, rt.alloc(), &mut merger, port).ok_or("busy")?;
-    assert!(rt; first_byte(&rt, &merger) == 0x41);
-    assert!(rt; merger.journal().len() == 2);
-    assert!(rt; merger.report().entries() == 2);
-    match settle(merger, list_of(rt.alloc(), port)?) {
-        Ok(settled) => {
-            look(&rt, &settled);
-            Ok(())
-        }
-        Err(_) => Err(Fail::from("not settled")),
+fn a_machine(rt: HostRuntime) {
+    let (mut merger, ports) = new_machine(rt.alloc()).expect(&rt, "memory");
+    let port = only(ports).expect(&rt, "not one port");
+    let port = serve(&rt, rt.alloc(), &mut merger, port).expect(&rt, "busy");
+    holds(&rt, first_byte(&rt, &merger) == 0x41);
+    holds(&rt, merger.journal().len() == 2);
+    holds(&rt, merger.report().entries() == 2);
+    match settle(merger, list_of(rt.alloc(), port).expect(&rt, "memory")) {
+        Ok(settled) => look(&rt, &settled),
+        Err(_) => panic!(rt; "not settled"),
     }
 }

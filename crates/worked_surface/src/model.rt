@@ -1,12 +1,12 @@
 //! `page_model`: requests, and laws on journals and events.
+use crate::checks::holds;
 use page_model::laws::{alone_law, entries_law, last_stored_law};
 use page_model::{Entry, Event, Request, RequestFault};
-use std::test::Fail;
 
 #[test]
-fn requests_and_laws(rt: HostRuntime) -> Result<(), Fail> {
-    let store = Request::store(0, 4_095, &[0x41])?;
-    assert!(rt; Request::load(0, 0, 65) == Err(RequestFault::Length));
+fn requests_and_laws(rt: HostRuntime) {
+    let store = Request::store(0, 4_095, &[0x41]).expect(&rt, "memory");
+    holds(&rt, Request::load(0, 0, 65) == Err(RequestFault::Length));
     let entries = [Entry {
         guest: 0,
         request: store,
@@ -20,5 +20,4 @@ fn requests_and_laws(rt: HostRuntime) -> Result<(), Fail> {
         Event::Give(0),
         Event::Get(0),
     ]);
-    Ok(())
 }

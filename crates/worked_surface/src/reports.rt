@@ -7,11 +7,11 @@ ghost use Rattle.merge_run.specs.View.{closed_names, end_names, ends_of, guest_c
 ghost use Rattle.watched_machine.specs.Lists.{publisher_id, told_id, watch_id};
 ghost use Rattle.watched_machine.specs.View.{merger_in, publisher_in};
 
+use crate::checks::holds;
 use crate::machines::{list_of, one_guest, only};
 use std::alloc::Global;
 use std::process::Abort;
 use std::sync::Wait;
-use std::test::Fail;
 use std::thread::Threads;
 use watched_machine::{
     ClosedPort, Fault, Machine, Merger, Port, Report, Settled, Sha256Hash, Step, Unsettled, Watch,
@@ -63,26 +63,26 @@ fn serve<R: Threads + Wait + Sync + Abort>(
     ensures reports { publisher_id (publisher_in merger.new) ≡ publisher_id (publisher_in merger.old) }
 {
     let mut port = port;
-    assert!(rt; port.store(0, 0, &[0x41]).is_ok());
-    assert!(rt; merger.step(0) == Ok(Step::Done));
+    holds(rt, port.store(0, 0, &[0x41]).is_ok());
+    holds(rt, merger.step(0) == Ok(Step::Done));
     let Ok(mut closed) = port.close() else {
         panic!(rt; "busy");
     };
-    assert!(rt; merger.round(rt, alloc, 2, 64) == Ok(1));
-    assert!(rt; closed.verdict().is_some());
-    assert!(rt; closed.verdict().is_some());
-    assert!(rt; merger.journal().len() == 2);
-    assert!(rt; merger.report().entries() == 2);
+    holds(rt, merger.round(rt, alloc, 2, 64) == Ok(1));
+    holds(rt, closed.verdict().is_some());
+    holds(rt, closed.verdict().is_some());
+    holds(rt, merger.journal().len() == 2);
+    holds(rt, merger.report().entries() == 2);
     closed
 }
 
 /// Checks what a settled machine shows of its guest.
 fn look(rt: &impl Abort, settled: &Settled<Sha256Hash>) {
     let core = settled.core();
-    assert!(rt; core.guests() == 1);
-    assert!(rt; core.pages(0) > 0);
-    assert!(rt; settled.read(0, 0, 0) == 0x41);
-    assert!(rt; settled.port(0).drained());
+    holds(rt, core.guests() == 1);
+    holds(rt, core.pages(0) > 0);
+    holds(rt, settled.read(0, 0, 0) == 0x41);
+    holds(rt, settled.port(0).drained());
 }
 
 /// Ends a settled machine, which still tells what was published.
@@ -90,12 +90,12 @@ fn end_settled<R: Wait + Abort>(rt: &R, settled: Settled<Sha256Hash>) {
     let mut settled = settled;
     let mut watch = settled.watch().expect(rt, "a watch");
     watch.learn(settled.tell());
-    assert!(rt; watch.read() == Some(settled.report()));
-    assert!(rt; settled.journal().len() == 2);
-    assert!(rt; settled.core().entries() == 2);
+    holds(rt, watch.read() == Some(settled.report()));
+    holds(rt, settled.journal().len() == 2);
+    holds(rt, settled.core().entries() == 2);
     look(rt, &settled);
     settled.end(rt);
-    assert!(rt; watch.read().is_none());
+    holds(rt, watch.read().is_none());
 }
 
 /// Settles a machine, and ends it.
@@ -113,11 +113,11 @@ fn end<R: Wait + Abort>(rt: &R, merger: Merger<Sha256Hash>, ports: Vec<ClosedPor
 }
 
 #[test]
-fn a_watched_machine(rt: HostRuntime) -> Result<(), Fail> {
+fn a_watched_machine(rt: HostRuntime) {
     let Ok((mut merger, ports)) = new_machine(&rt, rt.alloc()) else {
         panic!(rt; "no machine");
     };
-    assert!(rt; first_byte(&merger) == 0);
+    holds(&rt, first_byte(&merger) == 0);
     let port = only(ports).expect(&rt, "one port");
     let mut watch = merger.watch().expect(&rt, "a watch");
     let closed = serve(&rt, rt.alloc(), &mut merger, port);
@@ -127,7 +127,6 @@ fn a_watched_machine(rt: HostRuntime) -> Result<(), Fail> {
         merger,
         list_of(rt.alloc(), closed).expect(&rt, "memory"),
     );
-    assert!(rt; before == Some(Report::new(0, 0, 0, 0, 0)));
-    assert!(rt; after == Some(Report::new(2, 1, 0, 1, 0)));
-    Ok(())
+    holds(&rt, before == Some(Report::new(0, 0, 0, 0, 0)));
+    holds(&rt, after == Some(Report::new(2, 1, 0, 1, 0)));
 }

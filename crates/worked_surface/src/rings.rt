@@ -2,22 +2,22 @@
 ghost use Rattle.std.specs.Prelude.{◌≡◌, length};
 ghost use Rattle.share_rings.specs.Ends.{closed_name, port_name, end_name, end_taken, end_given};
 
+use crate::checks::{equal, holds};
 use page_model::{Request, Verdict};
 use share_rings::{ClosedPort, Meeting, MergerEnd, Port, Scan, SendFault, meet, ring_pair};
 use std::process::Abort;
-use std::test::Fail;
 
 /// Sends a request by each call of a port, whose rings hold six items, and gets no verdict yet.
 fn send_all(rt: &impl Abort, port: &mut Port)
     ensures { port_name port.new ≡ port_name port.old }
 {
-    assert!(rt; port.send(Request::Count) == Ok(()));
-    assert!(rt; port.propose(0) == Ok(()));
-    assert!(rt; port.store(0, 4_096, &[0x41]) == Err(SendFault::Crosses));
-    assert!(rt; port.load(0, 0, 0) == Err(SendFault::Length));
-    assert!(rt; port.release(0) == Ok(()));
-    assert!(rt; port.count() == Ok(()));
-    assert!(rt; port.verdict().is_none());
+    holds(rt, port.send(Request::Count) == Ok(()));
+    holds(rt, port.propose(0) == Ok(()));
+    holds(rt, port.store(0, 4_096, &[0x41]) == Err(SendFault::Crosses));
+    holds(rt, port.load(0, 0, 0) == Err(SendFault::Length));
+    holds(rt, port.release(0) == Ok(()));
+    holds(rt, port.count() == Ok(()));
+    holds(rt, port.verdict().is_none());
 }
 
 /// Takes a request and answers it.
@@ -26,7 +26,7 @@ fn serve(rt: &impl Abort, end: &mut MergerEnd)
     ensures pair { end_name end.new ≡ end_name end.old }
     ensures answered { length (end_given end.new) ≡ length (end_taken end.new) }
 {
-    assert!(rt; !end.ended());
+    holds(rt, !end.ended());
     if end.free() == 0 {
         return;
     }
@@ -56,27 +56,26 @@ fn get_four(rt: &impl Abort, port: &mut ClosedPort)
     ensures { closed_name port.new ≡ closed_name port.old }
 {
     for _ in 0..4 {
-        assert!(rt; port.verdict() == Some(Verdict::NoPage));
+        holds(rt, port.verdict() == Some(Verdict::NoPage));
     }
 }
 
 #[test]
-fn a_pair(rt: HostRuntime) -> Result<(), Fail> {
-    let (mut port, mut end) = ring_pair(rt.alloc(), 6)?;
+fn a_pair(rt: HostRuntime) {
+    let (mut port, mut end) = ring_pair(rt.alloc(), 6).expect(&rt, "memory");
     send_all(&rt, &mut port);
-    let mut port = port.close().ok().ok_or("busy")?;
+    let mut port = port.close().ok().expect(&rt, "busy");
     serve_five(&rt, &mut end);
     get_four(&rt, &mut port);
-    assert!(rt; meet(&mut port, &mut end) == Meeting::Undrained);
-    assert!(rt; port.verdict() == Some(Verdict::Closed));
-    assert!(rt; port.drained());
-    assert!(rt; meet(&mut port, &mut end) == Meeting::Met);
-    Ok(())
+    holds(&rt, meet(&mut port, &mut end) == Meeting::Undrained);
+    holds(&rt, port.verdict() == Some(Verdict::Closed));
+    holds(&rt, port.drained());
+    holds(&rt, meet(&mut port, &mut end) == Meeting::Met);
 }
 
 #[test]
 fn scans(rt: HostRuntime) {
     let (mut first, mut second) = (Scan::sequential(3), Scan::random(0, 3));
-    assert_eq!(rt; (first.next(), first.next()), (0, 1));
-    assert!(rt; second.next() < 3);
+    equal(&rt, (first.next(), first.next()), (0, 1));
+    holds(&rt, second.next() < 3);
 }

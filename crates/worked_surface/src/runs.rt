@@ -2,6 +2,7 @@
 ghost use Rattle.std.specs.Prelude.{◌≡◌, false, All, length, IfOk};
 ghost use Rattle.share_rings.specs.Closing.{has_close};
 
+use crate::checks::equal;
 use crate::machines::one_guest;
 use merge_run::{Gate, OpenGate, RunFault, run};
 use page_digest::Sha256Hash;
@@ -9,7 +10,6 @@ use page_model::Request;
 use std::alloc::{AllocError, Global};
 use std::sync::Wait;
 use std::sync::atomic::{AtomicU32, Ordering};
-use std::test::Fail;
 use std::thread::Threads;
 
 /// Counts the calls around sends and verdicts.
@@ -56,11 +56,14 @@ fn verdicts_of_a_run<R: Threads + Wait + Sync>(
 }
 
 #[test]
-fn a_run(rt: HostRuntime) -> Result<(), Fail> {
+fn a_run(rt: HostRuntime) {
     let gate = Counting {
         calls: AtomicU32::new(0),
     };
-    assert_eq!(rt; verdicts_of_a_run(&rt, rt.alloc(), &gate)?, (2, 2));
-    assert_eq!(rt; gate.calls.load(Ordering::SeqCst), 4);
-    Ok(())
+    equal(
+        &rt,
+        verdicts_of_a_run(&rt, rt.alloc(), &gate).expect(&rt, "memory"),
+        (2, 2),
+    );
+    equal(&rt, gate.calls.load(Ordering::SeqCst), 4);
 }

@@ -1,4 +1,5 @@
 //! Readers and writers that fail, at each place, and what the engines make of them. Also an input that is too long.
+use crate::checks::{holds, holds_at};
 use crate::engine::{Case, Engine, cases, serve};
 use page_digest::Sha256Hash;
 use share_text::{Output, TextFault};
@@ -122,12 +123,12 @@ fn is_whole<T: Threads + Wait + Sync>(rt: &T, alloc: Global, case: &Case) -> boo
 fn halting_readers(rt: HostRuntime) {
     for case in cases() {
         for reads in 0..=1 {
-            assert!(rt; is_unread(&rt, rt.alloc(), &case, 50, reads), "{reads}");
+            holds_at(&rt, reads, is_unread(&rt, rt.alloc(), &case, 50, reads));
         }
         for reads in 0..case.text.len().saturating_add(1) {
-            assert!(rt; is_unread(&rt, rt.alloc(), &case, 1, reads), "{reads}");
+            holds_at(&rt, reads, is_unread(&rt, rt.alloc(), &case, 1, reads));
         }
-        assert!(rt; is_whole(&rt, rt.alloc(), &case));
+        holds(&rt, is_whole(&rt, rt.alloc(), &case));
     }
 }
 
@@ -135,8 +136,8 @@ fn halting_readers(rt: HostRuntime) {
 fn narrow_writers(rt: HostRuntime) {
     for case in cases() {
         for room in 0..case.output.len() {
-            assert!(rt; is_front(&rt, rt.alloc(), &case, room, true), "{room}");
-            assert!(rt; is_front(&rt, rt.alloc(), &case, room, false), "{room}");
+            holds_at(&rt, room, is_front(&rt, rt.alloc(), &case, room, true));
+            holds_at(&rt, room, is_front(&rt, rt.alloc(), &case, room, false));
         }
     }
 }
@@ -150,8 +151,8 @@ fn narrow_writers_of_a_fault(rt: HostRuntime) {
             output: "fault truncated line 1\n",
         };
         for room in 0..empty.output.len() {
-            assert!(rt; is_front(&rt, rt.alloc(), &empty, room, true), "{room}");
-            assert!(rt; is_front(&rt, rt.alloc(), &empty, room, false), "{room}");
+            holds_at(&rt, room, is_front(&rt, rt.alloc(), &empty, room, true));
+            holds_at(&rt, room, is_front(&rt, rt.alloc(), &empty, room, false));
         }
     }
 }
@@ -177,16 +178,16 @@ fn is_refused_as_long<T: Threads + Wait + Sync>(rt: &T, alloc: Global, engine: E
 
 #[test]
 fn too_long_for_replay(rt: HostRuntime) {
-    assert!(rt; is_refused_as_long(&rt, rt.alloc(), Engine::Replay));
+    holds(&rt, is_refused_as_long(&rt, rt.alloc(), Engine::Replay));
 }
 
 #[test]
 fn too_long_for_serial(rt: HostRuntime) {
-    assert!(rt; is_refused_as_long(&rt, rt.alloc(), Engine::Serial));
+    holds(&rt, is_refused_as_long(&rt, rt.alloc(), Engine::Serial));
 }
 
 #[test]
 fn too_long_for_threaded(rt: HostRuntime) {
     let engine = Engine::Threaded(Output::Verdicts);
-    assert!(rt; is_refused_as_long(&rt, rt.alloc(), engine));
+    holds(&rt, is_refused_as_long(&rt, rt.alloc(), engine));
 }

@@ -1,4 +1,5 @@
 //! What the engines write under weak hashes, when pages of several contents have one hash.
+use crate::checks::{holds, holds_at};
 use crate::engine::{Engine, writes};
 use crate::journals::{self, Row};
 use crate::scripts;
@@ -58,10 +59,10 @@ fn journals_by_first_byte(rt: HostRuntime) {
         journals::false_match(),
         journals::false_match_again(),
     ] {
-        assert!(rt;
+        holds_at(
+            &rt,
+            row.name,
             prints(&rt, rt.alloc(), Engine::Replay, &row, FirstByteHash),
-            "{}",
-            row.name
         );
     }
 }
@@ -69,7 +70,10 @@ fn journals_by_first_byte(rt: HostRuntime) {
 #[test]
 fn one_key_and_two_hashes(rt: HostRuntime) {
     let row = journals::one_key_two_hashes();
-    assert!(rt; prints(&rt, rt.alloc(), Engine::Replay, &row, TwoByteHash));
+    holds(
+        &rt,
+        prints(&rt, rt.alloc(), Engine::Replay, &row, TwoByteHash),
+    );
 }
 
 #[test]
@@ -79,10 +83,10 @@ fn journals_by_a_weak_hash(rt: HostRuntime) {
         journals::three_share(),
         journals::last_reference(),
     ] {
-        assert!(rt;
+        holds_at(
+            &rt,
+            row.name,
             prints(&rt, rt.alloc(), Engine::Replay, &row, ZeroHash),
-            "{}",
-            row.name
         );
     }
 }
@@ -95,17 +99,17 @@ fn scripts_by_first_byte(rt: HostRuntime) {
         scripts::three_share(),
         scripts::false_match(),
     ] {
-        assert!(rt;
+        holds_at(
+            &rt,
+            row.name,
             prints(&rt, rt.alloc(), Engine::Serial, &row, FirstByteHash),
-            "{}",
-            row.name
         );
     }
     for row in [scripts::stale_hint(), scripts::false_match_of_one()] {
-        assert!(rt;
+        holds_at(
+            &rt,
+            row.name,
             prints_alike(&rt, rt.alloc(), &row, FirstByteHash),
-            "{}",
-            row.name
         );
     }
 }
@@ -117,11 +121,14 @@ fn scripts_by_a_weak_hash(rt: HostRuntime) {
         scripts::two_guests(),
         scripts::three_share(),
     ] {
-        assert!(rt;
+        holds_at(
+            &rt,
+            row.name,
             prints(&rt, rt.alloc(), Engine::Serial, &row, ZeroHash),
-            "{}",
-            row.name
         );
     }
-    assert!(rt; prints_alike(&rt, rt.alloc(), &scripts::weak_hash(), ZeroHash));
+    holds(
+        &rt,
+        prints_alike(&rt, rt.alloc(), &scripts::weak_hash(), ZeroHash),
+    );
 }

@@ -1,5 +1,6 @@
 //! What `Noted` makes of its reader's and its writer's calls.
 use crate::calls::{Calls, Giver, Taker, taker_of};
+use crate::checks::{equal, holds};
 use crate::engine::{Engine, serve};
 use crate::journals::CLOSE_ALONE;
 use page_digest::Sha256Hash;
@@ -7,7 +8,6 @@ use share_text::{Noted, Sink, Source};
 use std::alloc::{AllocError, Global};
 use std::io::{self, ErrorKind};
 use std::process::Abort;
-use std::test::Fail;
 
 fn letters(alloc: Global, letter: u8, len: usize) -> Result<Vec<u8>, AllocError> {
     let mut bytes = Vec::new(alloc);
@@ -36,31 +36,32 @@ fn read_once(giver: &mut Giver<'_>, buf: &mut [u8]) -> (Went, [bool; 2]) {
 }
 
 /// A read that fails gives no bytes; the next one, through another `Noted`, gives all.
-fn check_reads(rt: &impl Abort, alloc: Global, len: usize) -> Result<(), AllocError> {
-    let text = letters(alloc, b'a', len)?;
-    let mut buf = letters(alloc, b'b', len)?;
+fn check_reads(rt: &impl Abort, alloc: Global, len: usize) {
+    let text = letters(alloc, b'a', len).expect(rt, "memory");
+    let mut buf = letters(alloc, b'b', len).expect(rt, "memory");
     let mut giver = Giver {
         text: &text,
         step: 65_536,
         calls: Calls::failing_at(0),
     };
     let failed = read_once(&mut giver, &mut buf);
-    assert!(rt; failed == (Err(ErrorKind::ConnectionReset), [false, true]));
-    assert_eq!(rt; (giver.calls.made, giver.calls.given), (1, len));
-    assert!(rt; buf.iter().all(|byte| *byte == b'b'));
+    holds(
+        rt,
+        failed == (Err(ErrorKind::ConnectionReset), [false, true]),
+    );
+    equal(rt, (giver.calls.made, giver.calls.given), (1, len));
+    holds(rt, buf.iter().all(|byte| *byte == b'b'));
     let read = read_once(&mut giver, &mut buf);
-    assert!(rt; read == (Ok(len), [false, false]));
-    assert_eq!(rt; (giver.calls.made, giver.calls.given), (2, len));
-    assert!(rt; buf.as_slice() == text.as_slice());
-    Ok(())
+    holds(rt, read == (Ok(len), [false, false]));
+    equal(rt, (giver.calls.made, giver.calls.given), (2, len));
+    holds(rt, buf.as_slice() == text.as_slice());
 }
 
 #[test]
-fn one_read_makes_one_inner_read(rt: HostRuntime) -> Result<(), Fail> {
+fn one_read_makes_one_inner_read(rt: HostRuntime) {
     for len in [0, 1, 65_536] {
-        check_reads(&rt, rt.alloc(), len)?;
+        check_reads(&rt, rt.alloc(), len);
     }
-    Ok(())
 }
 
 /// Writes once through a new `Noted`. Returns how that went, and whether the writer had failed before and after it.
@@ -72,26 +73,27 @@ fn write_once(taker: &mut Taker, text: &[u8]) -> (Went, [bool; 2]) {
 }
 
 /// A write that fails takes no bytes; the next one, through another `Noted`, takes all.
-fn check_writes(rt: &impl Abort, alloc: Global, len: usize) -> Result<(), AllocError> {
-    let text = letters(alloc, b'a', len)?;
+fn check_writes(rt: &impl Abort, alloc: Global, len: usize) {
+    let text = letters(alloc, b'a', len).expect(rt, "memory");
     let mut taker = taker_of(alloc, 65_536, 0);
     let failed = write_once(&mut taker, &text);
-    assert!(rt; failed == (Err(ErrorKind::ConnectionReset), [false, true]));
-    assert_eq!(rt; (taker.calls.made, taker.calls.given), (1, len));
-    assert!(rt; taker.taken.is_empty());
+    holds(
+        rt,
+        failed == (Err(ErrorKind::ConnectionReset), [false, true]),
+    );
+    equal(rt, (taker.calls.made, taker.calls.given), (1, len));
+    holds(rt, taker.taken.is_empty());
     let written = write_once(&mut taker, &text);
-    assert!(rt; written == (Ok(len), [false, false]));
-    assert_eq!(rt; (taker.calls.made, taker.calls.given), (2, len));
-    assert!(rt; taker.taken.as_slice() == text.as_slice());
-    Ok(())
+    holds(rt, written == (Ok(len), [false, false]));
+    equal(rt, (taker.calls.made, taker.calls.given), (2, len));
+    holds(rt, taker.taken.as_slice() == text.as_slice());
 }
 
 #[test]
-fn one_write_makes_one_inner_write(rt: HostRuntime) -> Result<(), Fail> {
+fn one_write_makes_one_inner_write(rt: HostRuntime) {
     for len in [0, 1, 65_536] {
-        check_writes(&rt, rt.alloc(), len)?;
+        check_writes(&rt, rt.alloc(), len);
     }
-    Ok(())
 }
 
 /// The kind of the error that an end remembers.
@@ -117,9 +119,9 @@ fn a_failed_read_is_remembered(rt: HostRuntime) {
         step: 8,
         calls: Calls::failing_at(1),
     });
-    assert!(rt; read_on(&mut source) == (Ok(8), false, None));
-    assert!(rt; read_on(&mut source) == (Err(reset), true, Some(reset)));
-    assert!(rt; read_on(&mut source) == (Ok(8), true, Some(reset)));
+    holds(&rt, read_on(&mut source) == (Ok(8), false, None));
+    holds(&rt, read_on(&mut source) == (Err(reset), true, Some(reset)));
+    holds(&rt, read_on(&mut source) == (Ok(8), true, Some(reset)));
 }
 
 /// Writes these bytes. Returns how that went, whether the writer has failed by then, and what it remembers.
@@ -133,9 +135,9 @@ fn write_on(sink: &mut Noted<Taker>, bytes: &[u8]) -> (Went, bool, Option<ErrorK
 fn a_failed_write_is_remembered(rt: HostRuntime) {
     let zero = ErrorKind::WriteZero;
     let mut sink = Noted::new(taker_of(rt.alloc(), 0, 9));
-    assert!(rt; write_on(&mut sink, b"") == (Ok(0), false, None));
-    assert!(rt; write_on(&mut sink, b"a") == (Ok(0), true, Some(zero)));
-    assert!(rt; write_on(&mut sink, b"") == (Ok(0), true, Some(zero)));
+    holds(&rt, write_on(&mut sink, b"") == (Ok(0), false, None));
+    holds(&rt, write_on(&mut sink, b"a") == (Ok(0), true, Some(zero)));
+    holds(&rt, write_on(&mut sink, b"") == (Ok(0), true, Some(zero)));
 }
 
 /// Makes a journal of 2,000 counts.
@@ -150,8 +152,8 @@ fn counts(alloc: Global) -> Result<String, AllocError> {
 
 /// An output of more than 65,536 bytes goes out in writes of more than 65,000 bytes, and is whole.
 #[test]
-fn a_long_output_is_whole(rt: HostRuntime) -> Result<(), Fail> {
-    let input = counts(rt.alloc())?;
+fn a_long_output_is_whole(rt: HostRuntime) {
+    let input = counts(rt.alloc()).expect(&rt, "memory");
     let mut taker = taker_of(rt.alloc(), 65_536, 9);
     let reader = input.as_bytes();
     let ended = serve(
@@ -162,12 +164,13 @@ fn a_long_output_is_whole(rt: HostRuntime) -> Result<(), Fail> {
         &mut taker,
         Sha256Hash,
     );
-    assert!(rt; ended.is_well() && !ended.write_failed);
-    assert_eq!(rt; taker.calls.made, 3);
-    assert!(rt;
+    holds(&rt, ended.is_well());
+    holds(&rt, !ended.write_failed);
+    equal(&rt, taker.calls.made, 3);
+    holds(
+        &rt,
         taker.taken.ends_with(
-            b"report entries 2000 mapped 0 shared 0 frames 0 reclaimed 0 hints 0\n"
-        )
+            b"report entries 2000 mapped 0 shared 0 frames 0 reclaimed 0 hints 0\n",
+        ),
     );
-    Ok(())
 }

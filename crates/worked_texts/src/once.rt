@@ -1,5 +1,6 @@
 //! Readers and writers that fail at one of their calls and would go on: the engine doesn't call them again.
 use crate::calls::{Calls, Giver, taker_of};
+use crate::checks::holds_at;
 use crate::engine::{Case, cases, serve};
 use page_digest::Sha256Hash;
 use share_text::TextFault;
@@ -54,9 +55,10 @@ fn is_written_no_more<T: Threads + Wait + Sync>(
 fn readers_that_fail_once(rt: HostRuntime) {
     for case in cases() {
         for fails_at in 0..calls_over(case.text).saturating_add(1) {
-            assert!(rt;
+            holds_at(
+                &rt,
+                fails_at,
                 is_read_no_more(&rt, rt.alloc(), &case, fails_at),
-                "{fails_at}"
             );
         }
     }
@@ -66,9 +68,10 @@ fn readers_that_fail_once(rt: HostRuntime) {
 fn writers_that_fail_once(rt: HostRuntime) {
     for case in cases() {
         for fails_at in 0..calls_over(case.output) {
-            assert!(rt;
+            holds_at(
+                &rt,
+                fails_at,
                 is_written_no_more(&rt, rt.alloc(), &case, fails_at),
-                "{fails_at}"
             );
         }
     }

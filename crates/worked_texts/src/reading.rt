@@ -1,11 +1,11 @@
 //! What journals and scripts say.
+use crate::checks::{equal, holds, holds_at};
 use crate::journals::CLOSE_ALONE;
 use page_model::{Entry, Request, StoreReq};
 use refusing::Refusing;
 use share_text::{Journal, Script, TextFault, read_journal, read_script};
 use std::alloc::{AllocError, Global};
 use std::process::Abort;
-use std::test::Fail;
 
 /// Makes a script of one guest, whose head has this first line with the version and this line of salts, with this
 /// journal and these lines.
@@ -82,7 +82,7 @@ fn has_asks(
     guest: usize,
     wanted: &[Ask],
 ) -> bool {
-    assert!(rt; guest < script.scripts.len());
+    holds(rt, guest < script.scripts.len());
     let asks = asks_of(alloc, &script.scripts[guest]).expect(rt, "memory for the requests");
     asks.as_slice() == wanted
 }
@@ -99,9 +99,9 @@ fn numbers(script: &Script<Global>) -> [u32; 4] {
 }
 
 #[test]
-fn scans_are_written_out(rt: HostRuntime) -> Result<(), Fail> {
+fn scans_are_written_out(rt: HostRuntime) {
     let lines = "0 store 0 0 41\n0 scan random 7 2\n0 release 0\n0 count\nend 4\n";
-    let text = script(rt.alloc(), "pageshare script 1", "", "6", lines)?;
+    let text = script(rt.alloc(), "pageshare script 1", "", "6", lines).expect(&rt, "memory");
     let script = read(&rt, rt.alloc(), &text);
     let wanted = [
         Ask::Store(0, 0, 0x41),
@@ -110,11 +110,10 @@ fn scans_are_written_out(rt: HostRuntime) -> Result<(), Fail> {
         Ask::Release(0),
         Ask::Count,
     ];
-    assert!(rt; has_asks(&rt, rt.alloc(), &script, 0, &wanted));
-    assert_eq!(rt; numbers(&script), [2, 1, 1, 6]);
-    assert!(rt; script.config.pages.as_slice() == [1].as_slice());
-    assert!(rt; script.config.salts.as_slice() == [0].as_slice());
-    Ok(())
+    holds(&rt, has_asks(&rt, rt.alloc(), &script, 0, &wanted));
+    equal(&rt, numbers(&script), [2, 1, 1, 6]);
+    holds(&rt, script.config.pages.as_slice() == [1].as_slice());
+    holds(&rt, script.config.salts.as_slice() == [0].as_slice());
 }
 
 #[test]
@@ -122,31 +121,31 @@ fn a_scan_in_order_begins_anew(rt: HostRuntime) {
     let text = "pageshare script 1\nframes 2\npages 3 2\nring 1\njournal 9\n\
         1 scan sequential 3\n0 scan sequential 2\n1 scan sequential 1\nend 3\n";
     let script = read(&rt, rt.alloc(), text);
-    assert_eq!(rt; numbers(&script), [2, 2, 1, 9]);
+    equal(&rt, numbers(&script), [2, 2, 1, 9]);
     let first = [Ask::Propose(0), Ask::Propose(1)];
-    assert!(rt; has_asks(&rt, rt.alloc(), &script, 0, &first));
+    holds(&rt, has_asks(&rt, rt.alloc(), &script, 0, &first));
     let second = [
         Ask::Propose(0),
         Ask::Propose(1),
         Ask::Propose(0),
         Ask::Propose(0),
     ];
-    assert!(rt; has_asks(&rt, rt.alloc(), &script, 1, &second));
+    holds(&rt, has_asks(&rt, rt.alloc(), &script, 1, &second));
 }
 
 #[test]
-fn salts_of_version_2(rt: HostRuntime) -> Result<(), Fail> {
+fn salts_of_version_2(rt: HostRuntime) {
     let text = script(
         rt.alloc(),
         "pageshare script 2",
         "salts 5\n",
         "5",
         SCAN_SCRIPT,
-    )?;
+    )
+    .expect(&rt, "memory");
     let script = read(&rt, rt.alloc(), &text);
-    assert!(rt; script.config.salts.as_slice() == [5].as_slice());
-    assert!(rt; script.scripts[0].len() == 4);
-    Ok(())
+    holds(&rt, script.config.salts.as_slice() == [5].as_slice());
+    holds(&rt, script.scripts[0].len() == 4);
 }
 
 /// Whether a script of one guest with four requests is read, or memory was refused.
@@ -158,18 +157,17 @@ fn reads_or_wants(heap: &Refusing, text: &str) -> bool {
 }
 
 #[test]
-fn refused_growths(rt: HostRuntime) -> Result<(), Fail> {
-    let text = script(rt.alloc(), "pageshare script 1", "", "5", SCAN_SCRIPT)?;
+fn refused_growths(rt: HostRuntime) {
+    let text = script(rt.alloc(), "pageshare script 1", "", "5", SCAN_SCRIPT).expect(&rt, "memory");
     for first in 0..100 {
         let heap = Refusing::new(rt.alloc(), first, 0);
-        assert!(rt; reads_or_wants(&heap, &text), "request {first}");
-        assert!(rt; heap.holds_nothing());
+        holds_at(&rt, first, reads_or_wants(&heap, &text));
+        holds(&rt, heap.holds_nothing());
         if !heap.has_refused() {
-            return Ok(());
+            return;
         }
     }
-    assert!(rt; false, "no growth is the last");
-    Ok(())
+    panic!(rt; "no growth is the last");
 }
 
 fn read_journal_text(rt: &impl Abort, alloc: Global, text: &str) -> Journal<Global> {
@@ -189,10 +187,10 @@ fn has_close_alone(journal: &Journal<Global>) -> bool {
 #[test]
 fn a_journal_is_read(rt: HostRuntime) {
     let journal = read_journal_text(&rt, rt.alloc(), CLOSE_ALONE);
-    assert_eq!(rt; journal.frames, 1);
-    assert!(rt; journal.pages.as_slice() == [1].as_slice());
-    assert!(rt; journal.salts.as_slice() == [0].as_slice());
-    assert!(rt; has_close_alone(&journal));
+    equal(&rt, journal.frames, 1);
+    holds(&rt, journal.pages.as_slice() == [1].as_slice());
+    holds(&rt, journal.salts.as_slice() == [0].as_slice());
+    holds(&rt, has_close_alone(&journal));
 }
 
 /// Makes a journal of two guests whose equal pages are proposed, with this first line and this line of salts.
@@ -211,20 +209,20 @@ fn has_shape(journal: &Journal<Global>, salts: &[u32]) -> bool {
 }
 
 #[test]
-fn salts_are_read(rt: HostRuntime) -> Result<(), Fail> {
-    let text = two_guests(rt.alloc(), "pageshare journal 2", "salts 7 4294967295\n")?;
+fn salts_are_read(rt: HostRuntime) {
+    let text = two_guests(rt.alloc(), "pageshare journal 2", "salts 7 4294967295\n").expect(
+        &rt, "memory",
+    );
     let journal = read_journal_text(&rt, rt.alloc(), &text);
     let salts = [7, 4_294_967_295];
-    assert!(rt; journal.salts.as_slice() == salts.as_slice());
-    assert!(rt; has_shape(&journal, &salts));
-    assert_eq!(rt; journal.entries.len(), 4);
-    Ok(())
+    holds(&rt, journal.salts.as_slice() == salts.as_slice());
+    holds(&rt, has_shape(&journal, &salts));
+    equal(&rt, journal.entries.len(), 4);
 }
 
 #[test]
-fn salts_of_version_1_are_0(rt: HostRuntime) -> Result<(), Fail> {
-    let text = two_guests(rt.alloc(), "pageshare journal 1", "")?;
+fn salts_of_version_1_are_0(rt: HostRuntime) {
+    let text = two_guests(rt.alloc(), "pageshare journal 1", "").expect(&rt, "memory");
     let journal = read_journal_text(&rt, rt.alloc(), &text);
-    assert!(rt; journal.salts.as_slice() == [0, 0].as_slice());
-    Ok(())
+    holds(&rt, journal.salts.as_slice() == [0, 0].as_slice());
 }

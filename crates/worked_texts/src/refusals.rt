@@ -1,4 +1,5 @@
 //! Each growth of memory refused in turn.
+use crate::checks::{equal_at, holds, holds_at};
 use crate::engine::{Engine, served_in};
 use crate::journals::{CLOSE_ALONE, ZEROS};
 use crate::lines::{is_fault, is_report, is_verdict};
@@ -44,16 +45,17 @@ fn check_refusals<T: Threads + Wait + Sync + Abort>(
 ) {
     for first in 0..1000 {
         let heap = Refusing::new(alloc, first, 0);
-        assert!(rt;
+        holds_at(
+            rt,
+            first,
             serves_or_wants(rt, alloc, &heap, engine, text, output),
-            "request {first}"
         );
-        assert!(rt; heap.holds_nothing());
+        holds(rt, heap.holds_nothing());
         if !heap.has_refused() {
             return;
         }
     }
-    assert!(rt; false, "no growth is the last");
+    panic!(rt; "no growth is the last");
 }
 
 #[test]
@@ -97,13 +99,13 @@ fn reads_or_wants(heap: &Refusing, text: &str) -> bool {
 fn refused_read_journal(rt: HostRuntime) {
     for first in 0..1000 {
         let heap = Refusing::new(rt.alloc(), first, 0);
-        assert!(rt; reads_or_wants(&heap, CLOSE_ALONE), "request {first}");
-        assert!(rt; heap.holds_nothing());
+        holds_at(&rt, first, reads_or_wants(&heap, CLOSE_ALONE));
+        holds(&rt, heap.holds_nothing());
         if !heap.has_refused() {
             return;
         }
     }
-    assert!(rt; false, "no growth is the last");
+    panic!(rt; "no growth is the last");
 }
 
 /// Returns what a comparison of a line gives: whether it is the wanted line, `None` if memory was refused.
@@ -118,13 +120,13 @@ fn refused_report_line(rt: HostRuntime) {
     for first in 0..100 {
         let heap = Refusing::new(rt.alloc(), first, 0);
         let compared = is_report(&heap, &report, words);
-        assert_eq!(rt; compared, due(&heap), "request {first}");
-        assert!(rt; heap.holds_nothing());
+        equal_at(&rt, first, compared, due(&heap));
+        holds(&rt, heap.holds_nothing());
         if !heap.has_refused() {
             return;
         }
     }
-    assert!(rt; false, "no growth is the last");
+    panic!(rt; "no growth is the last");
 }
 
 #[test]
@@ -132,9 +134,9 @@ fn refused_fault_line(rt: HostRuntime) {
     for first in 0..2 {
         let heap = Refusing::new(rt.alloc(), first, 0);
         let compared = is_fault(&heap, &TextFault::Count, "fault count");
-        assert_eq!(rt; compared, due(&heap), "request {first}");
-        assert!(rt; heap.holds_nothing());
-        assert!(rt; heap.has_refused() == (first == 0));
+        equal_at(&rt, first, compared, due(&heap));
+        holds(&rt, heap.holds_nothing());
+        holds(&rt, heap.has_refused() == (first == 0));
     }
 }
 
@@ -143,7 +145,7 @@ fn refused_verdict_line(rt: HostRuntime) {
     for first in 0..100 {
         let heap = Refusing::new(rt.alloc(), first, 0);
         let compared = is_verdict(&heap, 0, &Verdict::Closed, "0 closed");
-        assert_eq!(rt; compared, due(&heap), "request {first}");
-        assert!(rt; heap.holds_nothing());
+        equal_at(&rt, first, compared, due(&heap));
+        holds(&rt, heap.holds_nothing());
     }
 }

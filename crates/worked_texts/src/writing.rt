@@ -1,8 +1,8 @@
 //! Journals, written and read again.
+use crate::checks::{holds, holds_at};
 use refusing::Refusing;
 use share_text::{read_journal, write_journal};
 use std::alloc::{AllocError, Global};
-use std::test::Fail;
 
 /// Makes a journal with a request of each kind, with this first line and this line of salts.
 fn requests(alloc: Global, first: &str, salts: &str) -> Result<String, AllocError> {
@@ -30,21 +30,22 @@ fn is_written_as(alloc: Global, text: &[u8], wanted: &str) -> bool {
 #[test]
 fn short_texts_are_written_as_they_were_read(rt: HostRuntime) {
     let close = "pageshare journal 1\nframes 1\npages 1\n0 close\nend 1\n";
-    assert!(rt; is_written_as(rt.alloc(), close.as_bytes(), close));
+    holds(&rt, is_written_as(rt.alloc(), close.as_bytes(), close));
     let none = "pageshare journal 1\nframes 1\npages 1\nend 0\n";
-    assert!(rt; is_written_as(rt.alloc(), none.as_bytes(), none));
+    holds(&rt, is_written_as(rt.alloc(), none.as_bytes(), none));
 }
 
 /// Salts that are all 0 are written as none, in version 1.
 #[test]
-fn texts_are_written_as_they_were_read(rt: HostRuntime) -> Result<(), Fail> {
-    let first = requests(rt.alloc(), "pageshare journal 1", "")?;
-    assert!(rt; is_written_as(rt.alloc(), first.as_bytes(), &first));
-    let second = requests(rt.alloc(), "pageshare journal 2", "salts 0 4294967295\n")?;
-    assert!(rt; is_written_as(rt.alloc(), second.as_bytes(), &second));
-    let zeros = requests(rt.alloc(), "pageshare journal 2", "salts 0 0\n")?;
-    assert!(rt; is_written_as(rt.alloc(), zeros.as_bytes(), &first));
-    Ok(())
+fn texts_are_written_as_they_were_read(rt: HostRuntime) {
+    let first = requests(rt.alloc(), "pageshare journal 1", "").expect(&rt, "memory");
+    holds(&rt, is_written_as(rt.alloc(), first.as_bytes(), &first));
+    let second = requests(rt.alloc(), "pageshare journal 2", "salts 0 4294967295\n").expect(
+        &rt, "memory",
+    );
+    holds(&rt, is_written_as(rt.alloc(), second.as_bytes(), &second));
+    let zeros = requests(rt.alloc(), "pageshare journal 2", "salts 0 0\n").expect(&rt, "memory");
+    holds(&rt, is_written_as(rt.alloc(), zeros.as_bytes(), &first));
 }
 
 /// Whether what is read and written with this allocator is the text, or memory was refused.
@@ -59,16 +60,15 @@ fn writes_or_wants(heap: &Refusing, text: &str) -> bool {
 }
 
 #[test]
-fn refused_growths(rt: HostRuntime) -> Result<(), Fail> {
-    let text = requests(rt.alloc(), "pageshare journal 2", "salts 1 2\n")?;
+fn refused_growths(rt: HostRuntime) {
+    let text = requests(rt.alloc(), "pageshare journal 2", "salts 1 2\n").expect(&rt, "memory");
     for first in 0..200 {
         let heap = Refusing::new(rt.alloc(), first, 0);
-        assert!(rt; writes_or_wants(&heap, &text), "request {first}");
-        assert!(rt; heap.holds_nothing());
+        holds_at(&rt, first, writes_or_wants(&heap, &text));
+        holds(&rt, heap.holds_nothing());
         if !heap.has_refused() {
-            return Ok(());
+            return;
         }
     }
-    assert!(rt; false, "no growth is the last");
-    Ok(())
+    panic!(rt; "no growth is the last");
 }

@@ -4,6 +4,7 @@ ghost use Rattle.share_rings.specs.Ends.{port_name, closed_name};
 ghost use Rattle.merge_run.specs.View.{end_names, ends_of, guest_count};
 ghost use Rattle.watched_machine.specs.View.{merger_in};
 
+use crate::checks::equal;
 use crate::guests::{LOADS, join, list_of_both, start};
 use crate::watched::{both, new_machine};
 use page_model::Report;
@@ -191,11 +192,11 @@ fn entries_never_fall(rt: HostRuntime) {
         steps: 2 * LOADS + 2,
         published: 20,
     };
-    assert_eq!(rt; served, all);
+    equal(&rt, served, all);
     let never = Tally {
         reports: READS,
         falls: 0,
     };
-    assert_eq!(rt; tally, never);
-    assert_eq!(rt; report, Report::new(202, 0, 0, 0, 0));
+    equal(&rt, tally, never);
+    equal(&rt, report, Report::new(202, 0, 0, 0, 0));
 }

@@ -1,4 +1,5 @@
 //! A machine that publishes after many requests.
+use crate::checks::{equal, holds};
 use crate::watched::{new_machine, only};
 use page_model::Report;
 use std::alloc::Global;
@@ -34,7 +35,7 @@ fn read_after_many<R: Threads + Wait + Sync + Abort>(rt: &R, alloc: Global) -> O
     let is_published = watched.publish(rt).is_ok();
     let report = watch.read();
     watched.end(rt);
-    assert!(rt; is_published);
+    holds(rt, is_published);
     report
 }
 
@@ -42,5 +43,5 @@ fn read_after_many<R: Threads + Wait + Sync + Abort>(rt: &R, alloc: Global) -> O
 #[test]
 fn published_after_a_million_requests(rt: HostRuntime) {
     let report = read_after_many(&rt, rt.alloc());
-    assert_eq!(rt; report, Some(Report::new(MANY, 0, 0, 0, 0)));
+    equal(&rt, report, Some(Report::new(MANY, 0, 0, 0, 0)));
 }

@@ -2,6 +2,7 @@
 ghost use Rattle.std.specs.Prelude.{◌≡◌, false, All, length, IfOk};
 ghost use Rattle.share_rings.specs.Closing.{has_close};
 
+use crate::checks::{equal, equal_at, holds, holds_at};
 use crate::config::config_of;
 use crate::watched::{new_machine, only};
 use crate::watching::watch_and_end;
@@ -12,7 +13,6 @@ use std::alloc::{AllocError, Allocator, Global};
 use std::process::Abort;
 use std::sync::Wait;
 use std::sync::atomic::{AtomicBool, Ordering};
-use std::test::Fail;
 use std::thread;
 use std::thread::Threads;
 use watched_machine::{Fault, Gate, Viewer, run};
@@ -49,13 +49,13 @@ fn fault_of<R: Wait + Abort>(rt: &R, heap: &Refusing) -> Option<Fault> {
 fn refused_at<R: Wait + Abort>(rt: &R, alloc: Global, n: u64) -> Refused {
     let heap = Refusing::new(alloc, n, 0);
     let fault = fault_of(rt, &heap);
-    assert!(rt; heap.holds_nothing(), "at {n}");
+    holds_at(rt, n, heap.holds_nothing());
     match fault {
         None if heap.has_refused() => Refused::Publish,
         None => Refused::Nothing,
         Some(fault) => {
-            assert!(rt; heap.has_refused(), "at {n}");
-            assert_eq!(rt; fault, Fault::OutOfMemory, "at {n}");
+            holds_at(rt, n, heap.has_refused());
+            equal_at(rt, n, fault, Fault::OutOfMemory);
             Refused::Machine
         }
     }
@@ -64,19 +64,19 @@ fn refused_at<R: Wait + Abort>(rt: &R, alloc: Global, n: u64) -> Refused {
 // The nth request for memory is refused, with n counting up until a run has no refusal: first those of the new machine,
 // then those of a publish. None of the other calls asks for any.
 #[test]
-fn each_growth_refused_in_turn(rt: HostRuntime) -> Result<(), Fail> {
+fn each_growth_refused_in_turn(rt: HostRuntime) {
     let mut publish_refused = false;
     for n in BEFORE..BEFORE + MOST {
         match refused_at(&rt, rt.alloc(), n) {
             Refused::Machine => {}
             Refused::Publish => publish_refused = true,
             Refused::Nothing => {
-                assert!(rt; publish_refused);
-                return Ok(());
+                holds(&rt, publish_refused);
+                return;
             }
         }
     }
-    Err(Fail::from("each run was refused"))
+    panic!(rt; "each run was refused")
 }
 
 /// Refuses all memory from the guest's first request on, and holds its second one back until that refused a publish.
@@ -147,6 +147,6 @@ fn refused_publishes_stop_no_run(rt: HostRuntime) {
         missed: AtomicBool::new(false),
     };
     let report = report_of_run(&rt, &heap, &miser);
-    assert!(rt; !miser.missed.load(Ordering::SeqCst));
-    assert_eq!(rt; report, Report::new(3, 0, 0, 0, 0));
+    holds(&rt, !miser.missed.load(Ordering::SeqCst));
+    equal(&rt, report, Report::new(3, 0, 0, 0, 0));
 }

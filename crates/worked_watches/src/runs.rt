@@ -3,6 +3,7 @@ ghost use Rattle.std.specs.Prelude.{◌≡◌, false, All, length, IfOk};
 ghost use Rattle.share_rings.specs.Closing.{has_close, is_close};
 ghost use Rattle.merge_run.specs.Runs.{CanBeRun};
 
+use crate::checks::{equal, equal_at, holds, holds_at};
 use crate::config::config_of;
 use page_digest::Sha256Hash;
 use page_model::{Report, Request, Verdict};
@@ -10,7 +11,6 @@ use refusing::Refusing;
 use std::alloc::{AllocError, Allocator, Global};
 use std::process::Abort;
 use std::sync::Wait;
-use std::test::Fail;
 use std::thread::Threads;
 use watched_machine::{Config, Finished, JournalFull, OpenGate, RunFault, Viewer, run};
 
@@ -57,13 +57,13 @@ fn check_and_end<R: Abort + Wait, A: Allocator>(rt: &R, finished: Finished<Sha25
     } = finished;
     let first = [Verdict::Mapped, Verdict::Closed];
     let second = [Verdict::Mapped, Verdict::Hinted, Verdict::Closed];
-    assert!(rt; verdicts.len() == 2);
-    assert_eq!(rt; verdicts[0].as_slice(), first.as_slice());
-    assert_eq!(rt; verdicts[1].as_slice(), second.as_slice());
-    assert_eq!(rt; settled.report(), Report::new(5, 2, 0, 2, 1));
+    holds(rt, verdicts.len() == 2);
+    equal(rt, verdicts[0].as_slice(), first.as_slice());
+    equal(rt, verdicts[1].as_slice(), second.as_slice());
+    equal(rt, settled.report(), Report::new(5, 2, 0, 2, 1));
     let mut watch = settled.watch().expect(rt, "a watch");
     let front = watch.read().expect(rt, "a report");
-    assert!(rt; front.entries() <= 5);
+    holds(rt, front.entries() <= 5);
     settled.end(rt);
 }
 
@@ -108,23 +108,23 @@ fn fault_on_heap<R: Threads + Wait + Abort + Sync>(
 fn is_refused<R: Threads + Wait + Abort + Sync>(rt: &R, alloc: Global, n: u64) -> bool {
     let heap = Refusing::new(alloc, n, 0);
     if let Some(fault) = fault_on_heap(rt, &heap, (2, 1, 5), false) {
-        assert!(rt; heap.has_refused(), "at {n}");
-        assert_eq!(rt; fault, RunFault::OutOfMemory, "at {n}");
+        holds_at(rt, n, heap.has_refused());
+        equal_at(rt, n, fault, RunFault::OutOfMemory);
     }
-    assert!(rt; heap.holds_nothing(), "at {n}");
+    holds_at(rt, n, heap.holds_nothing());
     heap.has_refused()
 }
 
 // The nth request for memory is refused, with n counting up until a run has no refusal: those of the run, and then
 // those of what it publishes, which stop no run.
 #[test]
-fn run_refused_in_turn(rt: HostRuntime) -> Result<(), Fail> {
+fn run_refused_in_turn(rt: HostRuntime) {
     for n in BEFORE..BEFORE + MOST {
         if !is_refused(&rt, rt.alloc(), n) {
-            return Ok(());
+            return;
         }
     }
-    Err(Fail::from("each run was refused"))
+    panic!(rt; "each run was refused")
 }
 
 /// Returns the fault of a run without memory.
@@ -135,8 +135,8 @@ fn fault_without_memory<R: Threads + Wait + Abort + Sync>(
 ) -> Option<RunFault> {
     let heap = Refusing::new(alloc, u64::MAX, 0);
     let fault = fault_on_heap(rt, &heap, numbers, true);
-    assert!(rt; heap.has_refused());
-    assert!(rt; heap.holds_nothing());
+    holds(rt, heap.has_refused());
+    holds(rt, heap.holds_nothing());
     fault
 }
 
@@ -151,7 +151,11 @@ fn out_of_memory_is_reported_last(rt: HostRuntime) {
         ((2, 1, 5), RunFault::OutOfMemory),
     ];
     for (numbers, fault) in cases {
-        assert_eq!(rt; fault_without_memory(&rt, rt.alloc(), numbers), Some(fault));
+        equal(
+            &rt,
+            fault_without_memory(&rt, rt.alloc(), numbers),
+            Some(fault),
+        );
     }
 }
 
@@ -164,6 +168,6 @@ fn faults_with_memory(rt: HostRuntime) {
     ];
     for (numbers, fault) in cases {
         let heap = Refusing::new(rt.alloc(), u64::MAX, 0);
-        assert_eq!(rt; fault_on_heap(&rt, &heap, numbers, false), Some(fault));
+        equal(&rt, fault_on_heap(&rt, &heap, numbers, false), Some(fault));
     }
 }

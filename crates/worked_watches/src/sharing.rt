@@ -2,6 +2,7 @@
 ghost use Rattle.std.specs.Prelude.{◌≡◌, false, All, length, IfOk};
 ghost use Rattle.share_rings.specs.Closing.{has_close, is_close};
 
+use crate::checks::{equal, holds};
 use crate::config::config_of;
 use page_digest::Sha256Hash;
 use page_model::{Report, Request};
@@ -9,7 +10,6 @@ use std::alloc::{AllocError, Allocator};
 use std::process::Abort;
 use std::sync::Wait;
 use std::sync::atomic::{AtomicBool, Ordering};
-use std::test::Fail;
 use std::thread;
 use std::thread::Threads;
 use watched_machine::{Gate, Viewer, run};
@@ -112,7 +112,7 @@ fn report_of_run<R: Threads + Wait + Abort + Sync, A: Allocator + Copy + Send + 
 // Two pages share a frame before the closes are sent, whoever was served first, and three are hints; so it is at the end. Each of
 // the six numbers is another.
 #[test]
-fn viewer_compares_six_numbers(rt: HostRuntime) -> Result<(), Fail> {
+fn viewer_compares_six_numbers(rt: HostRuntime) {
     let comparing = Comparing {
         before: Report::new(10, 5, 2, 4, 3),
         whole: Report::new(12, 5, 2, 4, 3),
@@ -121,9 +121,8 @@ fn viewer_compares_six_numbers(rt: HostRuntime) -> Result<(), Fail> {
         failed: AtomicBool::new(false),
     };
     let report = report_of_run(&rt, rt.alloc(), &comparing);
-    assert_eq!(rt; report, comparing.whole);
-    assert!(rt; !comparing.failed.load(Ordering::SeqCst));
-    assert!(rt; comparing.saw_before.load(Ordering::SeqCst));
-    assert!(rt; comparing.saw_whole.load(Ordering::SeqCst));
-    Ok(())
+    equal(&rt, report, comparing.whole);
+    holds(&rt, !comparing.failed.load(Ordering::SeqCst));
+    holds(&rt, comparing.saw_before.load(Ordering::SeqCst));
+    holds(&rt, comparing.saw_whole.load(Ordering::SeqCst));
 }

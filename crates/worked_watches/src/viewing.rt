@@ -2,6 +2,7 @@
 ghost use Rattle.std.specs.Prelude.{◌≡◌, false, All, length, IfOk};
 ghost use Rattle.share_rings.specs.Closing.{has_close};
 
+use crate::checks::{equal, holds};
 use crate::config::config_of;
 use page_digest::Sha256Hash;
 use page_model::{Report, Request};
@@ -83,7 +84,7 @@ fn viewer_is_shown_a_run_that_goes_on(rt: HostRuntime) {
         failed: AtomicBool::new(false),
     };
     let entries = entries_of_run(&rt, rt.alloc(), &showing);
-    assert!(rt; !showing.failed.load(Ordering::SeqCst));
-    assert_eq!(rt; showing.entries.load(Ordering::SeqCst), 4);
-    assert_eq!(rt; entries, 4);
+    holds(&rt, !showing.failed.load(Ordering::SeqCst));
+    equal(&rt, showing.entries.load(Ordering::SeqCst), 4);
+    equal(&rt, entries, 4);
 }

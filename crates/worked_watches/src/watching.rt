@@ -5,6 +5,7 @@ ghost use Rattle.watched_machine.specs.Lists.{publisher_id, told_id, watch_id};
 ghost use Rattle.watched_machine.specs.Published.{Unchanged};
 ghost use Rattle.watched_machine.specs.View.{merger_in, publisher_in};
 
+use crate::checks::{equal, holds};
 use crate::watched::{all_zeros, new_machine, one_page, only};
 use page_model::{Report, Verdict};
 use std::alloc::{Allocator, Global};
@@ -17,7 +18,7 @@ use watched_machine::{Merger, Port, Sha256Hash, Step, Told, Watch};
 fn expect_read<A: Allocator>(rt: &impl Abort, watch: &mut Watch<A>, wanted: Option<Report>)
     ensures { watch_id watch.new ≡ watch_id watch.old }
 {
-    assert_eq!(rt; watch.read(), wanted);
+    equal(rt, watch.read(), wanted);
 }
 
 // Publishes, and again if the first try was refused. After a refusal the watch reads what it read before.
@@ -53,8 +54,8 @@ fn serve_load<A: Allocator>(
     requires { 0 < guest_count (merger_in watched.old) }
     ensures { Unchanged (publisher_in watched.old) (publisher_in watched.new) }
 {
-    assert_eq!(rt; port.load(0, 0, 1), Ok(()));
-    assert_eq!(rt; watched.step(0), Ok(Step::Done));
+    equal(rt, port.load(0, 0, 1), Ok(()));
+    equal(rt, watched.step(0), Ok(Step::Done));
 }
 
 // Serves a store.
@@ -67,8 +68,8 @@ fn serve_store<A: Allocator>(
     ensures guests { guest_count (merger_in watched.new) ≡ guest_count (merger_in watched.old) }
     ensures publisher { Unchanged (publisher_in watched.old) (publisher_in watched.new) }
 {
-    assert_eq!(rt; port.store(0, 0, &[0x41]), Ok(()));
-    assert_eq!(rt; watched.step(0), Ok(Step::Done));
+    equal(rt, port.store(0, 0, &[0x41]), Ok(()));
+    equal(rt, watched.step(0), Ok(Step::Done));
 }
 
 // Lets a second watch learn from three lists: after the last of them it reads nothing older.
@@ -142,7 +143,7 @@ pub fn watch_and_end<R: Abort + Wait, A: Allocator>(
     let mut watch = watched.watch().expect(rt, "a watch");
     watch_store(rt, &mut watched, &mut port, &mut watch);
     watch_late(rt, &mut watched, &mut port, &mut watch);
-    assert_eq!(rt; port.verdict(), Some(Verdict::Mapped));
+    equal(rt, &port.verdict(), &Some(Verdict::Mapped));
     end(rt, watched, watch);
 }
 
@@ -164,9 +165,9 @@ fn a_watch_learns_and_reads(rt: HostRuntime) {
 }
 
 fn send_three(rt: &impl Abort, port: &mut Port) {
-    assert_eq!(rt; port.store(0, 5, &[0x41]), Ok(()));
-    assert_eq!(rt; port.load(0, 5, 1), Ok(()));
-    assert_eq!(rt; port.count(), Ok(()));
+    equal(rt, port.store(0, 5, &[0x41]), Ok(()));
+    equal(rt, port.load(0, 5, 1), Ok(()));
+    equal(rt, port.count(), Ok(()));
 }
 
 // Serves three requests in a round, which the watch sees once they are published.
@@ -178,12 +179,12 @@ fn watch_round<R: Threads + Wait + Sync + Abort>(
 )
     requires { watch_id watch.old ≡ publisher_id (publisher_in watched.old) }
 {
-    assert_eq!(rt; watched.round(rt, alloc, 1, 4), Ok(3));
+    equal(rt, watched.round(rt, alloc, 1, 4), Ok(3));
     expect_read(rt, watch, Some(all_zeros()));
     let told = watched.publish(rt).expect(rt, "memory");
     watch.learn(told);
     expect_read(rt, watch, Some(one_page(3)));
-    assert!(rt; watched.has_published(&watch.tell()));
+    holds(rt, watched.has_published(&watch.tell()));
 }
 
 // A round serves three requests, and until its report is published nobody reads of them.

@@ -2,6 +2,7 @@
 ghost use Rattle.std.specs.Prelude.{◌≡◌, false, All, length, IfOk};
 ghost use Rattle.share_rings.specs.Closing.{has_close, is_close};
 
+use crate::checks::{equal, holds};
 use crate::config::config_of;
 use page_digest::PageHash;
 use page_model::{HashFunction, Page, Report, Request};
@@ -9,7 +10,6 @@ use std::alloc::{AllocError, Allocator};
 use std::process::Abort;
 use std::sync::Wait;
 use std::sync::atomic::{AtomicBool, Ordering};
-use std::test::Fail;
 use std::thread;
 use std::thread::Threads;
 use watched_machine::{Gate, Viewer, run};
@@ -139,14 +139,13 @@ fn entries_of_run<R: Threads + Wait + Abort + Sync, A: Allocator + Copy + Send +
 
 // A publisher that publishes only where the merger waits would show the viewer nothing until the end.
 #[test]
-fn published_while_the_ring_is_full(rt: HostRuntime) -> Result<(), Fail> {
+fn published_while_the_ring_is_full(rt: HostRuntime) {
     let busy = Busy {
         all_sent: AtomicBool::new(false),
         shown: AtomicBool::new(false),
         missed: AtomicBool::new(false),
     };
     let entries = entries_of_run(&rt, rt.alloc(), &busy);
-    assert_eq!(rt; entries, REQUESTS + 1);
-    assert!(rt; !busy.missed.load(Ordering::SeqCst));
-    Ok(())
+    equal(&rt, entries, REQUESTS + 1);
+    holds(&rt, !busy.missed.load(Ordering::SeqCst));
 }

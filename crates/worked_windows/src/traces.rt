@@ -1,6 +1,6 @@
 //! Traces by the public calls of `window_events`.
+use crate::checks::equal;
 use std::alloc::{AllocError, Allocator};
-use std::test::Fail;
 use window_events::{Event, Mappings, Page, View};
 
 // The place of the first event that isn't possible, and what each of two pages shows then.
@@ -14,7 +14,7 @@ fn traced<A: Allocator + Clone>(
 }
 
 #[test]
-fn two_pages_share_a_frame(rt: HostRuntime) -> Result<(), Fail> {
+fn two_pages_share_a_frame(rt: HostRuntime) {
     let events = [
         Event::Guard(0),
         Event::Copy(0),
@@ -29,13 +29,12 @@ fn two_pages_share_a_frame(rt: HostRuntime) -> Result<(), Fail> {
         Event::Release(1),
         Event::Discard(0),
     ];
-    let answer = traced(rt.alloc(), &events)?;
-    assert_eq!(rt; answer, (None, Some(0), Some(9)));
-    Ok(())
+    let answer = traced(rt.alloc(), &events).expect(&rt, "memory");
+    equal(&rt, answer, (None, Some(0), Some(9)));
 }
 
 #[test]
-fn a_shown_frame_is_not_released(rt: HostRuntime) -> Result<(), Fail> {
+fn a_shown_frame_is_not_released(rt: HostRuntime) {
     let events = [
         Event::Guard(0),
         Event::Copy(0),
@@ -44,9 +43,8 @@ fn a_shown_frame_is_not_released(rt: HostRuntime) -> Result<(), Fail> {
         Event::Release(0),
         Event::Write(0, 9),
     ];
-    let answer = traced(rt.alloc(), &events)?;
-    assert_eq!(rt; answer, (Some(4), Some(7), Some(7)));
-    Ok(())
+    let answer = traced(rt.alloc(), &events).expect(&rt, "memory");
+    equal(&rt, answer, (Some(4), Some(7), Some(7)));
 }
 
 // Page 0 and the second frame, after these events.
@@ -61,7 +59,7 @@ fn page_and_frame<A: Allocator + Clone>(
 }
 
 #[test]
-fn a_mapped_page_shows_its_frame(rt: HostRuntime) -> Result<(), Fail> {
+fn a_mapped_page_shows_its_frame(rt: HostRuntime) {
     let events = [
         Event::Guard(0),
         Event::Copy(0),
@@ -77,7 +75,6 @@ fn a_mapped_page_shows_its_frame(rt: HostRuntime) -> Result<(), Fail> {
         held: Some(1),
         frame_fresh: false,
     };
-    let answer = page_and_frame(rt.alloc(), &events)?;
-    assert_eq!(rt; answer, (Some(page), Some(7)));
-    Ok(())
+    let answer = page_and_frame(rt.alloc(), &events).expect(&rt, "memory");
+    equal(&rt, answer, (Some(page), Some(7)));
 }

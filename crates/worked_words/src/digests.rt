@@ -1,4 +1,5 @@
 //! What the words of a digest's command line ask for.
+use crate::checks::{equal, equal_at};
 use crate::words::VERSION;
 use clap::error::ErrorKind;
 use command_terms::{Asked, DigestSource, DigestWords, Drawn};
@@ -6,7 +7,6 @@ use command_words::asked_of;
 use digest_text::GuestName;
 use guest_digests::Sample;
 use std::alloc::{AllocError, Global};
-use std::test::Fail;
 
 // The program's name, the command's, and these words, which spaces part.
 fn words(alloc: Global, line: &str) -> Result<Vec<String>, AllocError> {
@@ -19,7 +19,7 @@ fn words(alloc: Global, line: &str) -> Result<Vec<String>, AllocError> {
 }
 
 #[test]
-fn reads_the_words_of_a_digest(rt: HostRuntime) -> Result<(), Fail> {
+fn reads_the_words_of_a_digest(rt: HostRuntime) {
     let alloc = rt.alloc();
     let web = DigestSource::Image("web");
     let core = DigestSource::Image("/a/b-1/web.core");
@@ -70,9 +70,9 @@ fn reads_the_words_of_a_digest(rt: HostRuntime) -> Result<(), Fail> {
     ];
     for (line, source, name, salt, sample, workers, raw, progress) in asked {
         let all_memory = line.contains("--all-memory");
-        let given = words(alloc, line)?;
-        let guest = GuestName::new(name.as_bytes()).ok_or("no name")?;
-        let sample = Sample::new(sample).ok_or("no sample")?;
+        let given = words(alloc, line).expect(&rt, "memory");
+        let guest = GuestName::new(name.as_bytes()).expect(&rt, "no name");
+        let sample = Sample::new(sample).expect(&rt, "no sample");
         let due = Asked::Digest(DigestWords {
             source,
             guest,
@@ -83,13 +83,12 @@ fn reads_the_words_of_a_digest(rt: HostRuntime) -> Result<(), Fail> {
             all_memory,
             progress,
         });
-        assert_eq!(rt; asked_of(alloc, &given, VERSION).ok(), Some(due));
+        equal(&rt, &asked_of(alloc, &given, VERSION).ok(), &Some(due));
     }
-    Ok(())
 }
 
 #[test]
-fn refuses_other_words(rt: HostRuntime) -> Result<(), Fail> {
+fn refuses_other_words(rt: HostRuntime) {
     for (line, kind) in [
         ("--help", ErrorKind::DisplayHelp),
         ("--raw", ErrorKind::MissingRequiredArgument),
@@ -103,11 +102,10 @@ fn refuses_other_words(rt: HostRuntime) -> Result<(), Fail> {
         ("--sample 131072 a", ErrorKind::ValueValidation),
         ("--pid 0 --name a", ErrorKind::ValueValidation),
     ] {
-        let given = words(rt.alloc(), line)?;
+        let given = words(rt.alloc(), line).expect(&rt, "memory");
         let error = asked_of(rt.alloc(), &given, VERSION)
             .err()
-            .ok_or("no error")?;
-        assert_eq!(rt; error.kind(), kind, "{line}");
+            .expect(&rt, "no error");
+        equal_at(&rt, line, error.kind(), kind);
     }
-    Ok(())
 }

@@ -1,10 +1,10 @@
 //! What the words of a merge's command line ask for.
+use crate::checks::{equal, equal_at};
 use crate::words::VERSION;
 use clap::error::ErrorKind;
 use command_terms::{Asked, Drawn, FleetWords};
 use command_words::asked_of;
 use std::alloc::{AllocError, Global};
-use std::test::Fail;
 
 // The program's name, the command's, and these words, which spaces part.
 fn words(alloc: Global, line: &str) -> Result<Vec<String>, AllocError> {
@@ -39,7 +39,7 @@ fn fleet(
 }
 
 #[test]
-fn reads_the_words_of_a_fleet(rt: HostRuntime) -> Result<(), Fail> {
+fn reads_the_words_of_a_fleet(rt: HostRuntime) {
     let alloc = rt.alloc();
     for (line, json, in_pages, pairs, hosts, progress) in [
         ("a b", false, false, None, None, Drawn::Auto),
@@ -55,15 +55,14 @@ fn reads_the_words_of_a_fleet(rt: HostRuntime) -> Result<(), Fail> {
             Drawn::Always,
         ),
     ] {
-        let given = words(alloc, line)?;
-        let due = fleet(alloc, json, in_pages, pairs, hosts, progress)?;
-        assert_eq!(rt; asked_of(alloc, &given, VERSION).ok(), Some(due));
+        let given = words(alloc, line).expect(&rt, "memory");
+        let due = fleet(alloc, json, in_pages, pairs, hosts, progress).expect(&rt, "memory");
+        equal(&rt, &asked_of(alloc, &given, VERSION).ok(), &Some(due));
     }
-    Ok(())
 }
 
 #[test]
-fn refuses_other_words_of_a_fleet(rt: HostRuntime) -> Result<(), Fail> {
+fn refuses_other_words_of_a_fleet(rt: HostRuntime) {
     for (line, kind) in [
         ("--help", ErrorKind::DisplayHelp),
         ("--json", ErrorKind::MissingRequiredArgument),
@@ -72,11 +71,10 @@ fn refuses_other_words_of_a_fleet(rt: HostRuntime) -> Result<(), Fail> {
         ("--unit kib a", ErrorKind::InvalidValue),
         ("--workers 2 a", ErrorKind::UnknownArgument),
     ] {
-        let given = words(rt.alloc(), line)?;
+        let given = words(rt.alloc(), line).expect(&rt, "memory");
         let error = asked_of(rt.alloc(), &given, VERSION)
             .err()
-            .ok_or("no error")?;
-        assert_eq!(rt; error.kind(), kind, "{line}");
+            .expect(&rt, "no error");
+        equal_at(&rt, line, error.kind(), kind);
     }
-    Ok(())
 }

@@ -4,9 +4,9 @@
 #![tactic(auto)]
 
 #[cfg(test)]
-mod digests;
+mod checks;
 #[cfg(test)]
-mod equal;
+mod digests;
 #[cfg(test)]
 mod fleets;
 #[cfg(test)]

@@ -1,10 +1,9 @@
 //! The lines that show how far the work is.
-use crate::equal::equal;
+use crate::checks::equal;
 use command_terms::{ReadSoFar, RunSoFar};
-use std::test::Fail;
 
 #[test]
-fn how_much_was_read(rt: HostRuntime) -> Result<(), Fail> {
+fn how_much_was_read(rt: HostRuntime) {
     for (done, total, elapsed, text) in [
         (0, 0, 0, "100 %  0 of 0 MiB  0 MiB/s"),
         (0, 1024, 100, "  0 %  0 of 4 MiB  0 MiB/s"),
@@ -32,13 +31,18 @@ fn how_much_was_read(rt: HostRuntime) -> Result<(), Fail> {
             total,
             elapsed,
         };
-        equal(&rt, format!(in rt.alloc(); "{so_far}")?.as_str(), text);
+        equal(
+            &rt,
+            format!(in rt.alloc(); "{so_far}")
+                .expect(&rt, "memory")
+                .as_str(),
+            text,
+        );
     }
-    Ok(())
 }
 
 #[test]
-fn how_far_a_run_is(rt: HostRuntime) -> Result<(), Fail> {
+fn how_far_a_run_is(rt: HostRuntime) {
     let so_far = RunSoFar {
         requests: 3_000,
         entries: 1_000,
@@ -49,6 +53,11 @@ fn how_far_a_run_is(rt: HostRuntime) -> Result<(), Fail> {
     };
     let shown =
         " 33 %  1000 of 3000 requests  4000 a second  12 pages mapped, 8 shared, 5 reclaimed";
-    equal(&rt, format!(in rt.alloc(); "{so_far}")?.as_str(), shown);
-    Ok(())
+    equal(
+        &rt,
+        format!(in rt.alloc(); "{so_far}")
+            .expect(&rt, "memory")
+            .as_str(),
+        shown,
+    );
 }

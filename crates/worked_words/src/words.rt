@@ -1,10 +1,10 @@
 //! What the words of a command line ask for.
-use crate::equal::equal;
+use crate::checks::{equal, holds};
 use clap::error::ErrorKind;
 use command_terms::{Asked, Drawn, EstimateWords, Task, Work};
 use command_words::asked_of;
 use std::alloc::{AllocError, Global};
-use std::test::Fail;
+use std::process::Abort;
 
 /// What the program is said to be: nothing depends on it.
 pub const VERSION: &str = "1.2.3";
@@ -26,7 +26,7 @@ fn words(alloc: Global, texts: &[&str]) -> Result<Vec<String>, AllocError> {
 }
 
 #[test]
-fn reads_the_words(rt: HostRuntime) -> Result<(), Fail> {
+fn reads_the_words(rt: HostRuntime) {
     let alloc = rt.alloc();
     let asked: [(&[&str], Work, Option<&str>); 9] = [
         (&["replay"], Work::Replay, None),
@@ -52,9 +52,9 @@ fn reads_the_words(rt: HostRuntime) -> Result<(), Fail> {
         ),
     ];
     for (texts, work, file) in asked {
-        let given = words(alloc, texts)?;
+        let given = words(alloc, texts).expect(&rt, "memory");
         let due = Asked::Text(Task { work, file });
-        assert_eq!(rt; asked_of(alloc, &given, VERSION).ok(), Some(due));
+        equal(&rt, &asked_of(alloc, &given, VERSION).ok(), &Some(due));
     }
     let mistakes: [(&[&str], ErrorKind); 25] = [
         (&[], ErrorKind::MissingSubcommand),
@@ -108,37 +108,42 @@ fn reads_the_words(rt: HostRuntime) -> Result<(), Fail> {
         ),
     ];
     for (texts, kind) in mistakes {
-        let given = words(alloc, texts)?;
-        let error = asked_of(alloc, &given, VERSION).err().ok_or("no error")?;
+        let given = words(alloc, texts).expect(&rt, "memory");
+        let error = asked_of(alloc, &given, VERSION)
+            .err()
+            .expect(&rt, "no error");
         equal(&rt, error.kind(), kind);
     }
-    Ok(())
 }
 
-fn estimate_of<'a>(alloc: Global, words: &'a [String]) -> Result<EstimateWords<'a>, Fail> {
-    match asked_of(alloc, words, VERSION).map_err(|_| "an error")? {
-        Asked::Estimate(asked) => Ok(asked),
-        _ => Err("another command")?,
+fn estimate_of<'a>(rt: &impl Abort, alloc: Global, words: &'a [String]) -> EstimateWords<'a> {
+    match asked_of(alloc, words, VERSION) {
+        Ok(Asked::Estimate(asked)) => asked,
+        Ok(_) => panic!(rt; "another command"),
+        Err(_) => panic!(rt; "an error"),
     }
 }
 
 #[test]
-fn reads_the_words_of_an_estimate(rt: HostRuntime) -> Result<(), Fail> {
-    let given = words(rt.alloc(), &["estimate", "a.raw", "b.core"])?;
-    let asked = estimate_of(rt.alloc(), &given)?;
+fn reads_the_words_of_an_estimate(rt: HostRuntime) {
+    let given = words(rt.alloc(), &["estimate", "a.raw", "b.core"]).expect(&rt, "memory");
+    let asked = estimate_of(&rt, rt.alloc(), &given);
     equal(&rt, asked.images.len(), 2);
     equal(&rt, asked.images.first().copied(), Some("a.raw"));
     equal(&rt, asked.images.last().copied(), Some("b.core"));
-    assert!(rt; asked.salts.is_empty() && asked.processes.is_empty());
+    holds(&rt, asked.salts.is_empty());
+    holds(&rt, asked.processes.is_empty());
     equal(&rt, asked.workers, None);
-    assert!(rt; !asked.raw && !asked.json && !asked.in_pages && !asked.all_memory);
+    holds(&rt, !asked.raw);
+    holds(&rt, !asked.json);
+    holds(&rt, !asked.in_pages);
+    holds(&rt, !asked.all_memory);
     equal(&rt, asked.svg, None);
     equal(&rt, asked.progress, Drawn::Auto);
-    Ok(())
 }
 
 #[test]
-fn reads_the_options_of_an_estimate(rt: HostRuntime) -> Result<(), Fail> {
+fn reads_the_options_of_an_estimate(rt: HostRuntime) {
     let options = [
         "estimate",
         "--salts=0,4294967295",
@@ -153,20 +158,20 @@ fn reads_the_options_of_an_estimate(rt: HostRuntime) -> Result<(), Fail> {
         "a.raw",
         "a.raw",
     ];
-    let given = words(rt.alloc(), &options)?;
-    let asked = estimate_of(rt.alloc(), &given)?;
+    let given = words(rt.alloc(), &options).expect(&rt, "memory");
+    let asked = estimate_of(&rt, rt.alloc(), &given);
     equal(&rt, asked.images.len(), 2);
     equal(&rt, asked.images.last().copied(), Some("a.raw"));
     equal(&rt, asked.salts.as_slice(), [0, u32::MAX].as_slice());
     equal(&rt, asked.workers, Some(64));
-    assert!(rt; asked.raw && asked.json);
+    holds(&rt, asked.raw);
+    holds(&rt, asked.json);
     equal(&rt, asked.svg, Some("a.svg"));
     equal(&rt, asked.progress, Drawn::Never);
-    Ok(())
 }
 
 #[test]
-fn reads_the_processes_of_an_estimate(rt: HostRuntime) -> Result<(), Fail> {
+fn reads_the_processes_of_an_estimate(rt: HostRuntime) {
     let options = [
         "estimate",
         "--pid",
@@ -178,15 +183,15 @@ fn reads_the_processes_of_an_estimate(rt: HostRuntime) -> Result<(), Fail> {
         "--all-memory",
         "--pid=4294967295",
     ];
-    let given = words(rt.alloc(), &options)?;
-    let asked = estimate_of(rt.alloc(), &given)?;
+    let given = words(rt.alloc(), &options).expect(&rt, "memory");
+    let asked = estimate_of(&rt, rt.alloc(), &given);
     equal(&rt, asked.images.as_slice(), ["a.raw"].as_slice());
     equal(&rt, asked.processes.as_slice(), [4711, u32::MAX].as_slice());
     equal(&rt, asked.salts.as_slice(), [1, 2, 3].as_slice());
-    assert!(rt; asked.in_pages && asked.all_memory);
+    holds(&rt, asked.in_pages);
+    holds(&rt, asked.all_memory);
     equal(&rt, (asked.guests(), asked.others()), (3, 2));
     equal(&rt, asked.process_of(0), None);
     equal(&rt, asked.process_of(2), Some(u32::MAX));
     equal(&rt, asked.process_of(3), None);
-    Ok(())
 }

@@ -1,11 +1,11 @@
 //! Pages that are others at each read.
+use crate::checks::holds;
 use crate::lists::pages::{Unreadable, digests_of, sampling_of};
 use memory_pages::PageSource;
 use page_model::Page;
 use std::alloc::Global;
 use std::process::Abort;
 use std::sync::atomic::{AtomicU64, Ordering};
-use std::test::Fail;
 use std::thread::Threads;
 
 // Each of 130 pages begins with how many reads there were before.
@@ -44,7 +44,7 @@ fn copies<R: Threads + Abort + Sync>(rt: &R, alloc: Global) -> ([u64; 3], u64) {
         .ok()
         .expect(rt, "digests");
     let lines = found.lines.as_slice();
-    assert!(rt; lines.len() == 3);
+    holds(rt, lines.len() == 3);
     let mut copies = [lines[0].copies, lines[1].copies, lines[2].copies];
     copies.sort_unstable();
     (copies, source.reads.load(Ordering::SeqCst))
@@ -52,7 +52,6 @@ fn copies<R: Threads + Abort + Sync>(rt: &R, alloc: Global) -> ([u64; 3], u64) {
 
 // One worker reads them by three runs, none of them twice.
 #[test]
-fn read_once(rt: HostRuntime) -> Result<(), Fail> {
-    assert!(rt; copies(&rt, rt.alloc()) == ([2, 64, 64], 3));
-    Ok(())
+fn read_once(rt: HostRuntime) {
+    holds(&rt, copies(&rt, rt.alloc()) == ([2, 64, 64], 3));
 }

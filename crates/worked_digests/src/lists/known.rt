@@ -1,12 +1,12 @@
 //! The digests of a few pages. sha256sum computed them.
+use crate::checks::{equal, holds, holds_at};
 use crate::lists::pages::{Memory, digests_of, memory_of, sampling_of};
 use guest_digests::DigestLine;
 use memory_pages::ReadFault;
 use refusing::Refusing;
-use std::alloc::{AllocError, Global};
+use std::alloc::Global;
 use std::process::Abort;
 use std::sync::atomic::Ordering;
-use std::test::Fail;
 use std::thread::Threads;
 
 // Under salt 0: the pages that end with 3, 5, 2 and 1, and the page of zeros.
@@ -39,7 +39,7 @@ fn line(digest: u128, copies: u64) -> DigestLine {
 }
 
 // Nine pages: twice four, and one.
-fn nine_pages(rt: &impl Abort, alloc: Global, readable: u32) -> Result<Memory, AllocError> {
+fn nine_pages(rt: &impl Abort, alloc: Global, readable: u32) -> Memory {
     let (one, two, three, five) = (Some(1), Some(2), Some(3), Some(5));
     let lasts = [None, one, two, one, three, None, one, five, None];
     memory_of(rt, alloc, &lasts, readable)
@@ -52,20 +52,20 @@ fn are_lines<R: Threads + Abort + Sync>(
     salt: u32,
     every: u32,
     lines: &[DigestLine],
-) -> Result<bool, AllocError> {
-    let memory = nine_pages(rt, alloc, 9)?;
+) -> bool {
+    let memory = nine_pages(rt, alloc, 9);
     let sampling = sampling_of(rt, salt, every);
     let found = digests_of(rt, alloc, 2, sampling, &memory)
         .ok()
         .expect(rt, "digests");
-    assert_eq!(rt; found.pages, 9);
-    assert_eq!(rt; found.sampling, sampling);
-    assert_eq!(rt; memory.reads.load(Ordering::SeqCst), 9);
-    Ok(found.lines.as_slice() == lines)
+    equal(rt, found.pages, 9);
+    equal(rt, found.sampling, sampling);
+    equal(rt, memory.reads.load(Ordering::SeqCst), 9);
+    found.lines.as_slice() == lines
 }
 
 #[test]
-fn all(rt: HostRuntime) -> Result<(), Fail> {
+fn all(rt: HostRuntime) {
     let lines = [
         line(THREE, 1),
         line(FIVE, 1),
@@ -73,12 +73,11 @@ fn all(rt: HostRuntime) -> Result<(), Fail> {
         line(TWO, 1),
         line(ONE, 3),
     ];
-    assert!(rt; are_lines(&rt, rt.alloc(), 0, 1, &lines)?);
-    Ok(())
+    holds(&rt, are_lines(&rt, rt.alloc(), 0, 1, &lines));
 }
 
 #[test]
-fn salted(rt: HostRuntime) -> Result<(), Fail> {
+fn salted(rt: HostRuntime) {
     let lines = [
         line(SALTED_THREE, 1),
         line(SALTED_TWO, 1),
@@ -86,28 +85,25 @@ fn salted(rt: HostRuntime) -> Result<(), Fail> {
         line(SALTED_FIVE, 1),
         line(SALTED_ONE, 3),
     ];
-    assert!(rt; are_lines(&rt, rt.alloc(), 7, 1, &lines)?);
-    Ok(())
+    holds(&rt, are_lines(&rt, rt.alloc(), 7, 1, &lines));
 }
 
 // The last digit in base 4 is 0 of three and five, 3 of two, and 2 of one and of zeros.
 #[test]
-fn sampled(rt: HostRuntime) -> Result<(), Fail> {
+fn sampled(rt: HostRuntime) {
     let halves = [line(THREE, 1), line(FIVE, 1), line(ZEROS, 3), line(ONE, 3)];
-    assert!(rt; are_lines(&rt, rt.alloc(), 0, 2, &halves)?);
+    holds(&rt, are_lines(&rt, rt.alloc(), 0, 2, &halves));
     let quarters = [line(THREE, 1), line(FIVE, 1), line(ZEROS, 3)];
-    assert!(rt; are_lines(&rt, rt.alloc(), 0, 4, &quarters)?);
+    holds(&rt, are_lines(&rt, rt.alloc(), 0, 4, &quarters));
     let zeros = [line(ZEROS, 3)];
-    assert!(rt; are_lines(&rt, rt.alloc(), 0, 65_536, &zeros)?);
-    Ok(())
+    holds(&rt, are_lines(&rt, rt.alloc(), 0, 65_536, &zeros));
 }
 
 #[test]
-fn unreadable(rt: HostRuntime) -> Result<(), Fail> {
-    let memory = nine_pages(&rt, rt.alloc(), 8)?;
+fn unreadable(rt: HostRuntime) {
+    let memory = nine_pages(&rt, rt.alloc(), 8);
     let found = digests_of(&rt, rt.alloc(), 2, sampling_of(&rt, 0, 1), &memory);
-    assert!(rt; matches!(found, Err(ReadFault::Read(_))));
-    Ok(())
+    holds(&rt, matches!(found, Err(ReadFault::Read(_))));
 }
 
 // Returns how many lines there are, or none if memory is refused.
@@ -125,16 +121,16 @@ fn count_by<R: Threads + Abort + Sync>(
 
 // Request number n is refused, with n counting up until none is.
 #[test]
-fn refused_in_turn(rt: HostRuntime) -> Result<(), Fail> {
-    let memory = nine_pages(&rt, rt.alloc(), 9)?;
+fn refused_in_turn(rt: HostRuntime) {
+    let memory = nine_pages(&rt, rt.alloc(), 9);
     for n in 0..MOST_REQUESTS {
         let heap = Refusing::new(rt.alloc(), n, 0);
         let count = count_by(&rt, &heap, &memory);
-        assert!(rt; heap.has_refused() == count.is_none(), "at {n}");
-        assert!(rt; heap.holds_nothing(), "at {n}");
+        holds_at(&rt, n, heap.has_refused() == count.is_none());
+        holds_at(&rt, n, heap.holds_nothing());
         if count.is_some() {
-            assert_eq!(rt; count, Some(5));
-            return Ok(());
+            equal(&rt, count, Some(5));
+            return;
         }
     }
     panic!(rt; "no request is the last")

@@ -1,10 +1,10 @@
 //! Many pages, of which each has a content of its own.
+use crate::checks::holds;
 use crate::lists::pages::{Unreadable, digests_of, sampling_of};
 use memory_pages::PageSource;
 use page_model::Page;
 use std::alloc::Global;
 use std::process::Abort;
-use std::test::Fail;
 use std::thread::Threads;
 
 // Writes a page's number to its first eight bytes.
@@ -43,7 +43,7 @@ impl PageSource for Numbered {
 
 // How many lines the digests of this many pages have.
 fn line_count<R: Threads + Abort + Sync>(rt: &R, alloc: Global, count: u32, workers: u32) -> usize {
-    assert!(rt; workers >= 1);
+    holds(rt, workers >= 1);
     let source = Numbered { count };
     let found = digests_of(rt, alloc, workers, sampling_of(rt, 0, 1), &source)
         .ok()
@@ -52,7 +52,6 @@ fn line_count<R: Threads + Abort + Sync>(rt: &R, alloc: Global, count: u32, work
 }
 
 #[test]
-fn many_pages(rt: HostRuntime) -> Result<(), Fail> {
-    assert!(rt; line_count(&rt, rt.alloc(), 100_000, 2) == 100_000);
-    Ok(())
+fn many_pages(rt: HostRuntime) {
+    holds(&rt, line_count(&rt, rt.alloc(), 100_000, 2) == 100_000);
 }

@@ -1,10 +1,11 @@
 //! Pages in memory, and how often they are read.
 ghost use Rattle.std.specs.Prelude.{◌<◌, ◌^◌, vec_len};
 
+use crate::checks::{equal, holds};
 use guest_digests::{GuestDigests, Sample, Sampling, digest_pages};
 use memory_pages::{PageSource, Progress, ReadFault};
 use page_model::Page;
-use std::alloc::{AllocError, Allocator, Global};
+use std::alloc::{Allocator, Global};
 use std::process::Abort;
 use std::sync::atomic::{AtomicU64, Ordering};
 use std::thread::Threads;
@@ -69,23 +70,18 @@ fn page_of(last: Option<u8>) -> Page {
 }
 
 /// Makes a page for each of these last bytes. Only the first `readable` of them can be read.
-pub fn memory_of(
-    rt: &impl Abort,
-    alloc: Global,
-    lasts: &[Option<u8>],
-    readable: u32,
-) -> Result<Memory, AllocError> {
-    assert!(rt; lasts.len() < 1 << 32);
-    let mut pages = Vec::with_capacity(alloc, lasts.len())?;
+pub fn memory_of(rt: &impl Abort, alloc: Global, lasts: &[Option<u8>], readable: u32) -> Memory {
+    holds(rt, lasts.len() < 1 << 32);
+    let mut pages = Vec::with_capacity(alloc, lasts.len()).expect(rt, "memory");
     for last in lasts {
         pages.push_reserved(page_of(*last));
     }
     let reads = AtomicU64::new(0);
-    Ok(Memory {
+    Memory {
         pages,
         readable,
         reads,
-    })
+    }
 }
 
 /// Returns the sampling of a salt and a sample that there is.
@@ -101,12 +97,12 @@ pub fn digests_of<R: Threads + Abort + Sync, S: PageSource, A: Allocator + Clone
     sampling: Sampling,
     source: &S,
 ) -> Result<GuestDigests<A>, ReadFault<S::Fault>> {
-    assert!(rt; workers >= 1);
+    holds(rt, workers >= 1);
     let pages = AtomicU64::new(0);
     let progress = ReadSoFar { pages };
     let found = digest_pages(rt, alloc, workers, sampling, source, &progress);
     if let Ok(found) = &found {
-        assert_eq!(rt; progress.pages.load(Ordering::SeqCst), found.pages);
+        equal(rt, progress.pages.load(Ordering::SeqCst), found.pages);
     }
     found
 }

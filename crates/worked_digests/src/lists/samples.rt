@@ -1,17 +1,17 @@
 //! Which numbers are samples.
+use crate::checks::holds_at;
 use guest_digests::Sample;
-use std::test::Fail;
 
 #[test]
-fn powers_of_two(rt: HostRuntime) -> Result<(), Fail> {
+fn powers_of_two(rt: HostRuntime) {
     for every in [1, 2, 4, 1_024, 32_768, 65_536] {
-        assert!(rt;
+        holds_at(
+            &rt,
+            every,
             Sample::new(every).is_some_and(|sample| sample.get() == every),
-            "at {every}"
         );
     }
     for every in [0, 3, 6, 65_535, 65_537, 131_072, u32::MAX] {
-        assert!(rt; Sample::new(every).is_none(), "at {every}");
+        holds_at(&rt, every, Sample::new(every).is_none());
     }
-    Ok(())
 }

@@ -1,11 +1,11 @@
 //! Reads each of which waits for another, so that two workers are needed.
+use crate::checks::holds;
 use crate::lists::pages::{Memory, Unreadable, digests_of, memory_of, sampling_of};
 use memory_pages::PageSource;
 use page_model::Page;
-use std::alloc::{AllocError, Global};
+use std::alloc::Global;
 use std::process::Abort;
 use std::sync::atomic::{AtomicBool, AtomicU64, Ordering};
-use std::test::Fail;
 use std::thread;
 use std::thread::Threads;
 
@@ -51,11 +51,8 @@ impl PageSource for Awaited {
 }
 
 /// Whether two workers read at the same time, and how many pages all lines list.
-fn are_read_together<R: Threads + Abort + Sync>(
-    rt: &R,
-    alloc: Global,
-) -> Result<(bool, u64), AllocError> {
-    let memory = memory_of(rt, alloc, &[Some(1); 128], 128)?;
+fn are_read_together<R: Threads + Abort + Sync>(rt: &R, alloc: Global) -> (bool, u64) {
+    let memory = memory_of(rt, alloc, &[Some(1); 128], 128);
     let source = Awaited {
         memory,
         came: AtomicU64::new(0),
@@ -65,13 +62,12 @@ fn are_read_together<R: Threads + Abort + Sync>(
         .ok()
         .expect(rt, "digests");
     let lines = found.lines.as_slice();
-    assert!(rt; lines.len() == 1);
-    Ok((!source.missed.load(Ordering::SeqCst), lines[0].copies))
+    holds(rt, lines.len() == 1);
+    (!source.missed.load(Ordering::SeqCst), lines[0].copies)
 }
 
 // A worker has 64 pages at least. On one thread, the first 64 would wait in vain for the others.
 #[test]
-fn by_two_workers(rt: HostRuntime) -> Result<(), Fail> {
-    assert!(rt; are_read_together(&rt, rt.alloc())? == (true, 128));
-    Ok(())
+fn by_two_workers(rt: HostRuntime) {
+    holds(&rt, are_read_together(&rt, rt.alloc()) == (true, 128));
 }

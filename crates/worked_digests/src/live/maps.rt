@@ -1,9 +1,9 @@
 //! Lists of a process's mappings, as the system writes them.
+use crate::checks::{equal, holds, holds_at};
 use live_memory::{LiveFault, WritableMapping, writable_mappings};
 use memory_images::Segment;
 use std::alloc::Global;
 use std::process::Abort;
-use std::test::Fail;
 
 // The mappings that are kept of a text, or the number of the line at fault.
 fn kept(rt: &impl Abort, alloc: Global, maps: &[u8]) -> Result<Vec<WritableMapping>, u64> {
@@ -32,7 +32,7 @@ ffffffffff600000-ffffffffff601000 --xp 00000000 00:00 0                  [vsysca
 ";
 
 #[test]
-fn keeps_what_is_no_files(rt: HostRuntime) -> Result<(), Fail> {
+fn keeps_what_is_no_files(rt: HostRuntime) {
     let found = kept(&rt, rt.alloc(), MAPS).ok().expect(&rt, "segments");
     let due = [
         (0x559363eb7000, 0x21000),
@@ -43,16 +43,18 @@ fn keeps_what_is_no_files(rt: HostRuntime) -> Result<(), Fail> {
         (0x7f8ee2b00000, 0x4000),
         (0x7ffc47500000, 0x21000),
     ];
-    assert_eq!(rt; found.len(), due.len());
+    equal(&rt, found.len(), due.len());
     for (mapping, (offset, len)) in found.iter().zip(due) {
-        assert_eq!(rt; mapping.segment, Segment { offset, len });
+        equal(&rt, mapping.segment, Segment { offset, len });
     }
-    assert!(rt; kept(&rt, rt.alloc(), b"").is_ok_and(|found| found.is_empty()));
-    Ok(())
+    holds(
+        &rt,
+        kept(&rt, rt.alloc(), b"").is_ok_and(|found| found.is_empty()),
+    );
 }
 
 #[test]
-fn lines_of_another_form(rt: HostRuntime) -> Result<(), Fail> {
+fn lines_of_another_form(rt: HostRuntime) {
     for line in [
         "\n",
         "7f8ee23d2000 rw-p 00000000 00:00 0 \n",
@@ -67,11 +69,13 @@ fn lines_of_another_form(rt: HostRuntime) -> Result<(), Fail> {
         "7f8ee23d2000-7f8ee23d3000 rw-p 00000000 00:00\n",
         "7f8ee23d2000-7f8ee23d3000 rw-p 00000000 00:00 0 ",
     ] {
-        let mut text = Vec::from_slice(rt.alloc(), b"1000-2000 rw-p 00000000 00:00 0 \n")?;
-        text.extend_from_slice(line.as_bytes())?;
-        assert!(rt; kept(&rt, rt.alloc(), &text) == Err(2), "{line}");
+        let mut text = Vec::from_slice(rt.alloc(), b"1000-2000 rw-p 00000000 00:00 0 \n").expect(
+            &rt, "memory",
+        );
+        text.extend_from_slice(line.as_bytes())
+            .expect(&rt, "memory");
+        holds_at(&rt, line, kept(&rt, rt.alloc(), &text) == Err(2));
     }
-    Ok(())
 }
 
 // A guest of QEMU as the system shows it, shortened. One of its mappings shows frames of a host.
@@ -93,7 +97,7 @@ VmFlags: rd wr sh mr mw me ms sd mgx
 ";
 
 #[test]
-fn reads_what_is_known_of_mappings(rt: HostRuntime) -> Result<(), Fail> {
+fn reads_what_is_known_of_mappings(rt: HostRuntime) {
     let found = kept(&rt, rt.alloc(), SMAPS).ok().expect(&rt, "mappings");
     let due = [
         (0x7f8ee2400000, 0x200000, true, true, false),
@@ -101,7 +105,7 @@ fn reads_what_is_known_of_mappings(rt: HostRuntime) -> Result<(), Fail> {
         (0x7f8ee2800000, 0x2000, false, false, true),
         (0x7f8ee2900000, 0x1000, false, false, false),
     ];
-    assert_eq!(rt; found.len(), due.len());
+    equal(&rt, found.len(), due.len());
     for (mapping, (offset, len, is_offered, is_anonymous, shows_frames)) in found.iter().zip(due) {
         let segment = Segment { offset, len };
         let due = WritableMapping {
@@ -110,7 +114,6 @@ fn reads_what_is_known_of_mappings(rt: HostRuntime) -> Result<(), Fail> {
             is_anonymous,
             shows_frames,
         };
-        assert_eq!(rt; *mapping, due);
+        equal(&rt, *mapping, due);
     }
-    Ok(())
 }

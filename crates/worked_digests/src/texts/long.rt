@@ -1,11 +1,11 @@
 //! Long texts, names and lines.
+use crate::checks::holds;
 use crate::texts::sources::read_text;
 use digest_text::{Cause, DigestReader, GuestName, write_digests};
 use guest_digests::{DigestLine, GuestDigests, Sample, Sampling};
 use std::alloc::{AllocError, Global};
 use std::io::{self, ErrorKind, Write};
 use std::process::Abort;
-use std::test::Fail;
 
 const LINES: u64 = 100_000;
 
@@ -29,11 +29,13 @@ impl Write for Kept {
 }
 
 // The text of a guest whose pages all differ.
-fn long_text(rt: &impl Abort, alloc: Global) -> Result<Vec<u8>, AllocError> {
+fn long_text(rt: &impl Abort, alloc: Global) -> Vec<u8> {
     let mut lines = Vec::new(alloc);
     for n in 0..LINES {
         let digest = u128::from(n);
-        lines.push(DigestLine { digest, copies: 1 })?;
+        lines
+            .push(DigestLine { digest, copies: 1 })
+            .expect(rt, "memory");
     }
     let sample = Sample::new(1).expect(rt, "a sample");
     let digests = GuestDigests {
@@ -45,8 +47,11 @@ fn long_text(rt: &impl Abort, alloc: Global) -> Result<Vec<u8>, AllocError> {
     let mut writer = Kept {
         taken: Vec::new(alloc),
     };
-    assert!(rt; write_digests(alloc, &name, &digests, &mut writer).is_ok());
-    Ok(writer.taken)
+    holds(
+        rt,
+        write_digests(alloc, &name, &digests, &mut writer).is_ok(),
+    );
+    writer.taken
 }
 
 // How many lines and copies a text has; none if it's at fault.
@@ -64,11 +69,13 @@ fn counts(rt: &impl Abort, alloc: Global, text: &[u8]) -> Option<(u64, u64)> {
 }
 
 #[test]
-fn many_lines(rt: HostRuntime) -> Result<(), Fail> {
-    let text = long_text(&rt, rt.alloc())?;
-    assert!(rt; text.ends_with(b"\nweb,0,100000,1,0000000000000000000000000001869f,1\n"));
-    assert!(rt; counts(&rt, rt.alloc(), &text) == Some((LINES, LINES)));
-    Ok(())
+fn many_lines(rt: HostRuntime) {
+    let text = long_text(&rt, rt.alloc());
+    holds(
+        &rt,
+        text.ends_with(b"\nweb,0,100000,1,0000000000000000000000000001869f,1\n"),
+    );
+    holds(&rt, counts(&rt, rt.alloc(), &text) == Some((LINES, LINES)));
 }
 
 // This many letters.
@@ -77,10 +84,15 @@ fn letters(alloc: Global, count: usize) -> Result<Vec<u8>, AllocError> {
 }
 
 #[test]
-fn long_names(rt: HostRuntime) -> Result<(), Fail> {
-    assert!(rt; GuestName::new(&letters(rt.alloc(), 64)?).is_some());
-    assert!(rt; GuestName::new(&letters(rt.alloc(), 65)?).is_none());
-    Ok(())
+fn long_names(rt: HostRuntime) {
+    holds(
+        &rt,
+        GuestName::new(&letters(rt.alloc(), 64).expect(&rt, "memory")).is_some(),
+    );
+    holds(
+        &rt,
+        GuestName::new(&letters(rt.alloc(), 65).expect(&rt, "memory")).is_none(),
+    );
 }
 
 // A text with one line that begins with a name of this many letters, and has the longest numbers.
@@ -94,11 +106,16 @@ fn longest(alloc: Global, count: usize) -> Result<Vec<u8>, AllocError> {
 }
 
 #[test]
-fn longest_lines(rt: HostRuntime) -> Result<(), Fail> {
-    let text = longest(rt.alloc(), 64)?;
-    assert!(rt; text.len() == 38 + 157);
-    assert!(rt; read_text(&rt, rt.alloc(), &text, 7) == (1, u64::MAX, None));
-    let longer = longest(rt.alloc(), 65)?;
-    assert!(rt; read_text(&rt, rt.alloc(), &longer, 7) == (0, 0, Some((2, Cause::Form))));
-    Ok(())
+fn longest_lines(rt: HostRuntime) {
+    let text = longest(rt.alloc(), 64).expect(&rt, "memory");
+    holds(&rt, text.len() == 38 + 157);
+    holds(
+        &rt,
+        read_text(&rt, rt.alloc(), &text, 7) == (1, u64::MAX, None),
+    );
+    let longer = longest(rt.alloc(), 65).expect(&rt, "memory");
+    holds(
+        &rt,
+        read_text(&rt, rt.alloc(), &longer, 7) == (0, 0, Some((2, Cause::Form))),
+    );
 }

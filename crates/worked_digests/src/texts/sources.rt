@@ -1,11 +1,11 @@
 //! Texts that are read in pieces, and reads that fail.
+use crate::checks::{holds, holds_at};
 use digest_text::{Cause, DigestReader, ReadFault};
 use guest_digests::Sample;
 use refusing::Refusing;
-use std::alloc::{AllocError, Allocator, Global};
+use std::alloc::{Allocator, Global};
 use std::io::{self, ErrorKind, Read};
 use std::process::Abort;
-use std::test::Fail;
 
 // More lines than a test's text has.
 const MOST_LINES: u64 = 10_000;
@@ -69,20 +69,19 @@ const TEXT: &[u8] =
     b"guest,salt,pages,sample,digest,copies\nweb,7,9,4,00e10000000000000000000000000008,3\nweb,7,9,4,ad7facb2586fc6e966c004d7d1d16b00,1\n";
 
 #[test]
-fn failing_reads(rt: HostRuntime) -> Result<(), Fail> {
+fn failing_reads(rt: HostRuntime) {
     let fails = true;
     let most = 5;
     for (end, lines) in [(20, 0), (60, 0), (100, 1), (128, 2)] {
         let text = &TEXT[..end];
         let found = read_all(&rt, rt.alloc(), Pieces { text, most, fails });
-        assert!(rt; found.0 == lines, "at {end}");
-        assert!(rt; matches!(found.2, Some(ReadFault::Read(_))), "at {end}");
+        holds_at(&rt, end, found.0 == lines);
+        holds_at(&rt, end, matches!(found.2, Some(ReadFault::Read(_))));
     }
-    Ok(())
 }
 
 #[test]
-fn refused(rt: HostRuntime) -> Result<(), Fail> {
+fn refused(rt: HostRuntime) {
     let heap = Refusing::new(rt.alloc(), 0, 0);
     let (most, fails) = (5, false);
     let found = read_all(
@@ -94,13 +93,12 @@ fn refused(rt: HostRuntime) -> Result<(), Fail> {
             fails,
         },
     );
-    assert!(rt; matches!(found.2, Some(ReadFault::OutOfMemory)));
-    assert!(rt; heap.holds_nothing());
-    Ok(())
+    holds(&rt, matches!(found.2, Some(ReadFault::OutOfMemory)));
+    holds(&rt, heap.holds_nothing());
 }
 
 // What the lines begin with.
-fn head(rt: &impl Abort, alloc: Global) -> Result<(u32, u64, Sample, bool), AllocError> {
+fn head(rt: &impl Abort, alloc: Global) -> (u32, u64, Sample, bool) {
     let (most, fails) = (usize::MAX, false);
     let mut reader = DigestReader::new(
         alloc,
@@ -112,36 +110,38 @@ fn head(rt: &impl Abort, alloc: Global) -> Result<(u32, u64, Sample, bool), Allo
     )
     .ok()
     .expect(rt, "a reader");
-    assert!(rt; reader.head().is_none());
-    assert!(rt; reader.next_line().is_ok());
+    holds(rt, reader.head().is_none());
+    holds(rt, reader.next_line().is_ok());
     let head = reader.head().expect(rt, "a head");
-    Ok((
+    (
         head.salt,
         head.pages,
         head.sample,
         head.guest.as_bytes() == b"web".as_slice(),
-    ))
+    )
 }
 
 #[test]
-fn heads(rt: HostRuntime) -> Result<(), Fail> {
-    let (salt, pages, sample, is_web) = head(&rt, rt.alloc())?;
-    assert!(rt; salt == 7 && pages == 9 && sample.get() == 4 && is_web);
-    Ok(())
+fn heads(rt: HostRuntime) {
+    let (salt, pages, sample, is_web) = head(&rt, rt.alloc());
+    holds(&rt, salt == 7);
+    holds(&rt, pages == 9);
+    holds(&rt, sample.get() == 4);
+    holds(&rt, is_web);
 }
 
 // A line of more than 256 bytes, and more than a buffer of them.
 #[test]
-fn long_lines(rt: HostRuntime) -> Result<(), Fail> {
+fn long_lines(rt: HostRuntime) {
     for len in [256, 257, 70_000] {
         let mut text = Vec::new(rt.alloc());
-        text.extend_from_slice(b"guest,salt,pages,sample,digest,copies\n")?;
+        text.extend_from_slice(b"guest,salt,pages,sample,digest,copies\n")
+            .expect(&rt, "memory");
         for _ in 0..len {
-            text.push(b'a')?;
+            text.push(b'a').expect(&rt, "memory");
         }
-        text.push(b'\n')?;
+        text.push(b'\n').expect(&rt, "memory");
         let found = read_text(&rt, rt.alloc(), &text, 1_000);
-        assert!(rt; found == (0, 0, Some((2, Cause::Form))), "at {len}");
+        holds_at(&rt, len, found == (0, 0, Some((2, Cause::Form))));
     }
-    Ok(())
 }

@@ -1,11 +1,11 @@
 //! Texts of digests that are written, and writes that fail. sha256sum computed the digests.
+use crate::checks::{holds, holds_at};
 use digest_text::{GuestName, WriteFault, write_digests};
 use guest_digests::{DigestLine, GuestDigests, Sample, Sampling};
 use refusing::Refusing;
-use std::alloc::{AllocError, Allocator, Global};
+use std::alloc::{Allocator, Global};
 use std::io::{self, ErrorKind, Write};
 use std::process::Abort;
-use std::test::Fail;
 
 /// A writer that takes a few bytes at a time, and refuses once it has `room` bytes.
 #[derive(Drop)]
@@ -36,20 +36,22 @@ impl Write for Narrow {
 const TEXT: &[u8] =
     b"guest,salt,pages,sample,digest,copies\nweb-1.core,7,9,4,2ddedc90096341a293970278161b8b76,3\nweb-1.core,7,9,4,a4978bbefee2fa729b2fac53419f8fe3,18446744073709551615\n";
 
-fn digests(rt: &impl Abort, alloc: Global) -> Result<GuestDigests<Global>, AllocError> {
+fn digests(rt: &impl Abort, alloc: Global) -> GuestDigests<Global> {
     let mut lines = Vec::new(alloc);
     for (digest, copies) in [
         (0x2ddedc90096341a293970278161b8b76, 3),
         (0xa4978bbefee2fa729b2fac53419f8fe3, u64::MAX),
     ] {
-        lines.push(DigestLine { digest, copies })?;
+        lines
+            .push(DigestLine { digest, copies })
+            .expect(rt, "memory");
     }
     let sample = Sample::new(4).expect(rt, "a sample");
-    Ok(GuestDigests {
+    GuestDigests {
         sampling: Sampling::new(7, sample),
         pages: 9,
         lines,
-    })
+    }
 }
 
 // What a writer of this much room takes, and how the writing ends.
@@ -58,44 +60,42 @@ fn write_to<A: Allocator + Clone>(
     alloc: Global,
     memory: A,
     room: usize,
-) -> Result<(Vec<u8>, Result<(), WriteFault>), AllocError> {
+) -> (Vec<u8>, Result<(), WriteFault>) {
     let name = GuestName::new(b"web-1.core").expect(rt, "a name");
     let mut writer = Narrow {
         taken: Vec::new(alloc),
         room,
     };
-    let found = digests(rt, alloc)?;
+    let found = digests(rt, alloc);
     let done = write_digests(memory, &name, &found, &mut writer);
-    Ok((writer.taken, done))
+    (writer.taken, done)
 }
 
 #[test]
-fn written(rt: HostRuntime) -> Result<(), Fail> {
-    let (taken, done) = write_to(&rt, rt.alloc(), rt.alloc(), usize::MAX)?;
-    assert!(rt; done.is_ok());
-    assert!(rt; taken.as_slice() == TEXT);
-    Ok(())
+fn written(rt: HostRuntime) {
+    let (taken, done) = write_to(&rt, rt.alloc(), rt.alloc(), usize::MAX);
+    holds(&rt, done.is_ok());
+    holds(&rt, taken.as_slice() == TEXT);
 }
 
 // Each room that is too small takes a front of the text.
 #[test]
-fn fails_at_each_place(rt: HostRuntime) -> Result<(), Fail> {
+fn fails_at_each_place(rt: HostRuntime) {
     for room in 0..TEXT.len() {
-        let (taken, done) = write_to(&rt, rt.alloc(), rt.alloc(), room)?;
-        assert!(rt; matches!(done, Err(WriteFault::Write(_))), "at {room}");
-        assert!(rt; taken.as_slice() == &TEXT[..room], "at {room}");
+        let (taken, done) = write_to(&rt, rt.alloc(), rt.alloc(), room);
+        holds_at(&rt, room, matches!(done, Err(WriteFault::Write(_))));
+        holds_at(&rt, room, taken.as_slice() == &TEXT[..room]);
     }
-    Ok(())
 }
 
 // Nothing is written where memory is refused.
 #[test]
-fn memory_refused(rt: HostRuntime) -> Result<(), Fail> {
+fn memory_refused(rt: HostRuntime) {
     for n in 0..2 {
         let heap = Refusing::new(rt.alloc(), n, 0);
-        let (taken, done) = write_to(&rt, rt.alloc(), &heap, usize::MAX)?;
-        assert!(rt; matches!(done, Err(WriteFault::OutOfMemory)), "at {n}");
-        assert!(rt; taken.is_empty() && heap.holds_nothing(), "at {n}");
+        let (taken, done) = write_to(&rt, rt.alloc(), &heap, usize::MAX);
+        holds_at(&rt, n, matches!(done, Err(WriteFault::OutOfMemory)));
+        holds_at(&rt, n, taken.is_empty());
+        holds_at(&rt, n, heap.holds_nothing());
     }
-    Ok(())
 }

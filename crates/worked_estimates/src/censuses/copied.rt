@@ -1,10 +1,10 @@
 //! Contents with three, four and five copies, and zeros under equal and different salts.
 use crate::censuses::pages::{Memory, counted, guest_of};
+use crate::checks::equal;
 use page_census::{CopiesClass, Guest, TotalNumbers};
 use page_digest::FirstByteHash;
-use std::alloc::{AllocError, Global};
+use std::alloc::Global;
 use std::process::Abort;
-use std::test::Fail;
 
 // Zeros make two contents of three copies each, one of them in two guests.
 const TOTAL: TotalNumbers = TotalNumbers {
@@ -39,21 +39,20 @@ const COPIES: [CopiesClass; 3] = [
     },
 ];
 
-fn four_guests(rt: &impl Abort, alloc: Global) -> Result<Vec<Guest<Memory>>, AllocError> {
+fn four_guests(rt: &impl Abort, alloc: Global) -> Vec<Guest<Memory>> {
     let (a, b, c, d) = (Some(1), Some(2), Some(3), Some(4));
-    let mut guests = Vec::with_capacity(alloc, 4)?;
-    guests.push_reserved(guest_of(rt, alloc, 5, &[None, None, a, a, a, b, b], 7)?);
-    guests.push_reserved(guest_of(rt, alloc, 5, &[None, b, b, c, c, c, c, c, d], 9)?);
-    guests.push_reserved(guest_of(rt, alloc, 6, &[None, None, None, a], 4)?);
-    guests.push_reserved(guest_of(rt, alloc, 8, &[], 0)?);
-    Ok(guests)
+    let mut guests = Vec::with_capacity(alloc, 4).expect(rt, "memory");
+    guests.push_reserved(guest_of(rt, alloc, 5, &[None, None, a, a, a, b, b], 7));
+    guests.push_reserved(guest_of(rt, alloc, 5, &[None, b, b, c, c, c, c, c, d], 9));
+    guests.push_reserved(guest_of(rt, alloc, 6, &[None, None, None, a], 4));
+    guests.push_reserved(guest_of(rt, alloc, 8, &[], 0));
+    guests
 }
 
 #[test]
-fn three_to_five_copies(rt: HostRuntime) -> Result<(), Fail> {
-    let guests = four_guests(&rt, rt.alloc())?;
+fn three_to_five_copies(rt: HostRuntime) {
+    let guests = four_guests(&rt, rt.alloc());
     let found = counted(&rt, rt.alloc(), 3, &FirstByteHash, &guests);
-    assert_eq!(rt; found.total, TOTAL);
-    assert_eq!(rt; found.copies.as_slice(), COPIES.as_slice());
-    Ok(())
+    equal(&rt, found.total, TOTAL);
+    equal(&rt, found.copies.as_slice(), COPIES.as_slice());
 }

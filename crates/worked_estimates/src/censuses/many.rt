@@ -1,10 +1,10 @@
 //! More pages than are read at once, in parts by several workers, and no pages.
 use crate::censuses::pages::{Memory, counted, guest_of};
+use crate::checks::{equal, equal_at};
 use page_census::{CopiesClass, Guest, GuestNumbers, TotalNumbers};
 use page_digest::Sha256Hash;
-use std::alloc::{AllocError, Global};
+use std::alloc::Global;
 use std::process::Abort;
-use std::test::Fail;
 
 // 50 different pages, four times each.
 const EACH: GuestNumbers = GuestNumbers {
@@ -44,42 +44,43 @@ const NONE: TotalNumbers = TotalNumbers {
 };
 
 /// Makes two guests of 200 pages each, under two salts.
-fn two_guests(rt: &impl Abort, alloc: Global) -> Result<Vec<Guest<Memory>>, AllocError> {
+fn two_guests(rt: &impl Abort, alloc: Global) -> Vec<Guest<Memory>> {
     let mut lasts = [None; 200];
     for n in 0..200u8 {
         lasts[n as usize] = Some(n % 50);
     }
-    let mut guests = Vec::with_capacity(alloc, 2)?;
-    guests.push_reserved(guest_of(rt, alloc, 7, &lasts, 200)?);
-    guests.push_reserved(guest_of(rt, alloc, 9, &lasts, 200)?);
-    Ok(guests)
+    let mut guests = Vec::with_capacity(alloc, 2).expect(rt, "memory");
+    guests.push_reserved(guest_of(rt, alloc, 7, &lasts, 200));
+    guests.push_reserved(guest_of(rt, alloc, 9, &lasts, 200));
+    guests
 }
 
 // The same pages under two salts are different contents.
 #[test]
-fn in_parts(rt: HostRuntime) -> Result<(), Fail> {
-    let guests = two_guests(&rt, rt.alloc())?;
+fn in_parts(rt: HostRuntime) {
+    let guests = two_guests(&rt, rt.alloc());
     for workers in 1..6 {
         let found = counted(&rt, rt.alloc(), workers, &Sha256Hash, &guests);
-        assert_eq!(rt;
+        equal_at(
+            &rt,
+            workers,
             found.guests.as_slice(),
             [EACH, EACH].as_slice(),
-            "by {workers}"
         );
-        assert_eq!(rt; found.total, BOTH, "by {workers}");
-        assert_eq!(rt;
+        equal_at(&rt, workers, found.total, BOTH);
+        equal_at(
+            &rt,
+            workers,
             found.copies.as_slice(),
             [FOUR_TIMES].as_slice(),
-            "by {workers}"
         );
     }
-    Ok(())
 }
 
 #[test]
 fn none(rt: HostRuntime) {
     let found = counted(&rt, rt.alloc(), 4, &Sha256Hash, &[]);
-    assert_eq!(rt; found.guests.len(), 0);
-    assert_eq!(rt; found.total, NONE);
-    assert_eq!(rt; found.copies.len(), 0);
+    equal(&rt, found.guests.len(), 0);
+    equal(&rt, found.total, NONE);
+    equal(&rt, found.copies.len(), 0);
 }

@@ -1,11 +1,12 @@
 //! Guests whose pages are in memory, and hashes and progress for tests.
 ghost use Rattle.std.specs.Prelude.{◌<◌, ◌^◌, vec_len};
 
+use crate::checks::{equal, holds};
 use memory_pages::{PageSource, Progress};
 use page_census::{CensusFault, CensusNumbers, Guest, census};
 use page_digest::PageHash;
 use page_model::{HashFunction, Page};
-use std::alloc::{AllocError, Allocator, Global};
+use std::alloc::{Allocator, Global};
 use std::process::Abort;
 use std::sync::atomic::{AtomicU64, Ordering};
 use std::thread::Threads;
@@ -86,16 +87,16 @@ pub fn guest_of(
     salt: u32,
     lasts: &[Option<u8>],
     readable: u32,
-) -> Result<Guest<Memory>, AllocError> {
-    assert!(rt; lasts.len() < 1 << 32);
-    let mut pages = Vec::with_capacity(alloc, lasts.len())?;
+) -> Guest<Memory> {
+    holds(rt, lasts.len() < 1 << 32);
+    let mut pages = Vec::with_capacity(alloc, lasts.len()).expect(rt, "memory");
     for last in lasts {
         pages.push_reserved(page_of(*last));
     }
-    Ok(Guest {
+    Guest {
         salt,
         source: Memory { pages, readable },
-    })
+    }
 }
 
 /// Makes a census of these guests, by this many workers. Each page is reported as read once.
@@ -111,14 +112,15 @@ pub fn census_of<
     hash: &H,
     guests: &[Guest<S>],
 ) -> Result<CensusNumbers<A>, CensusFault<S::Fault>> {
-    assert!(rt; workers >= 1);
+    holds(rt, workers >= 1);
     let pages = AtomicU64::new(0);
     let progress = ReadSoFar { pages };
     let found = census(rt, alloc, workers, hash, guests, &progress);
     if let Ok(found) = &found {
-        assert_eq!(rt;
+        equal(
+            rt,
             progress.pages.load(Ordering::SeqCst),
-            u64::from(found.total.pages)
+            u64::from(found.total.pages),
         );
     }
     found

@@ -1,12 +1,12 @@
 //! How often pages are read, and which guest is named when a read fails, be it the first of a page or a later one.
 use crate::censuses::pages::{ZeroHash, census_of, guest_of};
 use crate::censuses::watched::{Watch, Watched};
+use crate::checks::{equal, equal_at};
 use page_census::{CensusFault, Guest};
 use page_digest::{FoldHash, PageHash};
 use std::alloc::{AllocError, Global};
 use std::process::Abort;
 use std::sync::atomic::{AtomicU64, Ordering};
-use std::test::Fail;
 use std::thread::Threads;
 
 // Every page is read once for its mark. For its class to be confirmed, page a of guest 1 is read once more, with that of
@@ -36,15 +36,15 @@ fn allowed(
     alloc: Global,
     lasts: &[Option<u8>],
     most: u64,
-) -> Result<Guest<Watched<Allowance>>, AllocError> {
-    let guest = guest_of(rt, alloc, 7, lasts, u32::MAX)?;
+) -> Guest<Watched<Allowance>> {
+    let guest = guest_of(rt, alloc, 7, lasts, u32::MAX);
     let asked = AtomicU64::new(0);
     let watch = Allowance { most, asked };
     let memory = guest.source;
-    Ok(Guest {
+    Guest {
         salt: guest.salt,
         source: Watched { memory, watch },
-    })
+    }
 }
 
 /// How many pages were asked for of each guest, and the guest whose pages couldn't be read.
@@ -63,9 +63,9 @@ fn read_up_to<R: Threads + Abort + Sync, H: PageHash>(
 ) -> Result<Reads, AllocError> {
     let (a, b) = (Some(1), Some(2));
     let mut guests = Vec::with_capacity(alloc, 3)?;
-    guests.push_reserved(allowed(rt, alloc, &[a, None], most[0])?);
-    guests.push_reserved(allowed(rt, alloc, &[a, b, None], most[1])?);
-    guests.push_reserved(allowed(rt, alloc, &[b], most[2])?);
+    guests.push_reserved(allowed(rt, alloc, &[a, None], most[0]));
+    guests.push_reserved(allowed(rt, alloc, &[a, b, None], most[1]));
+    guests.push_reserved(allowed(rt, alloc, &[b], most[2]));
     let failed = match census_of(rt, alloc, 2, hash, &guests) {
         Ok(_) => None,
         Err(CensusFault::Read(guest, _)) => Some(guest),
@@ -84,32 +84,32 @@ fn fail_in_turn<R: Threads + Abort + Sync, H: PageHash>(
     alloc: Global,
     hash: &H,
     all: [u64; 3],
-) -> Result<(), Fail> {
-    let whole = read_up_to(rt, alloc, hash, [u64::MAX; 3])?;
-    assert_eq!(rt;
+) {
+    let whole = read_up_to(rt, alloc, hash, [u64::MAX; 3]).expect(rt, "memory");
+    equal(
+        rt,
         whole,
         Reads {
             asked: all,
-            failed: None
-        }
+            failed: None,
+        },
     );
     for guest in 0..3usize {
         for most in 0..all[guest] {
             let mut each = [u64::MAX; 3];
             each[guest] = most;
-            let found = read_up_to(rt, alloc, hash, each)?;
-            assert_eq!(rt; found.failed, Some(guest), "after {most}");
+            let found = read_up_to(rt, alloc, hash, each).expect(rt, "memory");
+            equal_at(rt, most, found.failed, Some(guest));
         }
     }
-    Ok(())
 }
 
 #[test]
-fn by_folding(rt: HostRuntime) -> Result<(), Fail> {
+fn by_folding(rt: HostRuntime) {
     fail_in_turn(&rt, rt.alloc(), &FoldHash, READ)
 }
 
 #[test]
-fn by_no_hash(rt: HostRuntime) -> Result<(), Fail> {
+fn by_no_hash(rt: HostRuntime) {
     fail_in_turn(&rt, rt.alloc(), &ZeroHash, READ_WITHOUT_HASH)
 }

@@ -1,10 +1,10 @@
 //! How much memory a census asks for.
 use crate::censuses::pages::{census_of, guest_of};
+use crate::checks::{holds, holds_at};
 use page_digest::FoldHash;
 use refusing::Refusing;
-use std::alloc::{AllocError, Global};
+use std::alloc::Global;
 use std::process::Abort;
-use std::test::Fail;
 use std::thread::Threads;
 
 // What a census of one guest asks for at most. For each page: 16 bytes for its mark, 10 for its class and 8 for copies. For each
@@ -16,24 +16,19 @@ const WORKER: u64 = 66 * 4096 + 256;
 const MORE: u64 = 2 * 4096 + 640;
 
 /// Returns how many bytes a census of 200 pages of zeros, by this many workers, asks for.
-fn asked<R: Threads + Abort + Sync>(
-    rt: &R,
-    alloc: Global,
-    workers: u32,
-) -> Result<u64, AllocError> {
-    let guests = [guest_of(rt, alloc, 0, &[None; 200], u32::MAX)?];
+fn asked<R: Threads + Abort + Sync>(rt: &R, alloc: Global, workers: u32) -> u64 {
+    let guests = [guest_of(rt, alloc, 0, &[None; 200], u32::MAX)];
     let heap = Refusing::new(alloc, u64::MAX, 0);
     let found = census_of(rt, &heap, workers, &FoldHash, &guests);
-    assert!(rt; found.is_ok());
-    Ok(heap.bytes_asked())
+    holds(rt, found.is_ok());
+    heap.bytes_asked()
 }
 
 #[test]
-fn bytes_asked(rt: HostRuntime) -> Result<(), Fail> {
+fn bytes_asked(rt: HostRuntime) {
     for workers in 1..4 {
-        let asked = asked(&rt, rt.alloc(), workers)?;
+        let asked = asked(&rt, rt.alloc(), workers);
         let most = PAGE * 200 + WORKER * u64::from(workers) + MORE;
-        assert!(rt; asked <= most, "{asked} bytes by {workers}");
+        holds_at(&rt, (asked, workers), asked <= most);
     }
-    Ok(())
 }

@@ -1,12 +1,12 @@
 //! Reads each of which waits for another, so that two workers are needed.
 use crate::censuses::pages::{census_of, guest_of};
 use crate::censuses::watched::{Watch, Watched};
+use crate::checks::holds;
 use page_census::Guest;
 use page_digest::FoldHash;
-use std::alloc::{AllocError, Global};
+use std::alloc::Global;
 use std::process::Abort;
 use std::sync::atomic::{AtomicBool, AtomicU64, Ordering};
-use std::test::Fail;
 use std::thread;
 use std::thread::Threads;
 
@@ -63,11 +63,8 @@ impl Watch for Gates {
 }
 
 /// Whether two workers read runs of pages at the same time, and then pages to be compared.
-fn are_read_together<R: Threads + Abort + Sync>(
-    rt: &R,
-    alloc: Global,
-) -> Result<(bool, bool), AllocError> {
-    let guest = guest_of(rt, alloc, 0, &[Some(1); 128], u32::MAX)?;
+fn are_read_together<R: Threads + Abort + Sync>(rt: &R, alloc: Global) -> (bool, bool) {
+    let guest = guest_of(rt, alloc, 0, &[Some(1); 128], u32::MAX);
     let watch = Gates {
         runs: Gate::new(),
         singles: Gate::new(),
@@ -78,19 +75,18 @@ fn are_read_together<R: Threads + Abort + Sync>(
         source: Watched { memory, watch },
     }];
     let found = census_of(rt, alloc, 2, &FoldHash, &guests);
-    assert!(rt; found.is_ok());
+    holds(rt, found.is_ok());
     let gates = &guests[0].source.watch;
-    Ok((
+    (
         gates.runs.was_passed_by_two(),
         gates.singles.was_passed_by_two(),
-    ))
+    )
 }
 
 // A worker has 64 pages at least. On one thread, the first 64 would wait in vain for the others.
 #[test]
-fn by_two_workers(rt: HostRuntime) -> Result<(), Fail> {
-    let (marked, confirmed) = are_read_together(&rt, rt.alloc())?;
-    assert!(rt; marked);
-    assert!(rt; confirmed);
-    Ok(())
+fn by_two_workers(rt: HostRuntime) {
+    let (marked, confirmed) = are_read_together(&rt, rt.alloc());
+    holds(&rt, marked);
+    holds(&rt, confirmed);
 }

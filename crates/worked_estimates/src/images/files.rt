@@ -3,8 +3,8 @@
 use memory_images::{FormFault, Image, ImageFault, ReadAt};
 use memory_pages::PageSource;
 use page_model::{PAGE_BYTES, Page};
-use std::alloc::{AllocError, Allocator, Global};
-use std::test::Fail;
+use std::alloc::{Allocator, Global};
+use std::process::Abort;
 
 /// A file whose first `readable` bytes can be read.
 #[derive(Drop)]
@@ -45,15 +45,15 @@ pub fn byte_at(place: usize) -> u8 {
 }
 
 /// Makes a file of `len` bytes, each determined by its place.
-pub fn plain_file(alloc: Global, len: usize) -> Result<Memory, AllocError> {
-    let mut bytes = Vec::with_capacity(alloc, len)?;
+pub fn plain_file(rt: &impl Abort, alloc: Global, len: usize) -> Memory {
+    let mut bytes = Vec::with_capacity(alloc, len).expect(rt, "memory");
     for place in 0..len {
-        bytes.push(byte_at(place))?;
+        bytes.push(byte_at(place)).expect(rt, "memory");
     }
-    Ok(Memory {
+    Memory {
         bytes,
         readable: usize::MAX,
-    })
+    }
 }
 
 /// Puts a little-endian number of `len` bytes at a place.
@@ -87,19 +87,15 @@ pub fn load(offset: u64, len: u64) -> ProgramHeader {
 }
 
 /// Makes a core of `len` bytes with these program headers, from byte 64 on.
-pub fn core_file(
-    alloc: Global,
-    len: usize,
-    headers: &[ProgramHeader],
-) -> Result<Memory, AllocError> {
-    let mut file = plain_file(alloc, len)?;
+pub fn core_file(rt: &impl Abort, alloc: Global, len: usize, headers: &[ProgramHeader]) -> Memory {
+    let mut file = plain_file(rt, alloc, len);
     put_header(file.bytes.as_mut_slice(), headers.len() as u64);
     let mut at: usize = 64;
     for header in headers {
         put_program_header(file.bytes.as_mut_slice(), at, header);
         at = at.wrapping_add(56);
     }
-    Ok(file)
+    file
 }
 
 /// Puts the header of a core with `count` program headers.
@@ -158,33 +154,39 @@ pub fn can_read<A: Allocator + Sync>(
 
 /// Whether the pages of an image are these parts of its file, a place and a length each, read at once and one by one.
 pub fn has_pages<A: Allocator + Sync>(
+    rt: &impl Abort,
     alloc: Global,
     image: &Image<Memory, A>,
     parts: &[(usize, usize)],
-) -> Result<bool, AllocError> {
+) -> bool {
     if image.count() as usize != parts.len() {
-        return Ok(false);
+        return false;
     }
-    let mut pages = vec![in alloc; [7; PAGE_BYTES]; parts.len()]?;
+    let mut pages = vec![in alloc; [7; PAGE_BYTES]; parts.len()].expect(rt, "memory");
     let mut page = [[7; PAGE_BYTES]; 1];
     if !can_read(image, 0, &mut pages) {
-        return Ok(false);
+        return false;
     }
     for (n, (from, len)) in parts.iter().enumerate() {
         if !can_read(image, n as u32, &mut page) {
-            return Ok(false);
+            return false;
         }
         if !is_page(&pages[n], *from, *len) || !is_page(&page[0], *from, *len) {
-            return Ok(false);
+            return false;
         }
     }
-    Ok(true)
+    true
 }
 
 /// Whether a raw file has these pages.
-pub fn raw_has_pages(alloc: Global, file: Memory, parts: &[(usize, usize)]) -> Result<bool, Fail> {
-    let image = Image::raw(alloc, file)?;
-    Ok(has_pages(alloc, &image, parts)?)
+pub fn raw_has_pages(
+    rt: &impl Abort,
+    alloc: Global,
+    file: Memory,
+    parts: &[(usize, usize)],
+) -> bool {
+    let image = Image::raw(alloc, file).expect(rt, "an image");
+    has_pages(rt, alloc, &image, parts)
 }
 
 /// Opens an image of a file.
@@ -197,12 +199,13 @@ pub fn open<A: Allocator + Clone>(
 
 /// Whether a file opens as an image of these pages.
 pub fn opened_has_pages(
+    rt: &impl Abort,
     alloc: Global,
     file: Memory,
     parts: &[(usize, usize)],
-) -> Result<bool, Fail> {
-    let image = open(alloc, file)?;
-    Ok(has_pages(alloc, &image, parts)?)
+) -> bool {
+    let image = open(alloc, file).expect(rt, "an image");
+    has_pages(rt, alloc, &image, parts)
 }
 
 /// Whether a file is refused with this fault.

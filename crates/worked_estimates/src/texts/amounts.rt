@@ -1,6 +1,6 @@
 //! Amounts of memory, checked against a calculator.
+use crate::checks::equal_at;
 use report_text::{Tenths, in_units, per_mille, scale_for};
-use std::test::Fail;
 
 #[test]
 fn pages_in_mebibytes(rt: HostRuntime) {
@@ -19,8 +19,8 @@ fn pages_in_mebibytes(rt: HostRuntime) {
         (4_294_967_295, 16_777_216, 167_772_160),
         (u64::MAX, 72_057_594_037_927_936, 720_575_940_379_279_360),
     ] {
-        assert_eq!(rt; in_units(1, pages), whole, "{pages}");
-        assert_eq!(rt; in_units(10, pages), tenths, "{pages}");
+        equal_at(&rt, pages, in_units(1, pages), whole);
+        equal_at(&rt, pages, in_units(10, pages), tenths);
     }
 }
 
@@ -39,19 +39,19 @@ fn parts_of_a_thousand(rt: HostRuntime) {
         (u64::MAX, u64::MAX, 1000),
         (u64::MAX, 1, 18_446_744_073_709_551_615_000),
     ] {
-        assert_eq!(rt; per_mille(part, whole), thousandths, "{part} of {whole}");
+        equal_at(&rt, (part, whole), per_mille(part, whole), thousandths);
     }
 }
 
 #[test]
 fn tenths_below_10_mebibytes(rt: HostRuntime) {
     for (pages, scale) in [(0, 10), (2559, 10), (2560, 1), (u64::MAX, 1)] {
-        assert_eq!(rt; scale_for(pages), scale, "{pages}");
+        equal_at(&rt, pages, scale_for(pages), scale);
     }
 }
 
 #[test]
-fn tenths_as_text(rt: HostRuntime) -> Result<(), Fail> {
+fn tenths_as_text(rt: HostRuntime) {
     for (tenths, text) in [
         (0, "0.0"),
         (9, "0.9"),
@@ -59,8 +59,7 @@ fn tenths_as_text(rt: HostRuntime) -> Result<(), Fail> {
         (u64::MAX, "1844674407370955161.5"),
     ] {
         let shown = Tenths(tenths);
-        let written = format!(in rt.alloc(); "{shown}")?;
-        assert_eq!(rt; written.as_str(), text, "{tenths}");
+        let written = format!(in rt.alloc(); "{shown}").expect(&rt, "memory");
+        equal_at(&rt, tenths, written.as_str(), text);
     }
-    Ok(())
 }

@@ -1,8 +1,8 @@
 //! Names of images as they are shown.
+use crate::checks::equal_at;
 use report_text::{PlainName, ShortName, XmlName};
 use std::alloc::{AllocError, Global};
 use std::fmt::Display;
-use std::test::Fail;
 
 /// Names, and how each is shown plainly, in XML, and in short.
 const NAMES: [[&str; 4]; 7] = [
@@ -46,15 +46,14 @@ fn is_shown(alloc: Global, name: &impl Display, text: &str) -> Result<bool, Allo
 }
 
 #[test]
-fn shown_names(rt: HostRuntime) -> Result<(), Fail> {
+fn shown_names(rt: HostRuntime) {
     let alloc = rt.alloc();
     for [name, plain, xml, short] in NAMES {
         let is_shown_so = [
-            is_shown(alloc, &PlainName(name), plain)?,
-            is_shown(alloc, &XmlName(name), xml)?,
-            is_shown(alloc, &ShortName(name), short)?,
+            is_shown(alloc, &PlainName(name), plain).expect(&rt, "memory"),
+            is_shown(alloc, &XmlName(name), xml).expect(&rt, "memory"),
+            is_shown(alloc, &ShortName(name), short).expect(&rt, "memory"),
         ];
-        assert_eq!(rt; is_shown_so, [true; 3], "{name}");
+        equal_at(&rt, name, is_shown_so, [true; 3]);
     }
-    Ok(())
 }

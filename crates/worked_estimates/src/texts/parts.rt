@@ -1,4 +1,5 @@
 //! The parts of bars, found by hand.
+use crate::checks::equal;
 use page_census::GuestNumbers;
 use report_picture::{Parts, parts_of};
 use report_text::GuestLine;
@@ -33,7 +34,7 @@ fn parts(numbers: [u32; 4]) -> Parts {
 fn have_parts<R: Abort>(rt: &R, guests: &[GuestLine<'_>], due: &[Parts]) {
     assert_eq!(rt; guests.len(), due.len());
     for (guest, parts) in guests.iter().zip(due) {
-        assert_eq!(rt; parts_of(guest, guests), *parts);
+        equal(rt, parts_of(guest, guests), *parts);
     }
 }
 

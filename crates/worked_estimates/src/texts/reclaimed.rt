@@ -1,4 +1,5 @@
 //! What could be reclaimed, in parts found by hand.
+use crate::checks::equal;
 use page_census::{GuestNumbers, TotalNumbers};
 use report_text::{GuestLine, Reclaimed};
 
@@ -39,8 +40,8 @@ fn parts_of_three_guests(rt: HostRuntime) {
         between: 2,
     };
     // Two zeros; a of the second guest; one more a of the first and two more e of the third.
-    assert_eq!(rt; Reclaimed::of(&total, &guests), parts(2, 1, 3));
-    assert_eq!(rt; Reclaimed::of(&total, &guests).whole(), 6);
+    equal(&rt, Reclaimed::of(&total, &guests), parts(2, 1, 3));
+    equal(&rt, Reclaimed::of(&total, &guests).whole(), 6);
 }
 
 #[test]
@@ -52,7 +53,7 @@ fn parts_are_cut(rt: HostRuntime) {
         (0, 0, 0, parts(0, 0, 0)),
         (u64::MAX, 1, 1, parts(1, 18_446_744_073_709_551_613, 1)),
     ] {
-        assert_eq!(rt; Reclaimed::by(whole, zeros, within), due);
+        equal(&rt, Reclaimed::by(whole, zeros, within), due);
     }
-    assert_eq!(rt; parts(u64::MAX, 1, 0).whole(), u64::MAX);
+    equal(&rt, parts(u64::MAX, 1, 0).whole(), u64::MAX);
 }

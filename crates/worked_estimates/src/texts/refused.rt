@@ -1,10 +1,10 @@
 //! Memory that is refused.
+use crate::checks::{equal, holds, holds_at};
 use crate::texts::numbers::{COPIES, GUESTS, TOTAL};
 use refusing::Refusing;
 use report_picture::picture_text;
 use report_text::{Estimate, Unit, guest_lines, table_text};
 use std::alloc::{AllocError, Allocator};
-use std::test::Fail;
 
 // More requests than the texts make.
 const MOST_REQUESTS: u64 = 200;
@@ -25,24 +25,23 @@ fn texts<A: Allocator + Clone>(alloc: &A) -> Result<usize, AllocError> {
 
 // Request number n is refused, with n counting up until there is no refusal.
 #[test]
-fn refused_in_turn(rt: HostRuntime) -> Result<(), Fail> {
-    let whole = texts(&rt.alloc())?;
+fn refused_in_turn(rt: HostRuntime) {
+    let whole = texts(&rt.alloc()).expect(&rt, "memory");
     let mut is_whole = false;
     for n in 0..MOST_REQUESTS {
         let heap = Refusing::new(rt.alloc(), n, 0);
         match texts(&&heap) {
             Ok(bytes) => {
-                assert!(rt; !heap.has_refused(), "at {n}");
-                assert_eq!(rt; bytes, whole);
+                holds_at(&rt, n, !heap.has_refused());
+                equal(&rt, bytes, whole);
                 is_whole = true;
             }
-            Err(AllocError) => assert!(rt; heap.has_refused(), "at {n}"),
+            Err(AllocError) => holds_at(&rt, n, heap.has_refused()),
         }
-        assert!(rt; heap.holds_nothing(), "at {n}");
+        holds_at(&rt, n, heap.holds_nothing());
         if is_whole {
             break;
         }
     }
-    assert!(rt; is_whole);
-    Ok(())
+    holds(&rt, is_whole);
 }

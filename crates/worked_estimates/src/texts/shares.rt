@@ -1,4 +1,5 @@
 //! Shares in tenths of a MiB or whole MiB, computed by fractions and sorting in Python.
+use crate::checks::equal;
 use report_text::{Reclaimed, Shares, Unit, shares_in, shares_of};
 
 #[test]
@@ -23,7 +24,7 @@ fn tenths_add_up(rt: HostRuntime) {
             ],
         ),
     ] {
-        assert_eq!(rt; shares_of(10, &reclaimed(parts)), shares(due));
+        equal(&rt, shares_of(10, &reclaimed(parts)), shares(due));
     }
 }
 
@@ -41,7 +42,7 @@ fn whole_mebibytes_add_up(rt: HostRuntime) {
             [72_057_594_037_927_936, 72_057_594_037_927_936, 0, 0],
         ),
     ] {
-        assert_eq!(rt; shares_of(1, &reclaimed(parts)), shares(due));
+        equal(&rt, shares_of(1, &reclaimed(parts)), shares(due));
     }
 }
 
@@ -67,6 +68,14 @@ fn shares(numbers: [u64; 4]) -> Shares {
 #[test]
 fn shares_in_units(rt: HostRuntime) {
     let parts = reclaimed([449, 160, 40]);
-    assert_eq!(rt; shares_in(Unit::Mebibytes, &parts), shares([25, 17, 6, 2]));
-    assert_eq!(rt; shares_in(Unit::Pages, &parts), shares([649, 449, 160, 40]));
+    equal(
+        &rt,
+        shares_in(Unit::Mebibytes, &parts),
+        shares([25, 17, 6, 2]),
+    );
+    equal(
+        &rt,
+        shares_in(Unit::Pages, &parts),
+        shares([649, 449, 160, 40]),
+    );
 }

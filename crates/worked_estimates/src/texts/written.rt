@@ -1,11 +1,11 @@
 //! The table, the object and the picture. The expected values come from a few lines of Python.
+use crate::checks::{equal, equal_at, holds, holds_at};
 use crate::texts::numbers::{COPIES, GUESTS, NOTHING, TOTAL};
 use page_census::GuestNumbers;
 use report_picture::picture_text;
 use report_text::{Estimate, GuestLine, Unit, guest_lines, json_text, table_text};
 use std::alloc::{AllocError, Global};
 use std::process::Abort;
-use std::test::Fail;
 
 const TABLE: [&str; 17] = [
     "Each number in MiB.",
@@ -59,62 +59,69 @@ fn lines<'a>(alloc: Global, images: &[&'a str]) -> Result<Vec<GuestLine<'a>>, Al
 }
 
 #[test]
-fn table_of_two_guests(rt: HostRuntime) -> Result<(), Fail> {
+fn table_of_two_guests(rt: HostRuntime) {
     let alloc = rt.alloc();
-    let guests = lines(alloc, &["web.core", "db.core"])?;
+    let guests = lines(alloc, &["web.core", "db.core"]).expect(&rt, "memory");
     let estimate = Estimate {
         guests: &guests,
         total: TOTAL,
         copies: &COPIES,
     };
-    let report = estimate.report(alloc)?;
+    let report = estimate.report(alloc).expect(&rt, "memory");
     has_lines(
         &rt,
-        table_text(alloc, &report, Unit::Mebibytes)?.as_str(),
+        table_text(alloc, &report, Unit::Mebibytes)
+            .expect(&rt, "memory")
+            .as_str(),
         &TABLE,
     );
     has_lines(
         &rt,
-        table_text(alloc, &report, Unit::Pages)?.as_str(),
+        table_text(alloc, &report, Unit::Pages)
+            .expect(&rt, "memory")
+            .as_str(),
         &TABLE_OF_PAGES,
     );
-    Ok(())
 }
 
 /// Checks that a text has these lines, each with a line feed.
 fn has_lines(rt: &impl Abort, text: &str, due: &[&str]) {
     for (n, line) in text.lines().enumerate() {
-        assert_eq!(rt; Some(line), due.get(n).copied(), "line {n}");
+        equal_at(rt, n, Some(line), due.get(n).copied());
     }
-    assert_eq!(rt; text.lines().count(), due.len());
-    assert!(rt; text.ends_with(".\n"));
+    equal(rt, text.lines().count(), due.len());
+    holds(rt, text.ends_with(".\n"));
 }
 
 #[test]
-fn object_of_two_guests(rt: HostRuntime) -> Result<(), Fail> {
+fn object_of_two_guests(rt: HostRuntime) {
     let alloc = rt.alloc();
-    let guests = lines(alloc, &["web.core", "db.core"])?;
+    let guests = lines(alloc, &["web.core", "db.core"]).expect(&rt, "memory");
     let estimate = Estimate {
         guests: &guests,
         total: TOTAL,
         copies: &COPIES,
     };
-    let report = estimate.report(alloc)?;
-    assert_eq!(rt; json_text(alloc, &report)?.as_str(), OBJECT);
-    Ok(())
+    let report = estimate.report(alloc).expect(&rt, "memory");
+    equal(
+        &rt,
+        json_text(alloc, &report).expect(&rt, "memory").as_str(),
+        OBJECT,
+    );
 }
 
 #[test]
-fn as_many_as_there_are(rt: HostRuntime) -> Result<(), Fail> {
-    let guests = guest_lines(rt.alloc(), &["a", "b"], &[0, 7, 9], &GUESTS[..1])?;
+fn as_many_as_there_are(rt: HostRuntime) {
+    let guests = guest_lines(rt.alloc(), &["a", "b"], &[0, 7, 9], &GUESTS[..1]).expect(
+        &rt, "memory",
+    );
     assert_eq!(rt; guests.len(), 1);
-    assert_eq!(rt; guests[0].image, "a");
-    assert_eq!(rt; guests[0].numbers, GUESTS[0]);
-    Ok(())
+    equal(&rt, guests[0].image, "a");
+    equal(&rt, guests[0].numbers, GUESTS[0]);
 }
 
 #[test]
-fn no_page(rt: HostRuntime) -> Result<(), Fail> {
+fn no_page(rt: HostRuntime) {
     let alloc = rt.alloc();
     let guest = GuestLine {
         image: "a\"\\\n\u{65e5}",
@@ -133,27 +140,29 @@ fn no_page(rt: HostRuntime) -> Result<(), Fail> {
         total: NOTHING,
         copies: &[],
     };
-    let report = estimate.report(alloc)?;
-    assert_eq!(rt; json_text(alloc, &report)?.as_str(), EMPTY);
-    let table = table_text(alloc, &report, Unit::Mebibytes)?;
+    let report = estimate.report(alloc).expect(&rt, "memory");
+    equal(
+        &rt,
+        json_text(alloc, &report).expect(&rt, "memory").as_str(),
+        EMPTY,
+    );
+    let table = table_text(alloc, &report, Unit::Mebibytes).expect(&rt, "memory");
     let sentence =
         "\n0.0 of 0.0 MiB could be reclaimed (0.0 %): 0.0 zeros, 0.0 between guests, 0.0 within guests\n";
-    assert!(rt; table.as_str().contains(sentence));
-    Ok(())
+    holds(&rt, table.as_str().contains(sentence));
 }
 
 #[test]
-fn picture(rt: HostRuntime) -> Result<(), Fail> {
+fn picture(rt: HostRuntime) {
     let alloc = rt.alloc();
-    let guests = lines(alloc, &["<web>", "db.core"])?;
+    let guests = lines(alloc, &["<web>", "db.core"]).expect(&rt, "memory");
     let estimate = Estimate {
         guests: &guests,
         total: TOTAL,
         copies: &COPIES,
     };
-    let text = picture_text(alloc, &estimate)?;
+    let text = picture_text(alloc, &estimate).expect(&rt, "memory");
     has_parts(&rt, text.as_str());
-    Ok(())
 }
 
 /// Checks what is in the picture.
@@ -171,7 +180,7 @@ fn has_parts(rt: &impl Abort, text: &str) {
         ">1 content<",
         ">16072 contents<",
     ] {
-        assert!(rt; text.contains(part), "{part}");
+        holds_at(rt, part, text.contains(part));
     }
-    assert!(rt; text.ends_with("</svg>\n"));
+    holds(rt, text.ends_with("</svg>\n"));
 }

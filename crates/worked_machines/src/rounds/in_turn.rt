@@ -1,5 +1,6 @@
 //! Guests in turn.
 use crate::answers::Reply::{Blocked, Done, Got, Number, Sent};
+use crate::checks::holds;
 use crate::course::Call::{Entries, Guest, GuestOf, Step};
 use crate::course::{made, play, play_to_end};
 use crate::ports::Ask::{Load, Verdict};
@@ -15,7 +16,7 @@ fn round_in_turn(rt: HostRuntime) {
         (Guest(1, Load(0)), Sent),
     ];
     let mut course = play(&rt, course, &rows);
-    assert!(rt; course.round(&rt, rt.alloc(), 1, 3) == Number(3));
+    holds(&rt, course.round(&rt, rt.alloc(), 1, 3) == Number(3));
     let rows = [
         (Entries, Number(3)),
         (GuestOf(0), Number(0)),
@@ -36,7 +37,7 @@ fn round_past_a_full_ring(rt: HostRuntime) {
         (Guest(1, Load(0)), Sent),
     ];
     let mut course = play(&rt, course, &rows);
-    assert!(rt; course.round(&rt, rt.alloc(), 1, 4) == Number(1));
+    holds(&rt, course.round(&rt, rt.alloc(), 1, 4) == Number(1));
     let rows = [
         (Step(0), Blocked),
         (Entries, Number(2)),

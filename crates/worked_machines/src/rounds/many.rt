@@ -1,5 +1,6 @@
 //! Forty proposals in one round, enough for a second worker.
 use crate::answers::Reply::{Got, Number, Sent};
+use crate::checks::{equal, holds, holds_at};
 use crate::course::Call::Guest;
 use crate::course::{Course, made, play};
 use crate::ports::Ask::{Propose, StorePair, Verdict};
@@ -7,7 +8,6 @@ use refusing::Refusing;
 use std::alloc::Global;
 use std::process::Abort;
 use std::sync::Wait;
-use std::test::Fail;
 use std::thread::Threads;
 use worked_answers::Answer::{Hinted, Mapped};
 
@@ -48,28 +48,28 @@ fn take_all(rt: &impl Abort, course: Course) -> Course {
 /// Serves the stores in one round, and the proposals in another, whatever memory there is for lists.
 fn serve_all<R: Threads + Wait + Sync + Abort>(rt: &R, lists: &Refusing, course: Course) {
     let mut course = store_all(rt, course);
-    assert!(rt; course.round(rt, lists, 2, 64) == Number(40));
+    holds(rt, course.round(rt, lists, 2, 64) == Number(40));
     let mut course = propose_all(rt, course);
-    assert!(rt; course.round(rt, lists, 2, 64) == Number(40));
+    holds(rt, course.round(rt, lists, 2, 64) == Number(40));
     let course = take_all(rt, course);
-    assert_eq!(rt; course.numbers(), [80, 40, 0, 40, 0, 40]);
+    equal(rt, course.numbers(), [80, 40, 0, 40, 0, 40]);
 }
 
 /// Serves all while growth number n of the rounds' lists is refused, and returns whether any was.
 fn is_refused<R: Threads + Wait + Sync + Abort>(rt: &R, alloc: Global, n: u64) -> bool {
     let heap = Refusing::new(alloc, n, 0);
     serve_all(rt, &heap, made(rt, alloc, 40, &[40], 64, 100));
-    assert!(rt; heap.holds_nothing(), "at {n}");
+    holds_at(rt, n, heap.holds_nothing());
     heap.has_refused()
 }
 
 // Each growth of the rounds' lists is refused in turn.
 #[test]
-fn many_proposals(rt: HostRuntime) -> Result<(), Fail> {
+fn many_proposals(rt: HostRuntime) {
     for n in 0..MOST_GROWTHS {
         if !is_refused(&rt, rt.alloc(), n) {
-            return Ok(());
+            return;
         }
     }
-    Err(Fail::from("each run was refused"))
+    panic!(rt; "each run was refused")
 }

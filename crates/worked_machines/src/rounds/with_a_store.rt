@@ -1,5 +1,6 @@
 //! A round in which a store follows a proposal of its page, and another proposal follows the store.
 use crate::answers::Reply::{Done, Got, Number, Sent};
+use crate::checks::{equal, holds, holds_at};
 use crate::course::Call::{Guest, Step};
 use crate::course::{Course, made, play};
 use crate::ports::Ask::{Propose, Store, Verdict};
@@ -7,7 +8,6 @@ use refusing::Refusing;
 use std::alloc::{Allocator, Global};
 use std::process::Abort;
 use std::sync::Wait;
-use std::test::Fail;
 use std::thread::Threads;
 use worked_answers::Answer::{Hinted, Mapped, Stored};
 
@@ -39,7 +39,7 @@ fn serve_four<R: Threads + Wait + Sync + Abort, B: Allocator + Clone + Send>(
     workers: u32,
 ) {
     let mut course = course;
-    assert!(rt; course.round(rt, lists, workers, 4) == Number(4));
+    holds(rt, course.round(rt, lists, workers, 4) == Number(4));
     let rows = [
         (Guest(0, Verdict), Got(Hinted)),
         (Guest(0, Verdict), Got(Stored)),
@@ -47,7 +47,7 @@ fn serve_four<R: Threads + Wait + Sync + Abort, B: Allocator + Clone + Send>(
         (Guest(0, Verdict), Got(Hinted)),
     ];
     let course = play(rt, course, &rows);
-    assert_eq!(rt; course.numbers(), [6, 2, 0, 2, 0, 2]);
+    equal(rt, course.numbers(), [6, 2, 0, 2, 0, 2]);
 }
 
 #[test]
@@ -62,16 +62,16 @@ fn round_with_a_store(rt: HostRuntime) {
 fn is_refused<R: Threads + Wait + Sync + Abort>(rt: &R, alloc: Global, n: u64) -> bool {
     let heap = Refusing::new(alloc, n, 0);
     serve_four(rt, &heap, waiting(rt, alloc), 4);
-    assert!(rt; heap.holds_nothing(), "at {n}");
+    holds_at(rt, n, heap.holds_nothing());
     heap.has_refused()
 }
 
 #[test]
-fn refused_growth(rt: HostRuntime) -> Result<(), Fail> {
+fn refused_growth(rt: HostRuntime) {
     for n in 0..MOST_GROWTHS {
         if !is_refused(&rt, rt.alloc(), n) {
-            return Ok(());
+            return;
         }
     }
-    Err(Fail::from("each run was refused"))
+    panic!(rt; "each run was refused")
 }

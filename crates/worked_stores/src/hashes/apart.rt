@@ -1,13 +1,11 @@
 //! A hash of two pages, each of which waits for the other, so that two workers are needed.
 ghost use Rattle.std.specs.Prelude.{◌≡◌};
 
-use crate::equal::equal;
-use crate::hashes::makes::{pairs_of, two_frames};
-use page_digest::{PageHash, hash_many};
+use crate::checks::{equal, holds};
+use crate::hashes::many::hashes_of;
+use page_digest::PageHash;
 use page_model::{HashFunction, Page};
-use std::alloc::Global;
 use std::sync::atomic::{AtomicBool, Ordering};
-use std::test::Fail;
 use std::thread;
 
 const TRIES: u64 = 1 << 30;
@@ -53,17 +51,13 @@ impl PageHash for Together {
 
 // On one thread the page of zeros would wait in vain for the other.
 #[test]
-fn by_two_workers(rt: HostRuntime) -> Result<(), Fail> {
-    let heap: Global = rt.alloc();
+fn by_two_workers(rt: HostRuntime) {
     let hash = Together {
         blank_came: AtomicBool::new(false),
         other_came: AtomicBool::new(false),
         missed: AtomicBool::new(false),
     };
-    let two = two_frames(heap)?;
-    let pairs = pairs_of(heap, &two, 2)?;
-    let hashes = hash_many(&rt, heap, 2, &hash, &two.frames, &pairs)?;
+    let hashes = hashes_of(&rt, rt.alloc(), rt.alloc(), 2, &hash, 2).expect(&rt, "memory");
     equal(&rt, hashes.as_slice(), [0, 0x41].as_slice());
-    assert!(rt; !hash.missed.load(Ordering::SeqCst));
-    Ok(())
+    holds(&rt, !hash.missed.load(Ordering::SeqCst));
 }

@@ -1,5 +1,5 @@
 //! Digests of contents, checked against `sha256sum`: the first sixteen bytes of what it prints.
-use crate::equal::equal;
+use crate::checks::equal;
 use page_digest::{digest_content, digest_four_contents};
 use page_model::Page;
 

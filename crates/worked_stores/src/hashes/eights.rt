@@ -1,5 +1,5 @@
 //! Eight pages hashed at once.
-use crate::equal::equal;
+use crate::checks::{equal, holds};
 use page_digest::{PageHash, Sha256Hash, TwoByteHash, WideSha256Hash};
 use page_model::Page;
 
@@ -31,12 +31,18 @@ const KNOWN: [u64; 8] = [
 
 #[test]
 fn by_eight_lanes(rt: HostRuntime) {
-    assert!(rt; hashes_of(&WideSha256Hash, [0, 1, 0, 0xffff_ffff, 2, 0, 3, 1]) == KNOWN);
+    holds(
+        &rt,
+        hashes_of(&WideSha256Hash, [0, 1, 0, 0xffff_ffff, 2, 0, 3, 1]) == KNOWN,
+    );
 }
 
 #[test]
 fn by_two_fours(rt: HostRuntime) {
-    assert!(rt; hashes_of(&Sha256Hash, [0, 1, 0, 0xffff_ffff, 2, 0, 3, 1]) == KNOWN);
+    holds(
+        &rt,
+        hashes_of(&Sha256Hash, [0, 1, 0, 0xffff_ffff, 2, 0, 3, 1]) == KNOWN,
+    );
 }
 
 #[test]
@@ -53,5 +59,5 @@ fn wide_hash_of_one_and_of_four(rt: HostRuntime) {
     equal(&rt, WideSha256Hash.hash(0, &page), KNOWN[0]);
     let other = page_of(0x42);
     let hashes = WideSha256Hash.hash_four([0, 1, 1, 0], &page, &other, &other, &page);
-    assert!(rt; hashes == [KNOWN[0], KNOWN[1], KNOWN[1], KNOWN[0]]);
+    holds(&rt, hashes == [KNOWN[0], KNOWN[1], KNOWN[1], KNOWN[0]]);
 }

@@ -1,5 +1,5 @@
 //! The fast hash, checked against known values.
-use crate::equal::equal;
+use crate::checks::equal;
 use page_digest::{FoldHash, PageHash};
 use page_model::Page;
 

@@ -1,5 +1,5 @@
 //! Hashes of known pages.
-use crate::equal::equal;
+use crate::checks::{equal, holds};
 use page_digest::{FirstByteHash, PageHash, Sha256Hash, TwoByteHash};
 use page_model::Page;
 
@@ -60,5 +60,5 @@ fn weak_hashes(rt: HostRuntime) {
         equal(&rt, TwoByteHash.hash(salt, &page), 0x41_0000_0007);
     }
     let hashes = FirstByteHash.hash_four([0, 1, 2, 3], &page, &other, &page, &other);
-    assert!(rt; hashes == [0x41, 0x42, 0x41, 0x42]);
+    holds(&rt, hashes == [0x41, 0x42, 0x41, 0x42]);
 }

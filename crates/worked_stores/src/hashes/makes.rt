@@ -6,7 +6,7 @@ ghost use Rattle.page_digest.specs.Many.{AreTaken};
 use crate::frames::new_frames;
 use machine_frames::Frames;
 use std::alloc::{AllocError, Allocator};
-use std::test::Fail;
+use std::process::Abort;
 
 /// Two frames: one of zeros, and one that begins with 0x41.
 #[derive(Drop)]
@@ -18,16 +18,16 @@ pub(crate) struct Two<A: Allocator> {
     ghost letter_taken: { IsTaken frames letter },
 }
 
-pub(crate) fn two_frames<A: Allocator + Clone>(alloc: A) -> Result<Two<A>, Fail> {
-    let mut frames = new_frames(alloc, 2)?;
-    let blank = frames.take_zeroed().ok_or("full")?;
-    let letter = frames.take_zeroed().ok_or("full")?;
+pub(crate) fn two_frames<A: Allocator + Clone>(rt: &impl Abort, alloc: A) -> Two<A> {
+    let mut frames = new_frames(alloc, 2).expect(rt, "memory");
+    let blank = frames.take_zeroed().expect(rt, "full");
+    let letter = frames.take_zeroed().expect(rt, "full");
     frames.write(letter, 0, &[0x41]);
-    Ok(Two {
+    Two {
         frames,
         blank,
         letter,
-    })
+    }
 }
 
 /// Makes `count` pairs of a salt and one of the two frames in turn. The first two salts are 0, the next two 9, and so

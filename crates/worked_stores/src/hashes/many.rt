@@ -1,12 +1,11 @@
 //! Many frames, hashed by several workers.
-use crate::equal::equal;
+use crate::checks::{equal, equal_at, holds, holds_at};
 use crate::hashes::makes::{pairs_of, two_frames};
 use page_digest::{HashFault, PageHash, Sha256Hash, WideSha256Hash, hash_many};
 use refusing::Refusing;
 use std::alloc::{Allocator, Global};
 use std::process::Abort;
 use std::sync::Wait;
-use std::test::Fail;
 use std::thread::Threads;
 
 // From sha256sum: of 4,096 zeros, and of the page that begins with 0x41.
@@ -18,19 +17,19 @@ const LETTER: u64 = 0x9aab_2ec0_0da3_0c5d;
 const MOST_REQUESTS: u64 = 100;
 
 /// Returns the hashes of `count` frames.
-fn hashes_of<R: Threads + Wait + Abort + Sync, A: Allocator + Clone + Send, H: PageHash>(
+pub(crate) fn hashes_of<R: Threads + Wait + Abort + Sync, A: Allocator + Clone + Send, H: PageHash>(
     rt: &R,
     lists: Global,
     alloc: A,
     workers: u32,
     hash: &H,
     count: u8,
-) -> Result<Result<Vec<u64, A>, HashFault>, Fail> {
-    assert!(rt; workers >= 1);
-    assert!(rt; workers <= 64);
-    let two = two_frames(lists)?;
-    let pairs = pairs_of(lists, &two, count)?;
-    Ok(hash_many(rt, alloc, workers, hash, &two.frames, &pairs))
+) -> Result<Vec<u64, A>, HashFault> {
+    holds(rt, workers >= 1);
+    holds(rt, workers <= 64);
+    let two = two_frames(rt, lists);
+    let pairs = pairs_of(lists, &two, count).expect(rt, "memory");
+    hash_many(rt, alloc, workers, hash, &two.frames, &pairs)
 }
 
 /// Returns the hashes of `count` frames, with memory for all that is asked for.
@@ -39,8 +38,8 @@ fn all_hashes<R: Threads + Wait + Abort + Sync>(
     alloc: Global,
     workers: u32,
     count: u8,
-) -> Result<Vec<u64>, Fail> {
-    Ok(hashes_of(rt, alloc, alloc, workers, &Sha256Hash, count)??)
+) -> Vec<u64> {
+    hashes_of(rt, alloc, alloc, workers, &Sha256Hash, count).expect(rt, "memory")
 }
 
 /// Returns the same hashes, of eight frames at once where there are as many.
@@ -49,19 +48,17 @@ fn wide_hashes<R: Threads + Wait + Abort + Sync>(
     alloc: Global,
     workers: u32,
     count: u8,
-) -> Result<Vec<u64>, Fail> {
-    Ok(hashes_of(rt, alloc, alloc, workers, &WideSha256Hash, count)??)
+) -> Vec<u64> {
+    hashes_of(rt, alloc, alloc, workers, &WideSha256Hash, count).expect(rt, "memory")
 }
 
 #[test]
-fn frames(rt: HostRuntime) -> Result<(), Fail> {
+fn frames(rt: HostRuntime) {
     for workers in [1, 4] {
-        let none = all_hashes(&rt, rt.alloc(), workers, 0)?;
-        equal(&rt, none.len(), 0);
-        let both = all_hashes(&rt, rt.alloc(), workers, 2)?;
+        equal(&rt, all_hashes(&rt, rt.alloc(), workers, 0).len(), 0);
+        let both = all_hashes(&rt, rt.alloc(), workers, 2);
         equal(&rt, both.as_slice(), [BLANK, LETTER].as_slice());
     }
-    Ok(())
 }
 
 /// Checks hashes of the two frames in turn, under the salts of `pairs_of`, against each alone.
@@ -70,10 +67,11 @@ fn are_as_alone(rt: &impl Abort, hashes: &[u64]) {
     let mut n = 0u32;
     for hash in hashes {
         page[0] = if n % 2 == 0 { 0 } else { 0x41 };
-        assert_eq!(rt;
+        equal_at(
+            rt,
+            n,
             *hash,
             Sha256Hash.hash((n / 2).wrapping_mul(9), &page),
-            "at {n}"
         );
         n = n.wrapping_add(1);
     }
@@ -81,35 +79,31 @@ fn are_as_alone(rt: &impl Abort, hashes: &[u64]) {
 
 // Parts of whole fours and of less, under several salts.
 #[test]
-fn as_each_alone(rt: HostRuntime) -> Result<(), Fail> {
+fn as_each_alone(rt: HostRuntime) {
     for workers in 1..8 {
-        let hashes = all_hashes(&rt, rt.alloc(), workers, 23)?;
+        let hashes = all_hashes(&rt, rt.alloc(), workers, 23);
         equal(&rt, hashes.len(), 23);
         are_as_alone(&rt, &hashes);
     }
-    Ok(())
 }
 
 // Whole eights, and with or without a four more or less than a four left.
 #[test]
-fn by_eights(rt: HostRuntime) -> Result<(), Fail> {
+fn by_eights(rt: HostRuntime) {
     for count in [3, 4, 7, 8, 9, 11, 12, 13, 15, 16, 17, 23, 24, 28] {
-        let hashes = wide_hashes(&rt, rt.alloc(), 1, count)?;
+        let hashes = wide_hashes(&rt, rt.alloc(), 1, count);
         equal(&rt, hashes.len(), usize::from(count));
         are_as_alone(&rt, &hashes);
     }
     for workers in 2..5 {
-        are_as_alone(&rt, &wide_hashes(&rt, rt.alloc(), workers, 34)?);
+        are_as_alone(&rt, &wide_hashes(&rt, rt.alloc(), workers, 34));
     }
-    Ok(())
 }
 
 #[test]
-fn most_workers(rt: HostRuntime) -> Result<(), Fail> {
-    let hashes = all_hashes(&rt, rt.alloc(), 64, 64)?;
-    equal(&rt, hashes.len(), 64);
-    equal(&rt, hashes.get(1), Some(&LETTER));
-    Ok(())
+fn most_workers(rt: HostRuntime) {
+    let hashes = all_hashes(&rt, rt.alloc(), 64, 64);
+    equal(&rt, (hashes.len(), hashes.get(1)), (64, Some(&LETTER)));
 }
 
 /// Returns how many hashes there are of six frames by four workers, and the first. Returns none if memory is refused.
@@ -117,10 +111,10 @@ fn six_hashes<R: Threads + Wait + Abort + Sync>(
     rt: &R,
     lists: Global,
     heap: &Refusing,
-) -> Result<Option<(usize, u64)>, Fail> {
-    match hashes_of(rt, lists, heap, 4, &Sha256Hash, 6)? {
-        Ok(hashes) => Ok(Some((hashes.len(), hashes.first().copied().unwrap_or(0)))),
-        Err(HashFault::OutOfMemory) => Ok(None),
+) -> Option<(usize, u64)> {
+    match hashes_of(rt, lists, heap, 4, &Sha256Hash, 6) {
+        Ok(hashes) => Some((hashes.len(), hashes.first().copied().unwrap_or(0))),
+        Err(HashFault::OutOfMemory) => None,
         Err(HashFault::NoThread) => panic!(rt; "no thread"),
     }
 }
@@ -128,13 +122,13 @@ fn six_hashes<R: Threads + Wait + Abort + Sync>(
 // Request number n is refused, with n counting up until a run has no refusal. `NoThread` doesn't occur, since starting
 // a thread asks the system for memory, and no allocator of a caller.
 #[test]
-fn refused_in_turn(rt: HostRuntime) -> Result<(), Fail> {
+fn refused_in_turn(rt: HostRuntime) {
     let mut whole_at = None;
     for n in 0..MOST_REQUESTS {
         let heap = Refusing::new(rt.alloc(), n, 0);
-        let hashes = six_hashes(&rt, rt.alloc(), &heap)?;
-        assert!(rt; heap.has_refused() == hashes.is_none(), "at {n}");
-        assert!(rt; heap.holds_nothing(), "at {n}");
+        let hashes = six_hashes(&rt, rt.alloc(), &heap);
+        holds_at(&rt, n, heap.has_refused() == hashes.is_none());
+        holds_at(&rt, n, heap.holds_nothing());
         if hashes.is_some() {
             equal(&rt, hashes, Some((6, BLANK)));
             whole_at = Some(n);
@@ -143,5 +137,4 @@ fn refused_in_turn(rt: HostRuntime) -> Result<(), Fail> {
     }
     // The hashes, the tasks, a list for each of two threads, and the handles.
     equal(&rt, whole_at, Some(5));
-    Ok(())
 }

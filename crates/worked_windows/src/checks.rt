@@ -1,4 +1,4 @@
-//! One comparison for all tests.
+//! What tests compare by. Each is proved once here, and not at each place that compares.
 use std::fmt::Debug;
 use std::process::Abort;
 
