@@ -27,7 +27,7 @@ crate. Where the edit names a function that is to be refused, in a line 'refused
 are checked first, and the whole crate only if none of these is refused.
 
 A check is of the edited functions and what they call, over what earlier checks of the crate kept. Where the checker knows a function
-by none of the paths that this script guesses, it is of the whole crate. Only a check of the whole crate tells NOT REFUSED.
+by none of the paths that this script guesses, it is of the whole crate. Only a check of the whole crate says NOT REFUSED.
 """
 import contextlib
 import dataclasses
@@ -60,7 +60,7 @@ TYPE_ALONE = re.compile(r"(?m)^(?:pub(?:\([a-z ]+\))? )?(?:struct|enum) (\w+)")
 ABOVE = ("#[", "///")
 NEEDED = re.compile(r"^\s*#\[(cycle|test)\b|\bconst fn\b|\bfn main\b")
 OF_A_CALL = re.compile(r"it (?:calls|passes the block) [^;]*, which (?:is|are) not proved")
-# How a reason begins that tells little of a contract.
+# How a reason begins that says little of a contract.
 SAYS_LITTLE = "refused, as it must be (only"
 # The body of a function that nobody edited, in a bare copy, and the files of its own proof there.
 ENDLESS = "\nloop {}"
@@ -272,7 +272,7 @@ class Trial:
     """The edits of one crate."""
 
     def __init__(self, kit, crate, earlier):
-        self.kit, self.crate, self.told, self.lines, self.plain = kit, crate, {}, [], {}
+        self.kit, self.crate, self.results, self.lines, self.plain = kit, crate, {}, [], {}
         self.earlier, self.folder, self.old = earlier, f"{crate.folder}/edits", 0
         self.waiting, self.alone, self.homes = [], [], homes_of(crate)
         # the functions that checks have named, and paths that are no function's
@@ -285,21 +285,21 @@ class Trial:
             said = earlier.find(crate, f"{self.folder}/{name}") if name.endswith(".edit") else None
             if said:
                 self.old += 1
-                self.told[name] = (True, said)
+                self.results[name] = (True, said)
             elif name.endswith(".edit"):
                 self.read(f"{self.folder}/{name}", name)
             elif not name.endswith(".md"):
-                self.tell(name, False, "BAD EDIT: an edit's name ends in .edit")
+                self.note(name, False, "BAD EDIT: an edit's name ends in .edit")
 
-    def tell(self, name, is_refused, said):
-        self.told[name] = (is_refused, f"edit {self.crate.name}/{name}: {said}")
+    def note(self, name, is_refused, said):
+        self.results[name] = (is_refused, f"edit {self.crate.name}/{name}: {said}")
         if is_refused:
-            self.earlier.keep(self.crate, f"{self.folder}/{name}", self.told[name][1])
+            self.earlier.keep(self.crate, f"{self.folder}/{name}", self.results[name][1])
 
     def read(self, path, name):
         texts, why = self.kit.read_edit(path, self.crate.folder)
         if why:
-            self.tell(name, False, f"BAD EDIT: {why}")
+            self.note(name, False, f"BAD EDIT: {why}")
             return
         for file in texts:
             with open(f"{self.crate.folder}/{file}", encoding="utf-8") as it:
@@ -418,7 +418,7 @@ class Trial:
     def try_bare(self, batch):
         """Tries edits in a copy that lacks the bodies and the proofs of all functions that none of them changes or names.
 
-        Returns those that aren't refused there. These are all of them where the copy tells of something else.
+        Returns those that aren't refused there. These are all of them where the copy is refused for something else.
         """
         edited = {it for edit in batch for it in edit.functions}
         bare = {function: places for function, places in self.bodies.items() if function not in edited}
@@ -431,7 +431,7 @@ class Trial:
             own = [it for it in said.refused if any(function.is_named(it) for function in edit.functions)]
             why = said.reason(own) if own and said.was_judged and not strays else None
             if why and not why.startswith(SAYS_LITTLE):
-                self.tell(edit.name, True, why)
+                self.note(edit.name, True, why)
             else:
                 left.append(edit)
         return left
@@ -448,7 +448,7 @@ class Trial:
         for edit in batch:
             own = [it for it in said.refused if any(function.is_named(it) for function in edit.functions)]
             if own:
-                self.tell(edit.name, True, said.reason(own))
+                self.note(edit.name, True, said.reason(own))
             else:
                 edit.tries += 1
                 (self.waiting if edit.tries < 2 and len(batch) > 1 else self.alone).append(edit)
@@ -465,15 +465,15 @@ class Trial:
         if not said.is_whole and not (said.was_judged and said.refused):
             said = self.check(edit.texts, f"{edit.name} alone, the whole crate")
         if said.unread:
-            self.tell(edit.name, False, f"BAD EDIT: the prover cannot read the edited text, so no contract was tried: {said.unread[:200]}")
+            self.note(edit.name, False, f"BAD EDIT: the prover cannot read the edited text, so no contract was tried: {said.unread[:200]}")
         elif not said.was_judged and said.is_proved:
-            self.tell(edit.name, False, "NOT REFUSED: the crate is still proved with this edit")
+            self.note(edit.name, False, "NOT REFUSED: the crate is still proved with this edit")
         elif not said.was_judged:
-            self.tell(edit.name, False, f"BAD EDIT: it did not reach the prover: {said.lines[:3]}")
+            self.note(edit.name, False, f"BAD EDIT: it did not reach the prover: {said.lines[:3]}")
         elif said.refused:
-            self.tell(edit.name, True, said.reason(said.refused, said.errors()))
+            self.note(edit.name, True, said.reason(said.refused, said.errors()))
         else:
-            self.tell(edit.name, False, f"NOT REFUSED: no function is refused by itself: {next(iter(said.errors()), '')}")
+            self.note(edit.name, False, f"NOT REFUSED: no function is refused by itself: {next(iter(said.errors()), '')}")
 
 
 class Said:
@@ -517,26 +517,26 @@ class Said:
 
 
 def try_crates(kit, crates, earlier):
-    """Tries the edits of all crates, as many side by side as processors and memory allow. Returns what was told, crate by crate."""
+    """Tries the edits of all crates, as many side by side as processors and memory allow. Returns the results, crate by crate."""
     printing = threading.Lock()
 
     def work(crate, _given, _jobs):
         try:
             trial = Trial(kit, crate, earlier).run()
-            lines, told = trial.lines, [trial.told[it] for it in sorted(trial.told)]
+            lines, results = trial.lines, [trial.results[it] for it in sorted(trial.results)]
             if trial.old:
-                lines.append(f"{crate.name}: {trial.old} of {len(told)} edits were refused by an earlier run of the same on this machine")
+                lines.append(f"{crate.name}: {trial.old} of {len(results)} edits were refused by an earlier run of the same on this machine")
         except (OSError, RuntimeError) as error:
-            lines, told = [], [(False, f"{crate.name}: its edits were not tried: {error}")]
+            lines, results = [], [(False, f"{crate.name}: its edits were not tried: {error}")]
         with printing:
-            print("\n".join([*lines, *(said for _is_refused, said in told)]), flush=True)
-        return told
+            print("\n".join([*lines, *(said for _is_refused, said in results)]), flush=True)
+        return results
 
     tasks = {}
     for crate in crates:
         lines, call = crate.count(rb"\n"), lambda given, jobs, it=crate: work(it, given, jobs)
         tasks[crate.name, "edits"] = ([], lines, kit.need(crate), call)
-    return [it for told in kit.in_lanes(tasks).values() for it in told]
+    return [it for results in kit.in_lanes(tasks).values() for it in results]
 
 
 def main(words):
@@ -545,18 +545,18 @@ def main(words):
     kit.Crate.allowed = kit.handles_of(os.getcwd())
     crates = [it for it in kit.rtlib.crates_below(os.getcwd()) if os.path.isdir(f"{it.folder}/edits")]
     unknown = {*names} - {it.name for it in crates}
-    told = [(False, f"{it}: no crate with edits has this name") for it in sorted(unknown)]
-    print("".join(f"{said}\n" for _is_refused, said in told), end="")
+    results = [(False, f"{it}: no crate with edits has this name") for it in sorted(unknown)]
+    print("".join(f"{said}\n" for _is_refused, said in results), end="")
     crates = [it for it in crates if not names or it.name in names]
     every = {below.name: below for it in crates for below in [*it.below(), it]}
     earlier = Earlier(kit, list(every.values()), "--anew" in words) if hasattr(kit, "Kept") else Nothing()
-    told += try_crates(kit, crates, earlier)
-    failed = [said for is_refused, said in told if not is_refused]
+    results += try_crates(kit, crates, earlier)
+    failed = [said for is_refused, said in results if not is_refused]
     for said in failed:
         print(f"FAILED: {said}")
     used = resource.getrusage(resource.RUSAGE_CHILDREN)
     print(f"{used.ru_utime + used.ru_stime:.0f} processor seconds")
-    print(f"{len(told) - len(failed)} passed, {len(failed)} failed")
+    print(f"{len(results) - len(failed)} passed, {len(failed)} failed")
     return 1 if failed else 0
 
 
