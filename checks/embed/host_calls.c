@@ -64,7 +64,7 @@ static bool is_welcome(const uint8_t *name) {
 }
 
 /* Whether a session is described so. */
-static bool is_told(struct pageshare_host *host, uint32_t session, uint32_t state, uint32_t slots, uint32_t fault, uint64_t messages) {
+static bool has_session(struct pageshare_host *host, uint32_t session, uint32_t state, uint32_t slots, uint32_t fault, uint64_t messages) {
     struct pageshare_host_session known = {9, 9, 9, 9, 9};
     return pageshare_host_session(host, session, &known) == PAGESHARE_HOST_OK && known.state == state && known.slots == slots &&
            known.fault == fault && known.reserved == 0 && known.messages == messages;
@@ -147,17 +147,17 @@ static void check_hello(struct pageshare_host *host) {
     CHECK(got.status == PAGESHARE_HOST_ERROR_NO_SESSION && reply[0] == 0xaa);
     for (uint32_t i = 0; i < SESSIONS; i++) CHECK(pageshare_host_connect(host, names[i], &number) == PAGESHARE_HOST_OK && number == i);
     CHECK(pageshare_host_connect(host, names[3], &number) == PAGESHARE_HOST_ERROR_NO_ROOM && number == SESSIONS - 1);
-    CHECK(is_told(host, 0, PAGESHARE_HOST_STATE_SILENT, 0, 0, 0));
+    CHECK(has_session(host, 0, PAGESHARE_HOST_STATE_SILENT, 0, 0, 0));
     got = pageshare_host_receive(host, 0, (const uint8_t *)bare, 8, (const uint8_t(*)[PAGE])pages, 0, reply, sizeof reply - 1, freed, FREED);
     CHECK(got.status == PAGESHARE_HOST_ERROR_SHORT);
     got = pageshare_host_receive(host, 0, (const uint8_t *)bare, 8, (const uint8_t(*)[PAGE])pages, 0, reply, sizeof reply, freed, FREED - 1);
     CHECK(got.status == PAGESHARE_HOST_ERROR_SHORT);
-    CHECK(is_told(host, 0, PAGESHARE_HOST_STATE_SILENT, 0, 0, 0));
+    CHECK(has_session(host, 0, PAGESHARE_HOST_STATE_SILENT, 0, 0, 0));
     hello(host, 0, NULL);
     CHECK(is_welcome(names[0]) && got.resumed == PAGESHARE_HOST_NO_FRAME);
     hello(host, 1, names[3]);
     CHECK(is_welcome(names[1]) && got.resumed == PAGESHARE_HOST_NO_FRAME);
-    CHECK(is_told(host, 1, PAGESHARE_HOST_STATE_TALKING, 0, 0, 1));
+    CHECK(has_session(host, 1, PAGESHARE_HOST_STATE_TALKING, 0, 0, 1));
 }
 
 static void check_ask(struct pageshare_host *host) {
@@ -201,7 +201,7 @@ static void check_releases(struct pageshare_host *host, const uint64_t slots[5])
     CHECK(freed[1] == PAGESHARE_HOST_NO_FRAME && freed[2] == 0xbbbbbbbb && counts(host, 2, 5, 3, 3));
     release(host, 0, slots[0], slots[2]);
     CHECK(got.freed == 2 && freed[0] == PAGESHARE_HOST_NO_FRAME && freed[1] < FRAMES && counts(host, 2, 3, 2, 2));
-    CHECK(is_told(host, 0, PAGESHARE_HOST_STATE_TALKING, 2, 0, 6) && is_told(host, 1, PAGESHARE_HOST_STATE_TALKING, 1, 0, 3));
+    CHECK(has_session(host, 0, PAGESHARE_HOST_STATE_TALKING, 2, 0, 6) && has_session(host, 1, PAGESHARE_HOST_STATE_TALKING, 1, 0, 3));
 }
 
 /* ---- connections that end */
@@ -209,12 +209,12 @@ static void check_releases(struct pageshare_host *host, const uint64_t slots[5])
 /* Session 2 takes up session 0, which is free then. */
 static void check_resumed(struct pageshare_host *host) {
     uint32_t number = 77;
-    CHECK(pageshare_host_disconnect(host, 0) == PAGESHARE_HOST_OK && is_told(host, 0, PAGESHARE_HOST_STATE_GONE, 2, 0, 6));
+    CHECK(pageshare_host_disconnect(host, 0) == PAGESHARE_HOST_OK && has_session(host, 0, PAGESHARE_HOST_STATE_GONE, 2, 0, 6));
     lend(host, 0, 1);
     CHECK(got.status == PAGESHARE_HOST_ERROR_NO_SESSION);
     hello(host, 2, names[0]);
     CHECK(is_welcome(names[0]) && got.resumed == 0);
-    CHECK(is_told(host, 2, PAGESHARE_HOST_STATE_TALKING, 2, 0, 7));
+    CHECK(has_session(host, 2, PAGESHARE_HOST_STATE_TALKING, 2, 0, 7));
     CHECK(pageshare_host_disconnect(host, 0) == PAGESHARE_HOST_ERROR_NO_SESSION);
     CHECK(pageshare_host_connect(host, names[3], &number) == PAGESHARE_HOST_OK && number == 0);
     CHECK(pageshare_host_disconnect(host, 0) == PAGESHARE_HOST_OK);
@@ -227,7 +227,7 @@ static void check_fault(struct pageshare_host *host, const void *bytes, size_t l
     CHECK(pageshare_host_connect(host, names[3], &number) == PAGESHARE_HOST_OK && number == 0);
     receive(host, number, bytes, length, 0);
     CHECK(got.status == status && got.reply_bytes == 0 && reply[0] == 0xaa);
-    CHECK(is_told(host, number, PAGESHARE_HOST_STATE_BROKEN, 0, status, 0));
+    CHECK(has_session(host, number, PAGESHARE_HOST_STATE_BROKEN, 0, status, 0));
     hello(host, number, NULL);
     CHECK(got.status == PAGESHARE_HOST_ERROR_NO_SESSION);
     CHECK(pageshare_host_disconnect(host, number) == PAGESHARE_HOST_OK);
@@ -243,9 +243,9 @@ static void check_faults(struct pageshare_host *host) {
     check_fault(host, longer, 12, PAGESHARE_HOST_FAULT_LENGTH);
     check_fault(host, early, 8, PAGESHARE_HOST_FAULT_EARLY);
     lend(host, 2, QUOTA + 2);
-    CHECK(got.status == PAGESHARE_HOST_FAULT_PAGES && is_told(host, 2, PAGESHARE_HOST_STATE_BROKEN, 2, PAGESHARE_HOST_FAULT_PAGES, 7));
+    CHECK(got.status == PAGESHARE_HOST_FAULT_PAGES && has_session(host, 2, PAGESHARE_HOST_STATE_BROKEN, 2, PAGESHARE_HOST_FAULT_PAGES, 7));
     hello(host, 1, NULL);
-    CHECK(got.status == PAGESHARE_HOST_FAULT_AGAIN && is_told(host, 1, PAGESHARE_HOST_STATE_BROKEN, 1, PAGESHARE_HOST_FAULT_AGAIN, 3));
+    CHECK(got.status == PAGESHARE_HOST_FAULT_AGAIN && has_session(host, 1, PAGESHARE_HOST_STATE_BROKEN, 1, PAGESHARE_HOST_FAULT_AGAIN, 3));
     CHECK(counts(host, 2, 3, 2, 2));
 }
 
@@ -261,7 +261,7 @@ static void check_ends(struct pageshare_host *host) {
     for (int i = 0; i < 2; i++) {
         CHECK(pageshare_host_end(host, 2, frames, 1, &count) == PAGESHARE_HOST_OK && count == 1);
         freed_frames += frames[0] != PAGESHARE_HOST_NO_FRAME;
-        CHECK(is_told(host, 2, PAGESHARE_HOST_STATE_ENDED, (uint32_t)(1 - i), 0, 7));
+        CHECK(has_session(host, 2, PAGESHARE_HOST_STATE_ENDED, (uint32_t)(1 - i), 0, 7));
     }
     CHECK(freed_frames == 1);
     frames[0] = 78;
@@ -351,7 +351,7 @@ static void check_lost(void *region) {
     CHECK(pageshare_host_connect(&host, names[1], &number) == PAGESHARE_HOST_OK && number == 1);
     take_up(&host, 1, names[0], 1);
     CHECK(got.status == PAGESHARE_HOST_OK && got.resumed == 0 && got.freed == 1 && freed[0] == frame && freed[1] == 0xbbbbbbbb);
-    CHECK(counts(&host, 1, 2, 2, 0) && is_told(&host, 1, PAGESHARE_HOST_STATE_TALKING, 2, 0, 4));
+    CHECK(counts(&host, 1, 2, 2, 0) && has_session(&host, 1, PAGESHARE_HOST_STATE_TALKING, 2, 0, 4));
     /* the client's number counts from then on: nothing more is released, and the next reply is the second one */
     lend(&host, 1, 1);
     CHECK(counts(&host, 1, 3, 3, 0) && pageshare_host_disconnect(&host, 1) == PAGESHARE_HOST_OK);

@@ -141,11 +141,11 @@ Done_is_true Order.CompareZeros w page = (page.guarded ≡ true) × (shown_in w.
 Done_is_true Order.GiveBack w page = page.copy_fresh ≡ true
 Done_is_true Order.PutBack w page = Unit {0}
 
-abbrev pub IsTold : Order → Outcome → Mappings → Page → Type 0
-IsTold order Done w page = Done_is_true order w page
-IsTold order (Lent slot n) w page = Unit {0}
-IsTold order Refused w page = Unit {0}
-IsTold order Unknown w page = Unit {0}
+abbrev pub SaysTrue : Order → Outcome → Mappings → Page → Type 0
+SaysTrue order Done w page = Done_is_true order w page
+SaysTrue order (Lent slot n) w page = Unit {0}
+SaysTrue order Refused w page = Unit {0}
+SaysTrue order Unknown w page = Unit {0}
 
 -- the events are possible one after another, and after them this is right to believe
 pub record Follows (es : List Event) (belief : Belief) (w : Mappings) (p : ℕ) : Type 0 where
@@ -155,7 +155,7 @@ pub record Follows (es : List Event) (belief : Belief) (w : Mappings) (p : ℕ) 
 -- in all mappings where the old belief was right of a page, the outcome's events are possible, and then the new one is right
 abbrev pub DoneByEvents : Belief → Order → Outcome → Belief → Type 0
 DoneByEvents old order outcome new =
-    (w : Mappings) (p : ℕ) (was_done : Bool) (b : Believes old w p) → IsTold order outcome w b.page →
+    (w : Mappings) (p : ℕ) (was_done : Bool) (b : Believes old w p) → SaysTrue order outcome w b.page →
     Follows (events_of p (shown_in w.frames b.page.view) order outcome was_done) new w p
 
 -- where the old belief was right, the new one is

@@ -1,6 +1,6 @@
 -- Histories of one page: what came of its lender's orders, what the lender heard, and what others did in between.
 use Rattle.std.specs.Prelude.{◌≡◌, ℕ, Bool, true, false, List, [], ◌∷◌, Some, None, unwrap_or, slice_get}
-use Rattle.page_lender.specs.Events.{Believes, IsTold, events_of, DoneByEvents, StaysRight, HeardRightly, is_of, is_guests}
+use Rattle.page_lender.specs.Events.{Believes, SaysTrue, events_of, DoneByEvents, StaysRight, HeardRightly, is_of, is_guests}
 use Rattle.page_lender.specs.declared.belief.Belief.{Belief}
 use Rattle.page_lender.specs.declared.belief.Belief.TheVariants.{Private, EqualZeros}
 use Rattle.page_lender.specs.declared.order.Order.{Order}
@@ -45,7 +45,7 @@ moved p page w (others e) = unwrap_or (step w e) w
 
 -- the move keeps the contracts of `done`, `heard`, and of `choose` and `next`, and what it says is so
 abbrev pub IsTrue : ℕ → Belief → Page → Mappings → Move → Type 0
-IsTrue p old page w (takes order outcome was_done new) = DoneByEvents old order outcome new × IsTold order outcome w page
+IsTrue p old page w (takes order outcome was_done new) = DoneByEvents old order outcome new × SaysTrue order outcome w page
 IsTrue p old page w (hears new) = HeardRightly old new × (is_bare page.view ≡ false)
 IsTrue p old page w (turns new) = StaysRight old new
 IsTrue p old page w (guest e) = is_guests p e ≡ true

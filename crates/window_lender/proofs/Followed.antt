@@ -8,7 +8,7 @@ use Rattle.window_events.specs.Played.{refused_from, played}
 use Rattle.window_events.specs.declared.event.Event.{Event}
 use Rattle.window_events.specs.declared.page.Page.{Page}
 use Rattle.page_lender.specs.Decisions.{due}
-use Rattle.page_lender.specs.Events.{Believes, IsTold, Follows, DoneByEvents, done_events, events_of, is_of}
+use Rattle.page_lender.specs.Events.{Believes, SaysTrue, Follows, DoneByEvents, done_events, events_of, is_of}
 use Rattle.page_lender.specs.declared.belief.Belief.{Belief}
 use Rattle.page_lender.specs.declared.order.Order.{Order}
 use Rattle.page_lender.specs.declared.order.Outcome.{Outcome}
@@ -16,7 +16,7 @@ use Rattle.page_lender.specs.declared.order.Outcome.TheVariants.{Done, Lent, Ref
 use Rattle.page_lender.specs.declared.page.PageLender.{PageLender}
 use Rattle.page_lender.proofs.Kept.{kept_by_others}
 use Rattle.window_lender.specs.Runs.{Changed, IsDone}
-use Rattle.window_lender.specs.Events.{content, due_at, page_events, run_events, AreTold, RunByEvents}
+use Rattle.window_lender.specs.Events.{content, due_at, page_events, run_events, SayTrue, RunByEvents}
 use Rattle.window_lender.proofs.Ranges.{there}
 
 -- events of other pages than q
@@ -94,12 +94,12 @@ both_played (e ∷ xs) ys n w r = pick (λ next k. both_played xs ys (n + 1) nex
 -- one page's events, as the run has them
 one_follows : (first i : ℕ) (pages : List PageLender) (outcome : ℕ → Outcome) (was_done : ℕ → Bool) (w : Mappings) (x y : PageLender) → slice_get pages i ≡ Some x →
     (b : Believes x.belief w (first + i)) → DoneByEvents x.belief (due x.belief) (outcome i) y.belief →
-    ((page : Page) → slice_get w.pages (first + i) ≡ Some page → IsTold (due_at pages i) (outcome i) w page) →
+    ((page : Page) → slice_get w.pages (first + i) ≡ Some page → SaysTrue (due_at pages i) (outcome i) w page) →
     Follows (page_events first i pages outcome was_done w) y.belief w (first + i)
 one_follows first i pages outcome was_done w x y e b d t =
     let is_due : due_at pages i ≡ due x.belief = ap (λ o. option_map_or (λ a. due a.belief) o Order.Wait) e in
     let is_shown : content w (first + i) ≡ shown_in w.frames b.page.view = ap (λ o. unwrap_or (option_map (λ page. shown_in w.frames page.view) o) 0) b.there in
-    let is_so : IsTold (due x.belief) (outcome i) w b.page = subst (λ o. IsTold o (outcome i) w b.page) is_due (t b.page b.there) in
+    let is_so : SaysTrue (due x.belief) (outcome i) w b.page = subst (λ o. SaysTrue o (outcome i) w b.page) is_due (t b.page b.there) in
     subst (λ o. Follows (events_of (first + i) (content w (first + i)) o (outcome i) (was_done i)) y.belief w (first + i)) (sym is_due)
     (subst (λ s. Follows (events_of (first + i) s (due x.belief) (outcome i) (was_done i)) y.belief w (first + i)) (sym is_shown)
     (d w (first + i) (was_done i) b is_so))
@@ -146,7 +146,7 @@ joined_run n first at new xs ys w y e f a r = record {
         (r.others (first + at) z.belief (inl (omega arith)) (subst (λ v. Believes v.belief (played w xs) (first + at)) is_z f.right))
 
 run_follows : (n first at : ℕ) (old new : List PageLender) (outcome : ℕ → Outcome) (was_done : ℕ → Bool) (w : Mappings) → at + n ≤ length old → length new ≡ length old →
-    Steps at n old new outcome → RightOf first at n old w → AreTold n first at old outcome was_done w → Ran n first at new (run_events n first at old outcome was_done w) w
+    Steps at n old new outcome → RightOf first at n old w → SayTrue n first at old outcome was_done w → Ran n first at new (run_events n first at old outcome was_done w) w
 run_follows zero first at old new outcome was_done w room len steps right is_so = record {
   possible = refl;
   inside = λ i y l h e. absurd (omega arith);

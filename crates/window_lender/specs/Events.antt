@@ -2,7 +2,7 @@
 use Rattle.std.specs.Prelude.{◌≡◌, ◌<◌, ◌≤◌, ℕ, zero, suc, ◌+◌, Bool, false, List, [], ◌++◌, Some, None, unwrap_or, slice_get}
 use Rattle.std.specs.Option.{option_map_or}
 use Rattle.page_lender.specs.Decisions.{due}
-use Rattle.page_lender.specs.Events.{Believes, IsTold, events_of}
+use Rattle.page_lender.specs.Events.{Believes, SaysTrue, events_of}
 use Rattle.page_lender.specs.declared.order.Order.{Order}
 use Rattle.page_lender.specs.declared.order.Order.TheVariants.{Wait}
 use Rattle.page_lender.specs.declared.order.Outcome.{Outcome}
@@ -31,11 +31,11 @@ run_events (suc n) first i pages outcome was_done w =
     page_events first i pages outcome was_done w ++ run_events n first (i + 1) pages outcome was_done (played w (page_events first i pages outcome was_done w))
 
 -- each outcome is true when its page's turn comes
-abbrev pub AreTold : ℕ → ℕ → ℕ → List PageLender → (ℕ → Outcome) → (ℕ → Bool) → Mappings → Type 0
-AreTold zero first i pages outcome was_done w = Unit {0}
-AreTold (suc n) first i pages outcome was_done w =
-    ((page : Page) → slice_get w.pages (first + i) ≡ Some page → IsTold (due_at pages i) (outcome i) w page)
-    × AreTold n first (i + 1) pages outcome was_done (played w (page_events first i pages outcome was_done w))
+abbrev pub SayTrue : ℕ → ℕ → ℕ → List PageLender → (ℕ → Outcome) → (ℕ → Bool) → Mappings → Type 0
+SayTrue zero first i pages outcome was_done w = Unit {0}
+SayTrue (suc n) first i pages outcome was_done w =
+    ((page : Page) → slice_get w.pages (first + i) ≡ Some page → SaysTrue (due_at pages i) (outcome i) w page)
+    × SayTrue n first (i + 1) pages outcome was_done (played w (page_events first i pages outcome was_done w))
 
 -- what is believed of each page of a window is right
 pub record AllRight (first : ℕ) (pages : List PageLender) (w : Mappings) : Type 0 where
@@ -49,7 +49,7 @@ pub record AllFollow (es : List Event) (first : ℕ) (pages : List PageLender) (
 -- In all mappings where what was believed of each page was right, the events of these outcomes are possible, and then what is believed is.
 abbrev pub RunByEvents : ℕ → ℕ → ℕ → (ℕ → Outcome) → List PageLender → List PageLender → Type 0
 RunByEvents first from count outcome old new =
-    (w : Mappings) (was_done : ℕ → Bool) → AllRight first old w → AreTold count first from old outcome was_done w →
+    (w : Mappings) (was_done : ℕ → Bool) → AllRight first old w → SayTrue count first from old outcome was_done w →
     AllFollow (run_events count first from old outcome was_done w) first new w
 
 -- where what was believed of each page was right, what is believed is

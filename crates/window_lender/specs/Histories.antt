@@ -8,7 +8,7 @@ use Rattle.window_events.specs.Played.{refused_from, played}
 use Rattle.window_events.specs.declared.event.Event.{Event}
 use Rattle.window_events.specs.declared.event.Event.TheVariants.{Write, Guard, Unguard, Copy, Lend, Map, Release, Trim, Discard}
 use Rattle.window_events.specs.declared.page.Page.{Page}
-use Rattle.window_lender.specs.Events.{AllRight, AreTold, RunByEvents, StayRight, HearRight, run_events}
+use Rattle.window_lender.specs.Events.{AllRight, SayTrue, RunByEvents, StayRight, HearRight, run_events}
 
 -- a guest writes a page or gives it up
 abbrev pub is_guests : Event → Bool
@@ -62,7 +62,7 @@ moved first old w (others e) = unwrap_or (step w e) w
 -- the move keeps the contracts of `done` and `lent`, of `heard`, and of `choose`, `choose_zeros`, `next`, `withdraw` and `bar`, and what
 -- it says is so
 abbrev pub IsTrue : ℕ → List PageLender → Mappings → Move → Type 0
-IsTrue first old w (takes from count outcome was_done new) = RunByEvents first from count outcome old new × AreTold count first from old outcome was_done w
+IsTrue first old w (takes from count outcome was_done new) = RunByEvents first from count outcome old new × SayTrue count first from old outcome was_done w
 IsTrue first old w (hears from to new) =
     HearRight first from to old new × ((i : ℕ) (page : Page) → from ≤ i → i < to → slice_get w.pages (first + i) ≡ Some page → is_bare page.view ≡ false)
 IsTrue first old w (turns new) = StayRight first old new
