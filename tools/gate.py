@@ -93,8 +93,8 @@ COMMANDS = {
     ],
 }
 # What each command takes from nothing, in processor minutes, on processors of 2.5 GHz; `check` after `make test`. That of `check` was
-# measured. Of `test` it is known that it takes an hour on four processors, and of `edits` 490 of 1,108 were measured.
-MINUTES = {"test": 225, "edits": 125, "check": 38}
+# measured. Of `test` it is known that it takes an hour on four processors, and of `edits` 889 of 1,163 were measured, beside other work.
+MINUTES = {"test": 225, "edits": 160, "check": 38}
 TICKS = os.sysconf("SC_CLK_TCK")
 # The steps of which it is counted how far they are; of the others the last line is shown.
 COUNTED = ("rt ci", "edits")
