@@ -155,6 +155,17 @@ static void refused(void) {
     check(munmap(at, PAGES * PAGE) == 0, "munmap");
 }
 
+/* A call that the kernel refuses, over a range with a hole, loses nothing: what is there still lies over frames, and is known to. */
+static void refused_hole(void) {
+    uint8_t *at = lent(PAGES);
+    check(munmap(at + 100 * PAGE, 50 * PAGE) == 0, "munmap");
+    check(mmap(at, PAGES * PAGE, PROT_READ, MAP_PRIVATE | MAP_FIXED, 9999, 0) == MAP_FAILED && errno == EBADF, "mmap of no file");
+    check(differing(at, 0, 100, 1) == 0 && differing(at, 150, PAGES, 1) == 0, "all is there");
+    check(madvise(at, 100 * PAGE, MADV_DONTNEED) == 0 && is_full_of(at, 100 * PAGE, 0), "a discard before the hole");
+    check(madvise(at + 150 * PAGE, 100 * PAGE, MADV_DONTNEED) == 0 && is_full_of(at + 150 * PAGE, 100 * PAGE, 0), "and behind it");
+    check(munmap(at, PAGES * PAGE) == 0, "munmap of all, with the hole");
+}
+
 /* ---- forks ---- */
 
 static atomic_bool over;
@@ -491,7 +502,7 @@ static const struct way {
     {"moved", moved},   {"advised", advised},        {"refused", refused},   {"children", children},
     {"forked", forked}, {"inherited", inherited},    {"late", noticed_late}, {"direct", direct},
     {"locked", locked}, {"mappings", many_mappings}, {"ended", ended},       {"not-opened", not_opened},
-    {"pairs", pairs},   {"newcomer", newcomer},
+    {"pairs", pairs},   {"newcomer", newcomer},      {"refused-hole", refused_hole},
 };
 
 int main(int count, char **words) {

@@ -68,7 +68,7 @@ def follow(ran: subprocess.Popen[str], host: Host, during: During) -> tuple[int,
 
 def case_parts() -> None:
     """Parts of a window leave it, in each order; advice on a part; calls that the kernel refuses."""
-    run_parts(("kept", "foreign", "hole", "used-later", "moved", "advised", "refused"))
+    run_parts(("kept", "foreign", "hole", "used-later", "moved", "advised", "refused", "refused-hole"))
 
 
 def case_forks() -> None:

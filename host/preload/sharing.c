@@ -198,6 +198,24 @@ static size_t forget(uint8_t *at, uint8_t *end, struct window **unused) {
     return count;
 }
 
+static bool are_mapped(uint8_t *at, size_t bytes) { return msync(at, bytes, MS_ASYNC) == 0 || errno != ENOMEM; }
+
+/*
+ * The same after a call that failed: before Linux 6.12 it may have unmapped what was there. Only pages that aren't there any more are
+ * forgotten. Beside the ranges there may always have been holes, which say nothing of them.
+ */
+static size_t forget_unmapped(uint8_t *at, uint8_t *end, struct window **unused) {
+    size_t count = 0;
+    for (struct range *range; (range = ranges_next(at, end)) != NULL;) {
+        struct piece piece = range_piece(range, at, end);
+        at = piece.at + piece.bytes;
+        if (are_mapped(piece.at, piece.bytes)) continue;
+        for (uint8_t *page = piece.at; page < at; page += PAGE)
+            if (!are_mapped(page, PAGE)) count += forget(page, page + PAGE, unused + count);
+    }
+    return count;
+}
+
 long sharing_replace(void *from, size_t bytes, long (*call)(void *with), void *with) {
     struct window *unused[RANGES_MOST];
     size_t count = 0;
@@ -212,9 +230,7 @@ long sharing_replace(void *from, size_t bytes, long (*call)(void *with), void *w
     }
     long status = call(with);
     cause = errno;
-    /* (before Linux 6.12 a call that fails may have unmapped what was there) */
-    bool is_gone = status != -1 || (msync(from, bytes, MS_ASYNC) != 0 && errno == ENOMEM);
-    if (is_gone) count = forget(from, end_of(from, bytes), unused);
+    count = (status != -1 ? forget : forget_unmapped)(from, end_of(from, bytes), unused);
     if (set) windows_resume(set);
     for (size_t i = 0; i < count; i++) end_unused(unused[i]);
     leave();
