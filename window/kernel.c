@@ -148,15 +148,17 @@ int pagemap_open(struct pagemap *pagemap, bool never_scan) {
     return 0;
 }
 
-static int find_by_scan(int fd, const void *at, size_t pages, uint8_t *found, bool *is_huge) {
+/* `has_files`: some of the pages may be a file's. To find out, the system looks at each page's record, and that takes long. */
+static int find_by_scan(int fd, const void *at, size_t pages, bool has_files, uint8_t *found, bool *is_huge) {
     struct region regions[PAGEMAP_MOST];
+    const uint64_t no_file = has_files ? IS_FILE : 0;
     struct scan scan = {.size = sizeof scan,
                         .start = (uintptr_t)at,
                         .end = (uintptr_t)at + bytes_of(pages),
                         .regions = (uintptr_t)regions,
                         .region_count = PAGEMAP_MOST,
-                        .inverted = IS_FILE | IS_ZERO_PAGE,
-                        .all_of = IS_FILE | IS_ZERO_PAGE | IS_UNGUARDED,
+                        .inverted = no_file | IS_ZERO_PAGE,
+                        .all_of = no_file | IS_ZERO_PAGE | IS_UNGUARDED,
                         .any_of = IS_PRESENT | IS_SWAPPED,
                         .answered = IS_PRESENT | IS_HUGE};
     *is_huge = false;
@@ -188,11 +190,30 @@ static int read_entries(int fd, const void *at, size_t pages, uint64_t *entries)
     return (size_t)got == wanted ? 0 : EIO;
 }
 
-int pagemap_find(const struct pagemap *pagemap, const void *at, size_t pages, uint8_t *found, bool *is_huge) {
+/* Finds again those pages that lie over a file's and are there: the file's own don't count. */
+static int leave_out_files(int fd, const uint8_t *at, size_t pages, const bool *over, uint8_t *found) {
+    enum { GAP = 8 }; /* a call takes as long as so many pages more */
+    int cause = 0;
+    for (size_t first = 0, end = 0; first < pages && cause == 0; first = end) {
+        bool is_huge = false;
+        end = first + 1;
+        if (!over[first] || found[first] == PAGE_NONE) continue;
+        for (size_t i = end; i < pages && i < end + GAP; i++)
+            if (over[i] && found[i] != PAGE_NONE) end = i + 1;
+        memset(found + first, PAGE_NONE, end - first);
+        cause = find_by_scan(fd, at + bytes_of(first), end - first, true, found + first, &is_huge);
+    }
+    return cause;
+}
+
+int pagemap_find(const struct pagemap *pagemap, const void *at, size_t pages, const bool *over, uint8_t *found, bool *is_huge) {
     uint64_t entries[PAGEMAP_MOST];
     memset(found, PAGE_NONE, pages);
     *is_huge = true;
-    if (pagemap->scans) return find_by_scan(pagemap->fd, at, pages, found, is_huge);
+    if (pagemap->scans) {
+        int failed = find_by_scan(pagemap->fd, at, pages, over == NULL, found, is_huge);
+        return failed != 0 || over == NULL ? failed : leave_out_files(pagemap->fd, at, pages, over, found);
+    }
     int cause = read_entries(pagemap->fd, at, pages, entries);
     for (size_t i = 0; i < pages && cause == 0; i++) found[i] = kind_of(entries[i]);
     return cause;
@@ -208,7 +229,7 @@ int pagemap_find_copies(const struct pagemap *pagemap, const void *at, size_t pa
 bool pagemap_is_huge(const struct pagemap *pagemap, const void *at) {
     uint8_t found[PAGEMAP_MOST];
     bool is_huge = false;
-    return pagemap->scans && find_by_scan(pagemap->fd, at, PAGEMAP_MOST, found, &is_huge) == 0 && is_huge;
+    return pagemap->scans && find_by_scan(pagemap->fd, at, PAGEMAP_MOST, false, found, &is_huge) == 0 && is_huge;
 }
 
 int pagemap_are_guarded(const struct pagemap *pagemap, const void *at, size_t pages) {

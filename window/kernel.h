@@ -49,10 +49,11 @@ struct pagemap {
 int pagemap_open(struct pagemap *pagemap, bool never_scan);
 enum { PAGEMAP_MOST = 512 };
 /*
- * Finds which of up to PAGEMAP_MOST pages have memory of their own: no file's page, not the page of zeros, no guard's mark.
- * `*is_huge`: all of PAGEMAP_MOST pages are one huge page; true also if the system doesn't say.
+ * Finds which of up to PAGEMAP_MOST pages have memory of their own: no file's page, not the page of zeros, no guard's mark. `over`:
+ * those that lie over a file's, or NULL if any may; it takes long to tell these from a file's page. `*is_huge`: all of PAGEMAP_MOST
+ * pages are one huge page; true also if the system doesn't say.
  */
-int pagemap_find(const struct pagemap *pagemap, const void *at, size_t pages, uint8_t *found, bool *is_huge);
+int pagemap_find(const struct pagemap *pagemap, const void *at, size_t pages, const bool *over, uint8_t *found, bool *is_huge);
 /* Whether PAGEMAP_MOST pages are one huge page; false if the system doesn't say. */
 bool pagemap_is_huge(const struct pagemap *pagemap, const void *at);
 /* Returns 0 if each of up to PAGEMAP_MOST pages is there and guarded against writes, and else an errno. */

@@ -60,9 +60,10 @@ static void note_memory(struct window *window, size_t first, size_t count, uint3
     for (size_t i = 0; i < count; i++) {
         struct page *page = &window->pages[first + i];
         stop_showing(window, first + i);
+        /* (what a glance has found holds on where memory of its own was moved) */
+        if (is_file || page->over == 1) page->frame = is_file ? (frame + (uint32_t)i) & (WINDOW_FRAMES_MOST - 1) : 0;
         page->over = is_file ? 1 : 0;
         page->past = 0;
-        page->frame = is_file ? (frame + (uint32_t)i) & (WINDOW_FRAMES_MOST - 1) : 0;
         page->moved = is_moved ? 1 : 0;
         page->begins = is_moved && i == 0 ? 1 : 0;
     }

@@ -31,19 +31,20 @@ static const uint32_t ZEROS = WINDOW_NO_FRAME - 1;
  * may have pinned, stays where it is. Nothing is lent of it any more, but a discard must not uncover the frame.
  */
 struct __attribute__((packed)) page {
-    uint64_t kept;       /* the slot, if it holds one; otherwise its fingerprint when it was read last, if `looks` isn't 0 */
-    uint32_t frame : 26; /* that is mapped at its place; if none is, what a glance at it found when it was read last */
+    uint64_t kept;       /* the slot, if it holds one; otherwise its fingerprint when it was read last, if it was */
+    uint32_t frame : 26; /* that is mapped at its place; if none is, what the last glance at it found, if `looks` isn't 0 */
     uint32_t over : 1;   /* a frame is mapped at its place; the page is that frame or a private copy */
     uint32_t shows : 1;  /* as far as is known it is the frame */
     uint32_t holds : 1;  /* the lender counts the slot */
     uint32_t past : 1;   /* the frame is of a lender that is gone */
     uint32_t out : 1;    /* it has left the window */
     uint32_t zero : 1;   /* it was given back as zeros, and has no memory since */
-    uint8_t looks : 2;   /* looks with that fingerprint, at most STILL */
-    uint8_t asks : 2;    /* how often it was asked about in vain; or, if `looks` is 1, changed again. At most ASKS_APART_MOST */
-    uint8_t seen : 1;    /* it counts among its part's `shareable` */
-    uint8_t moved : 1;   /* its memory was moved to its place, and so is in no mapping with what is beside it */
-    uint8_t begins : 1;  /* it is the first page of what was moved */
+    uint8_t
+        looks : 2;    /* looks that found it the same, at most STILL. The first only glanced at it, unless it lies over a frame */
+    uint8_t asks : 2; /* how often it was asked about in vain; or, if it isn't idle, changed again. At most ASKS_APART_MOST */
+    uint8_t seen : 1; /* it counts among its part's `shareable` */
+    uint8_t moved : 1;  /* its memory was moved to its place, and so is in no mapping with what is beside it */
+    uint8_t begins : 1; /* it is the first page of what was moved */
 };
 _Static_assert(sizeof(struct page) == 13, "a page takes 13 bytes of tables");
 
@@ -55,10 +56,10 @@ struct part {
     uint16_t releases;  /* slots that are to be released */
     uint16_t own;       /* pages that had memory of their own at the last look */
     uint16_t shareable; /* of a whole part: pages that are zeros or were seen elsewhere */
-    uint8_t rest;       /* looks that leave it out, since nothing changes there; and how many of them are left */
-    uint8_t left;
-    uint8_t alone; /* looks in a row that found nearly all pages of a split part with memory of their own */
-    uint8_t pause; /* looks at it until it may be split, or become whole, again */
+    uint8_t rest;       /* idle pages that a look leaves out for each one at which it glances, since nothing changes there; */
+    uint8_t left;       /* and looks until they may be more */
+    uint8_t alone;      /* looks in a row that found nearly all pages of a split part with memory of their own */
+    uint8_t pause;      /* looks at it until it may be split, or become whole, again */
     bool whole;
     bool is_huge;  /* it is whole, and was a huge page when it was looked at last */
     bool is_still; /* nothing at all had changed there when it was looked at last */
@@ -282,7 +283,7 @@ void take_all_home(struct windows *windows);
 struct batch {
     struct window *window;
     size_t count;
-    uint32_t pages[WINDOW_BATCH]; /* of the window, ascending */
+    uint32_t pages[WINDOW_BATCH]; /* of the window, each once */
     uint64_t fingerprints[WINDOW_BATCH];
 };
 /* Notes that a lender's call failed. One that isn't there is asked nothing more in this look. Takes the lock. */

@@ -78,9 +78,10 @@ struct windows_tuning {
      * huge pages. 1: a part is split as soon as any page could be shared. More than WINDOWS_HUGE_PAGES: no huge page is split.
      */
     uint16_t huge_from;
-    /* A part where next to nothing changes is left out of at most this many looks in a row: 1, 3, 7 and so on. 0: of none. */
+    /* Where next to nothing changes a look glances at one idle page, and leaves out at most this many: 1, 3, 7 and so on. 0: none. */
     uint8_t rest_most;
-    /* A page that nobody else has is read and asked about again at each so many-th look; 0: at each 8th. */
+    /* A page that nobody else has is asked about again at each so many-th look (0: at each 8th), or where its part rests as often as a
+     * look glances at it, if that is less often. */
     uint16_t turns;
 };
 

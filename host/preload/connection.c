@@ -25,15 +25,16 @@ enum {
     LEAST_PART = 16,       /* between two looks that last long the thread sleeps for a so many-th of the period */
     MANY_MAPPINGS = 65536, /* what is said of mappings is a multiple of this */
     LITTLE = 4,
-    EAGER_LOOKS = 8,  /* looks that come sooner after there is a new host or a new window */
-    FIRST_NICE = -10, /* the nice value of the thread, if it may have it */
-    CPU_PERCENT = 2,  /* of one processor, which the thread may use unless its settings or the host say; also for what is new */
+    ASKED_LITTLE = 32, /* where so many pages at most are asked about that weren't asked about before, nothing is found */
+    EAGER_LOOKS = 8,   /* looks that come sooner after there is a new host or a new window */
+    FIRST_NICE = -10,  /* the nice value of the thread, if it may have it */
+    CPU_PERCENT = 2,   /* of one processor, which the thread may use unless its settings or the host say; also for what is new */
     BURST_PERCENT = 25,
     HUGE_FROM = 64,  /* pages of a huge page that could be shared, until which it stays whole */
     TURNS_LEAST = 4, /* looks until a page that nobody else has is asked about again, if looks are short; and at most */
     TURNS_MOST = 512,
     AGAIN_NS = 250, /* processor time that asking about a page again takes, about */
-    REST_MOST = 7,  /* looks that leave out a part of a window where nothing changes */
+    REST_MOST = 7,  /* idle pages that a look leaves out for one at which it glances, where nothing changes */
     /* processor time that may be used at the burst's rate. FIRST_NS: for each page of a new window, or beside a new host; FRESH_NS: for
      * one that is new in its window; SHARED_NS: for one that was lent or given back */
     FIRST_NS = 2000,
@@ -317,19 +318,19 @@ static bool pace(void *unused) {
 static void choose_turns(const struct windows_counts *now) {
     uint64_t took_ms = (now_ns() - my.look_begun_ns) / 1000000, all_ns = now->look_ns - my.before.look_ns;
     uint64_t again_ns = AGAIN_NS * (now->again - my.before.again);
-    if (took_ms > 2 * (uint64_t)settings.period_ms && 2 * again_ns > all_ns && my.turns < TURNS_MOST) my.turns *= 2;
-    else if ((2 * took_ms < settings.period_ms || 8 * again_ns < all_ns) && my.turns > TURNS_LEAST) my.turns /= 2;
+    if (took_ms > 2 * (uint64_t)settings.period_ms && 8 * again_ns > all_ns && my.turns < TURNS_MOST) my.turns *= 2;
+    else if ((2 * took_ms < settings.period_ms || 32 * again_ns < all_ns) && my.turns > TURNS_LEAST) my.turns /= 2;
 }
 
 /* The time until the next look. */
 static void choose_period(const struct windows_counts *now) {
     uint64_t found = now->lends - my.before.lends + (now->zeros - my.before.zeros);
-    uint64_t asked = now->asked - my.before.asked;
+    uint64_t asked = now->asked - my.before.asked, again = now->again - my.before.again;
     if (now->windows > my.windows_before) my.eager = EAGER_LOOKS;
     my.windows_before = now->windows;
     bool is_eager = my.eager > 0 && my.is_attached;
     my.eager -= is_eager;
-    my.calm = found <= LITTLE && asked <= MUCH ? my.calm + 1 : 0;
+    my.calm = found <= LITTLE && asked <= again + ASKED_LITTLE ? my.calm + 1 : 0;
     if (is_eager || (found >= MUCH && found >= now->pages / MUCH_PART)) my.period_ms = settings.period_ms / BUSY_PART;
     else if (my.calm >= CALM_LOOKS)
         my.period_ms = my.period_ms < settings.period_ms * CALM_PART ? my.period_ms + settings.period_ms / 4 : my.period_ms;
@@ -384,10 +385,12 @@ static void write_counts(const struct windows_counts *now) {
     }
 }
 
-/* How long the thread sleeps between two looks. What the last one took is a part of the period. */
+/* How long the thread sleeps between two looks. What the last one took is a part of the period. Where nothing is found it sleeps as long as
+ * that took, at least. */
 static unsigned until_look_ms(void) {
     uint64_t took_ms = my.look_begun_ns > 0 ? (now_ns() - my.look_begun_ns) / 1000000 : 0;
     unsigned least_ms = my.period_ms / LEAST_PART + 1;
+    if (my.calm >= CALM_LOOKS && took_ms > least_ms) least_ms = (unsigned)took_ms;
     return took_ms + least_ms < my.period_ms ? my.period_ms - (unsigned)took_ms : least_ms;
 }
 

@@ -282,7 +282,7 @@ static size_t own_pages(const uint8_t *at, size_t pages) {
     check(pagemap_open(&pagemap, true) == 0, "pagemap");
     for (size_t page = 0; page < pages; page += PAGEMAP_MOST) {
         size_t count = pages - page < PAGEMAP_MOST ? pages - page : PAGEMAP_MOST;
-        check(pagemap_find(&pagemap, at + page * PAGE, count, found, &is_huge) == 0, "pages are found");
+        check(pagemap_find(&pagemap, at + page * PAGE, count, NULL, found, &is_huge) == 0, "pages are found");
         for (size_t i = 0; i < count; i++) own += found[i] == PAGE_NONE ? 0 : 1;
     }
     close(pagemap.fd);
@@ -391,7 +391,7 @@ static void marks(bool never_scan) {
     const uint8_t wanted[KINDS] = {PAGE_NONE, PAGE_NONE, PAGE_PRESENT, PAGE_NONE, PAGE_NONE, PAGE_NONE, PAGE_PRESENT, PAGE_NONE};
     struct pagemap pagemap;
     struct faults faults;
-    uint8_t found[KINDS];
+    uint8_t found[KINDS], again[KINDS];
     int fd = memfd_create("frames", MFD_CLOEXEC);
     check(fd >= 0 && ftruncate(fd, KINDS * PAGE) == 0, "a file");
     uint8_t *at = mmap(NULL, KINDS * PAGE, PROT_READ | PROT_WRITE, MAP_PRIVATE, fd, 0);
@@ -405,10 +405,12 @@ static void marks(bool never_scan) {
     fallocate(fd, FALLOC_FL_PUNCH_HOLE | FALLOC_FL_KEEP_SIZE, 5 * PAGE, PAGE); /* (leaves a mark) */
     at[6 * PAGE] = 1;
     fallocate(fd, FALLOC_FL_PUNCH_HOLE | FALLOC_FL_KEEP_SIZE, 6 * PAGE, PAGE);
-    bool is_huge;
-    check(pagemap_find(&pagemap, at, KINDS, found, &is_huge) == 0, "pages are found");
+    bool is_huge, over[KINDS];
+    memset(over, true, sizeof over);
+    check(pagemap_find(&pagemap, at, KINDS, over, again, &is_huge) == 0, "pages over a file's are found");
+    check(pagemap_find(&pagemap, at, KINDS, NULL, found, &is_huge) == 0, "pages are found");
     for (size_t page = 0; page < KINDS; page++) {
-        check(found[page] == wanted[page], "each kind of page is found as what it is");
+        check(found[page] == wanted[page] && again[page] == wanted[page], "each kind of page is found as what it is");
         check(pagemap_is_own(&pagemap, at + page * PAGE) == (wanted[page] != PAGE_NONE), "in both ways");
     }
     close(faults.fd), close(pagemap.fd), close(fd);
@@ -558,6 +560,32 @@ static void reads_seldom(void) {
     munmap(at, PAGES * PAGE);
 }
 
+/* In a calm part a look glances at one page in eight. A run that changes is found by that at once, and a page alone some looks later. What has
+ * left the window isn't touched. */
+static void samples(void) {
+    enum { MANY = 512, CALM = 64, RUN = 16, FIRST = 200, SOON = 4, EACH = 8, TURNS = 512 };
+    const struct windows_config config = {.pins = WINDOWS_PINS_NEVER, .tuning = {.turns = TURNS, .rest_most = EACH - 1}};
+    struct fixture fixture = fixture_make(&config, MANY);
+    uint8_t *at = memory(MANY);
+    struct window *window = window_over(&fixture, at, MANY);
+    for (size_t word = 0; word < MANY * WORDS; word++) ((uint64_t *)(void *)at)[word] = word;
+    look_often(&fixture, CALM);
+    check(counts_of(&fixture).lends == 0, "no page is equal to another one");
+    for (size_t page = FIRST - 1; page <= FIRST + RUN; page += RUN + 1) {
+        check(window_cut(window, page, 1, NULL).status == WINDOW_OK, "the pages beside a run leave");
+        check(mprotect(at + page * PAGE, PAGE, PROT_NONE) == 0, "and nobody may read them");
+    }
+    memset(at + FIRST * PAGE, 'e', RUN * PAGE);
+    look_often(&fixture, SOON);
+    check(counts_of(&fixture).lent + 1 >= RUN, "a run of pages that became equal is lent as soon as it is idle");
+    memset(at + 3 * PAGE, 'f', PAGE), memset(at + 400 * PAGE, 'f', PAGE);
+    look_often(&fixture, EACH + 2 * SOON);
+    check(counts_of(&fixture).lent == RUN + 2, "pages alone are lent some looks later");
+    must(window_free(window, WINDOW_DROP), "window_free");
+    fixture_free(&fixture);
+    munmap(at, MANY * PAGE);
+}
+
 int main(void) {
     lives();
     zeros_and_singles();
@@ -577,6 +605,7 @@ int main(void) {
     lenders();
     changes();
     glances();
+    samples();
     reads_seldom();
     puts(check_count() == 0 ? "pages: ok" : "pages: WRONG");
     return check_count() == 0 ? 0 : 1;
