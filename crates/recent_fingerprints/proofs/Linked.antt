@@ -77,9 +77,9 @@ other-tests home a b r h =
     ⊎_elim (λ e. absurd (false≢true (sym h ∙ eq-eqb (home b) (home a) (ap home e.1)))) (λ e. rw e.0 refl) (eqb_tells b a)
 
 -- a note of another page with the fingerprint is in its bucket
-pub other-shares : (f s : ℕ) (lives : List ℕ) (asked : Note) (x : Place) → in_bucket f s (bucket_of f s asked.fingerprint) x ≡ false → is_other lives asked x.note ≡ false
+pub other-shares : (f s : ℕ) (lives : List ℕ) (asked : Note) (x : Place) → in_bucket f s (bucket_of f s asked.fingerprint) x ≡ false → is_other lives asked (note_in x) ≡ false
 other-shares f s lives asked x h =
-    other-tests (bucket_of f s) asked.fingerprint x.note.fingerprint (not (is_same_page x.note.page asked.page) && counts lives x.note) h
+    other-tests (bucket_of f s) asked.fingerprint x.fingerprint (not (is_same_page (note_in x).page asked.page) && counts lives (note_in x)) h
 
 both : (a b : Bool) → (a && b) ≡ true → (a ≡ true) × (b ≡ true)
 both true b h = (refl, h)
@@ -99,13 +99,13 @@ same-fields a b h =
     (eqb-true _ _ t.0, eqb-true _ _ u.0, eqb-true _ _ u.1, eqb-true _ _ v.1)
 
 -- it may follow any note of that bucket that isn't one itself
-pub other-follows : (f s : ℕ) (lives : List ℕ) (asked : Note) (p x : Place) → in_bucket f s (bucket_of f s asked.fingerprint) p ≡ true → is_other lives asked p.note ≡ false → comes_next f s p.note x ≡ false → is_other lives asked x.note ≡ false
+pub other-follows : (f s : ℕ) (lives : List ℕ) (asked : Note) (p x : Place) → in_bucket f s (bucket_of f s asked.fingerprint) p ≡ true → is_other lives asked (note_in p) ≡ false → comes_next f s (note_in p) x ≡ false → is_other lives asked (note_in x) ≡ false
 other-follows f s lives asked p x here nope h =
-    let meets : bucket_of f s p.note.fingerprint ≡ bucket_of f s asked.fingerprint = eqb-true _ _ here in
+    let meets : bucket_of f s p.fingerprint ≡ bucket_of f s asked.fingerprint = eqb-true _ _ here in
     ⊎_elim
     (λ e. other-shares f s lives asked x (subst (λ b. in_bucket f s b x ≡ false) meets e))
-    (λ e. let t = same-fields p.note x.note e in rw (← t.0, ← t.1, ← t.2, ← t.3) nope)
-    (one-of (in_bucket f s (bucket_of f s p.note.fingerprint) x) (is_same p.note x.note) h)
+    (λ e. let t = same-fields (note_in p) (note_in x) e in rw (← t.0, ← t.1, ← t.2, ← t.3) nope)
+    (one-of (in_bucket f s (bucket_of f s p.fingerprint) x) (is_same (note_in p) (note_in x)) h)
 
 pub next-shares : (f s : ℕ) (note : Note) (x : Place) → in_bucket f s (bucket_of f s note.fingerprint) x ≡ false → comes_next f s note x ≡ false
 next-shares f s note x h = rw h refl
@@ -124,12 +124,12 @@ pub linked-take : (f s : ℕ) (k : ℕ) (xs : List Place) → AreLinked f s xs �
 linked-take f s zero xs h = tt
 linked-take f s (suc k) [] h = tt
 linked-take f s (suc k) (x ∷ xs) h =
-    (let l = length-take k xs in let t = first-take (comes_next f s x.note) k xs in let e = h.0 in omega (arith, l, t, e), linked-take f s k xs h.1)
+    (let l = length-take k xs in let t = first-take (comes_next f s (note_in x)) k xs in let e = h.0 in omega (arith, l, t, e), linked-take f s k xs h.1)
 
 -- one more note, whose link is right before some are forgotten
-pub linked-more : (f s : ℕ) (k : ℕ) (p : Place) (xs : List Place) → p.between ≡ first_where (comes_next f s p.note) xs → AreLinked f s xs → AreLinked f s (p ∷ take k xs)
+pub linked-more : (f s : ℕ) (k : ℕ) (p : Place) (xs : List Place) → p.between ≡ first_where (comes_next f s (note_in p)) xs → AreLinked f s xs → AreLinked f s (p ∷ take k xs)
 linked-more f s k p xs e h =
-    (let l = length-take k xs in let t = first-take (comes_next f s p.note) k xs in let m = first-le (comes_next f s p.note) xs in omega (arith, l, t, e, m), linked-take f s k xs h)
+    (let l = length-take k xs in let t = first-take (comes_next f s (note_in p)) k xs in let m = first-le (comes_next f s (note_in p)) xs in omega (arith, l, t, e, m), linked-take f s k xs h)
 
 -- ---- a search
 
@@ -150,25 +150,25 @@ search-ends f s lives asked ring age h past = h.same ∙ ap (list_any (λ p. is_
 at-age : (ring : List Place) (age : ℕ) (p : Place) → age < length ring → p ≡ get_or ring age p → drop age ring ≡ p ∷ drop (age + 1) ring
 at-age ring age p lt e = drop_more ring age p lt ∙ ap (λ x. x ∷ drop (age + 1) ring) (sym e)
 
-pub search-finds : (f s : ℕ) (lives : List ℕ) (asked : Note) (ring : List Place) (age : ℕ) (p : Place) → IsSearch f s lives asked ring age → age < length ring → p ≡ get_or ring age p → is_other lives asked p.note ≡ true → list_any (is_other lives asked) (map note_in ring) ≡ true
+pub search-finds : (f s : ℕ) (lives : List ℕ) (asked : Note) (ring : List Place) (age : ℕ) (p : Place) → IsSearch f s lives asked ring age → age < length ring → p ≡ get_or ring age p → is_other lives asked (note_in p) ≡ true → list_any (is_other lives asked) (map note_in ring) ≡ true
 search-finds f s lives asked ring age p h lt e hit = h.same ∙ ap (list_any (λ p. is_other lives asked (note_in p))) (at-age ring age p lt e) ∙ ap (λ b. b || list_any (λ p. is_other lives asked (note_in p)) (drop (age + 1) ring)) hit
 
 -- from the note at the front to the one that follows it
-same-bucket : (f s : ℕ) (lives : List ℕ) (asked : Note) (p : Place) → in_bucket f s (bucket_of f s asked.fingerprint) p ≡ true → (xs : List Place) → BeginsWith (comes_next f s p.note) xs → BeginsWith (in_bucket f s (bucket_of f s asked.fingerprint)) xs
+same-bucket : (f s : ℕ) (lives : List ℕ) (asked : Note) (p : Place) → in_bucket f s (bucket_of f s asked.fingerprint) p ≡ true → (xs : List Place) → BeginsWith (comes_next f s (note_in p)) xs → BeginsWith (in_bucket f s (bucket_of f s asked.fingerprint)) xs
 same-bucket f s lives asked p here [] h = tt
 same-bucket f s lives asked p here (x ∷ xs) h =
-    let meets : bucket_of f s p.note.fingerprint ≡ bucket_of f s asked.fingerprint = eqb-true _ _ here in
-    let t = both (in_bucket f s (bucket_of f s p.note.fingerprint) x) (not (is_same p.note x.note)) h in
+    let meets : bucket_of f s p.fingerprint ≡ bucket_of f s asked.fingerprint = eqb-true _ _ here in
+    let t = both (in_bucket f s (bucket_of f s p.fingerprint) x) (not (is_same (note_in p) (note_in x))) h in
     subst (λ b. in_bucket f s b x ≡ true) meets t.0
 
-step : (f s : ℕ) (lives : List ℕ) (asked : Note) (p : Place) (rest : List Place) → AreLinked f s (p ∷ rest) → in_bucket f s (bucket_of f s asked.fingerprint) p ≡ true → is_other lives asked p.note ≡ false → (list_any (λ p. is_other lives asked (note_in p)) (p ∷ rest) ≡ list_any (λ p. is_other lives asked (note_in p)) (drop p.between rest)) × BeginsWith (in_bucket f s (bucket_of f s asked.fingerprint)) (drop p.between rest)
+step : (f s : ℕ) (lives : List ℕ) (asked : Note) (p : Place) (rest : List Place) → AreLinked f s (p ∷ rest) → in_bucket f s (bucket_of f s asked.fingerprint) p ≡ true → is_other lives asked (note_in p) ≡ false → (list_any (λ p. is_other lives asked (note_in p)) (p ∷ rest) ≡ list_any (λ p. is_other lives asked (note_in p)) (drop p.between rest)) × BeginsWith (in_bucket f s (bucket_of f s asked.fingerprint)) (drop p.between rest)
 step f s lives asked p rest linked here nope =
-    let jumped : drop p.between rest ≡ drop (first_where (comes_next f s p.note) rest) rest = sym (drop_min p.between rest) ∙ ap (λ n. drop n rest) linked.0 in (
-      ap (λ b. b || list_any (λ p. is_other lives asked (note_in p)) rest) nope ∙ any-skip (λ p. is_other lives asked (note_in p)) (comes_next f s p.note) (λ x h. other-follows f s lives asked p x here nope h) rest ∙ ap (list_any (λ p. is_other lives asked (note_in p))) (sym jumped),
-      subst (BeginsWith (in_bucket f s (bucket_of f s asked.fingerprint))) (sym jumped) (same-bucket f s lives asked p here (drop (first_where (comes_next f s p.note) rest) rest) (begins-first (comes_next f s p.note) rest)),
+    let jumped : drop p.between rest ≡ drop (first_where (comes_next f s (note_in p)) rest) rest = sym (drop_min p.between rest) ∙ ap (λ n. drop n rest) linked.0 in (
+      ap (λ b. b || list_any (λ p. is_other lives asked (note_in p)) rest) nope ∙ any-skip (λ p. is_other lives asked (note_in p)) (comes_next f s (note_in p)) (λ x h. other-follows f s lives asked p x here nope h) rest ∙ ap (list_any (λ p. is_other lives asked (note_in p))) (sym jumped),
+      subst (BeginsWith (in_bucket f s (bucket_of f s asked.fingerprint))) (sym jumped) (same-bucket f s lives asked p here (drop (first_where (comes_next f s (note_in p)) rest) rest) (begins-first (comes_next f s (note_in p)) rest)),
     )
 
-pub search-steps : (f s : ℕ) (lives : List ℕ) (asked : Note) (ring : List Place) (age : ℕ) (p : Place) → AreLinked f s ring → IsSearch f s lives asked ring age → age < length ring → p ≡ get_or ring age p → is_other lives asked p.note ≡ false → IsSearch f s lives asked ring (age + (1 + p.between))
+pub search-steps : (f s : ℕ) (lives : List ℕ) (asked : Note) (ring : List Place) (age : ℕ) (p : Place) → AreLinked f s ring → IsSearch f s lives asked ring age → age < length ring → p ≡ get_or ring age p → is_other lives asked (note_in p) ≡ false → IsSearch f s lives asked ring (age + (1 + p.between))
 search-steps f s lives asked ring age p linked h lt e nope =
     let at = at-age ring age p lt e in
     let here : in_bucket f s (bucket_of f s asked.fingerprint) p ≡ true = subst (BeginsWith (in_bucket f s (bucket_of f s asked.fingerprint))) at h.begins in
@@ -198,23 +198,23 @@ at-first : (f s : ℕ) (note : Note) (ring : List Place) (first : ℕ) (p : Plac
 at-first f s note ring first p e lt is =
     subst (BeginsWith (in_bucket f s (bucket_of f s note.fingerprint))) (ap (λ n. drop n ring) (sym e) ∙ at-age ring first p lt is) (begins-first (in_bucket f s (bucket_of f s note.fingerprint)) ring)
 
-front : (f s : ℕ) (note : Note) (p : Place) (rest : List Place) (b : Bool) → in_bucket f s (bucket_of f s note.fingerprint) p ≡ true → is_same note p.note ≡ b → first_where (comes_next f s note) (p ∷ rest) ≡ cond (not b) 0 (suc (first_where (comes_next f s note) rest))
+front : (f s : ℕ) (note : Note) (p : Place) (rest : List Place) (b : Bool) → in_bucket f s (bucket_of f s note.fingerprint) p ≡ true → is_same note (note_in p) ≡ b → first_where (comes_next f s note) (p ∷ rest) ≡ cond (not b) 0 (suc (first_where (comes_next f s note) rest))
 front f s note p rest b here e = rw (here, e) refl
 
-pub link-other : (f s : ℕ) (note : Note) (ring : List Place) (first : ℕ) (p : Place) → first ≡ first_where (in_bucket f s (bucket_of f s note.fingerprint)) ring → first < length ring → p ≡ get_or ring first p → is_same note p.note ≡ false → first ≡ first_where (comes_next f s note) ring
+pub link-other : (f s : ℕ) (note : Note) (ring : List Place) (first : ℕ) (p : Place) → first ≡ first_where (in_bucket f s (bucket_of f s note.fingerprint)) ring → first < length ring → p ≡ get_or ring first p → is_same note (note_in p) ≡ false → first ≡ first_where (comes_next f s note) ring
 link-other f s note ring first p e lt is differs =
     let a = link-first f s note ring first e in
     let b : first_where (comes_next f s note) (drop first ring) ≡ 0 = ap (first_where (comes_next f s note)) (at-age ring first p lt is) ∙ front f s note p (drop (first + 1) ring) false (at-first f s note ring first p e lt is) differs in
     omega arith
 
-pub link-same : (f s : ℕ) (note : Note) (ring : List Place) (first : ℕ) (p : Place) → AreLinked f s ring → first ≡ first_where (in_bucket f s (bucket_of f s note.fingerprint)) ring → first < length ring → p ≡ get_or ring first p → is_same note p.note ≡ true → min (length ring) (first + 1 + p.between) ≡ first_where (comes_next f s note) ring
+pub link-same : (f s : ℕ) (note : Note) (ring : List Place) (first : ℕ) (p : Place) → AreLinked f s ring → first ≡ first_where (in_bucket f s (bucket_of f s note.fingerprint)) ring → first < length ring → p ≡ get_or ring first p → is_same note (note_in p) ≡ true → min (length ring) (first + 1 + p.between) ≡ first_where (comes_next f s note) ring
 link-same f s note ring first p linked e lt is same =
     let a = link-first f s note ring first e in
     let at = at-age ring first p lt is in
     let rest : List Place = drop (first + 1) ring in
     let b : first_where (comes_next f s note) (drop first ring) ≡ suc (first_where (comes_next f s note) rest) = ap (first_where (comes_next f s note)) at ∙ front f s note p rest true (at-first f s note ring first p e lt is) same in
     let l = (subst (AreLinked f s) at (linked-drop f s first ring linked)).0 in
-    let m = first-same (comes_next f s note) (comes_next f s p.note) (next-same f s note p.note same) rest in
+    let m = first-same (comes_next f s note) (comes_next f s (note_in p)) (next-same f s note (note_in p) same) rest in
     let n = length-drop (first + 1) ring in
     omega (arith, a, b, l, m, n)
 
@@ -302,7 +302,7 @@ head-new f s b p rest number here n = record {
   first = new-first f s b p rest here ∙ sym (new-age f s b p rest here) ∙ ap (age_in f s b (p ∷ rest)) (sym (newest-age number n));
 }
 
-pub kept-more : (ring : List Place) (heads : List ℕ) (f s places newest room bucket : ℕ) (p : Place) → AreKept ring heads f s places newest room → bucket ≡ bucket_of f s p.note.fingerprint → p.between ≡ first_where (comes_next f s p.note) ring → AreKept (p ∷ take (places - 1) ring) (set heads bucket ((newest + 1) % 2 ^ 32)) f s places ((newest + 1) % 2 ^ 32) room
+pub kept-more : (ring : List Place) (heads : List ℕ) (f s places newest room bucket : ℕ) (p : Place) → AreKept ring heads f s places newest room → bucket ≡ bucket_of f s p.fingerprint → p.between ≡ first_where (comes_next f s (note_in p)) ring → AreKept (p ∷ take (places - 1) ring) (set heads bucket ((newest + 1) % 2 ^ 32)) f s places ((newest + 1) % 2 ^ 32) room
 kept-more ring heads f s places newest room bucket p h own link =
     let l = length-take (places - 1) ring in
     let some = h.some in
@@ -322,7 +322,7 @@ kept-more ring heads f s places newest room bucket p h own link =
           let inside : b < length heads = omega (arith, lt, sets) in
           ⊎_elim
           (λ e. subst (IsHead f s b (p ∷ take (places - 1) ring) ((newest + 1) % 2 ^ 32)) (sym (ap (λ i. get_or (set heads i ((newest + 1) % 2 ^ 32)) b 0) (sym e.1) ∙ get_or-set_same heads b ((newest + 1) % 2 ^ 32) 0 inside)) (head-new f s b p (take (places - 1) ring) ((newest + 1) % 2 ^ 32) (eq-eqb _ _ (sym own ∙ sym e.1)) number))
-          (λ e. subst (IsHead f s b (p ∷ take (places - 1) ring) ((newest + 1) % 2 ^ 32)) (sym (get_or-set_other heads bucket b ((newest + 1) % 2 ^ 32) 0 e.1)) (head-stays f s b (places - 1) p ring newest (get_or heads b 0) (ne_eqb (bucket_of f s p.note.fingerprint) b (λ q. e.1 (sym q ∙ sym own))) h.fits (let a = h.few in let c = h.limit in omega (arith, a, c)) (h.headed b inside)))
+          (λ e. subst (IsHead f s b (p ∷ take (places - 1) ring) ((newest + 1) % 2 ^ 32)) (sym (get_or-set_other heads bucket b ((newest + 1) % 2 ^ 32) 0 e.1)) (head-stays f s b (places - 1) p ring newest (get_or heads b 0) (ne_eqb (bucket_of f s p.fingerprint) b (λ q. e.1 (sym q ∙ sym own))) h.fits (let a = h.few in let c = h.limit in omega (arith, a, c)) (h.headed b inside)))
           (eqb_tells b bucket);
     }
 
@@ -333,6 +333,6 @@ bucket-within ring heads f s places newest room fingerprint h =
     let below : fingerprint * f % 2 ^ 64 < length heads * 2 ^ s = rw all (omega arith) in
     (div-lt_iff_lt-mul {k = 2 ^ s} {x = fingerprint * f % 2 ^ 64} {y = length heads} (pow_pos s)).1 below
 
-pub notes-more : (p : Place) (ring : List Place) (places : ℕ) → 1 ≤ places → map note_in (p ∷ take (places - 1) ring) ≡ take places (p.note ∷ map note_in ring)
+pub notes-more : (p : Place) (ring : List Place) (places : ℕ) → 1 ≤ places → map note_in (p ∷ take (places - 1) ring) ≡ take places ((note_in p) ∷ map note_in ring)
 notes-more p ring zero h = absurd (omega arith)
 notes-more p ring (suc k) h = let e : suc k - 1 ≡ k = omega arith in rw (e, take-map note_in k ring) refl

@@ -5,9 +5,12 @@ use Rattle.recent_fingerprints.specs.declared.note.Place.{Place}
 use Rattle.recent_fingerprints.specs.declared.limits.TheConstants.{MAX_PLACES}
 use Rattle.recent_fingerprints.specs.Notes.{is_same}
 
--- the note in a place
+-- the note in a place, and a note's place
 abbrev pub note_in : Place → Note
-note_in p = p.note
+note_in p = record { fingerprint = p.fingerprint; page = record { client = p.client; number = p.number }; life = p.life }
+
+abbrev pub place_of : Note → ℕ → Place
+place_of note between = record { fingerprint = note.fingerprint; number = note.page.number; life = note.life; client = note.page.client; between = between }
 
 -- how many stand before the first that passes the test
 abbrev pub first_where : {X : Type 0} → (X → Bool) → List X → ℕ
@@ -26,16 +29,16 @@ pub record IsBucketCount (places count : ℕ) : Type 0 where
 
 -- whether a note is in a bucket
 abbrev pub in_bucket : ℕ → ℕ → ℕ → Place → Bool
-in_bucket factor shift bucket p = bucket_of factor shift p.note.fingerprint == bucket
+in_bucket factor shift bucket p = bucket_of factor shift p.fingerprint == bucket
 
 -- whether a note may follow this one in its chain: it is in the same bucket, and not the same
 abbrev pub comes_next : ℕ → ℕ → Note → Place → Bool
-comes_next factor shift note p = in_bucket factor shift (bucket_of factor shift note.fingerprint) p && not (is_same note p.note)
+comes_next factor shift note p = in_bucket factor shift (bucket_of factor shift note.fingerprint) p && not (is_same note (note_in p))
 
 -- each note is followed in its chain by the newest older one that may follow it, or by none
 abbrev pub AreLinked : ℕ → ℕ → List Place → Type 0
 AreLinked factor shift [] = Unit {0}
-AreLinked factor shift (p ∷ older) = (min p.between (length older) ≡ first_where (comes_next factor shift p.note) older) × AreLinked factor shift older
+AreLinked factor shift (p ∷ older) = (min p.between (length older) ≡ first_where (comes_next factor shift (note_in p)) older) × AreLinked factor shift older
 
 -- whether the list begins with a note in this bucket
 abbrev pub begins_in : ℕ → ℕ → ℕ → List Place → Bool

@@ -29,7 +29,7 @@ impl<A: Allocator> Chains<A> {
         let mut age = self.first(self.buckets.of(asked.fingerprint));
         while age < self.ring.len() {
             let place = self.ring[age];
-            if is_other(lives, asked, place.note) {
+            if is_other(lives, asked, place.note()) {
                 return true;
             }
             age += 1 + place.between as usize;
@@ -47,7 +47,7 @@ impl<A: Allocator> Chains<A> {
     {
         let bucket = self.buckets.of(note.fingerprint);
         let between = self.between(note, self.first(bucket)) as u32;
-        put_first(&mut self.ring, self.places, Place { note, between });
+        put_first(&mut self.ring, self.places, Place::of(note, between));
         self.newest = self.newest.wrapping_add(1);
         self.heads[bucket as usize] = self.newest;
     }
@@ -63,7 +63,7 @@ impl<A: Allocator> Chains<A> {
         if age >= self.ring.len() {
             return self.ring.len();
         }
-        if self.buckets.of(self.ring[age].note.fingerprint) != bucket {
+        if self.buckets.of(self.ring[age].fingerprint) != bucket {
             return self.ring.len();
         }
         age
@@ -83,7 +83,7 @@ impl<A: Allocator> Chains<A> {
             return len;
         }
         let place = self.ring[first];
-        if !is_same(note, place.note) {
+        if !is_same(note, place.note()) {
             return first;
         }
         len.min(first + 1 + place.between as usize)

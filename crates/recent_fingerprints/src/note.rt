@@ -1,4 +1,6 @@
 //! What is noted.
+ghost use Rattle.std.specs.Prelude.{◌≡◌};
+ghost use Rattle.recent_fingerprints.specs.Chains.{note_in, place_of};
 
 /// A page, by its client and by a number that the caller gives to each of the client's pages.
 #[derive(Clone, Copy, Debug, PartialEq, Eq)]
@@ -20,10 +22,43 @@ pub struct Note {
     pub life: u64,
 }
 
-// A note in its place, and how many notes stand between it and the next older one of its chain. The chain ends if that one would
-// be beyond the last place.
+// A note in its place, in 32 bytes, and how many notes stand between it and the next older one of its chain. The chain ends if that
+// one would be beyond the last place.
 #[derive(Clone, Copy)]
 pub(crate) struct Place {
-    pub(crate) note: Note,
+    pub(crate) fingerprint: u64,
+    pub(crate) number: u64,
+    pub(crate) life: u64,
+    pub(crate) client: u32,
     pub(crate) between: u32,
+}
+
+impl Place {
+    // Puts a note into a place.
+    pub(crate) fn of(note: Note, between: u32) -> Place
+        ensures { result ≡ place_of note between }
+    {
+        Place {
+            fingerprint: note.fingerprint,
+            number: note.page.number,
+            life: note.life,
+            client: note.page.client,
+            between,
+        }
+    }
+
+    // Returns the note.
+    #[inline]
+    pub(crate) fn note(self) -> Note
+        ensures { result ≡ note_in self }
+    {
+        Note {
+            fingerprint: self.fingerprint,
+            page: PageName {
+                client: self.client,
+                number: self.number,
+            },
+            life: self.life,
+        }
+    }
 }

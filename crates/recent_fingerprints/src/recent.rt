@@ -36,7 +36,7 @@ impl<A: Allocator> Model for RecentFingerprints<A> {
 impl<A: Allocator + Clone> RecentFingerprints<A> {
     ghost use Rattle.recent_fingerprints.specs.declared.limits.TheConstants.{MAX_PLACES};
 
-    /// Makes an empty list of notes with `places` places, 40 bytes each, and 4 to 8 more for the buckets. Each of the `clients`
+    /// Makes an empty list of notes with `places` places, 32 bytes each, and 4 to 8 more for the buckets. Each of the `clients`
     /// clients takes 8 bytes. The caller draws the seed at random and keeps it secret: knowing it, one can choose fingerprints
     /// that take long to look up. No result depends on it.
     pub fn new(

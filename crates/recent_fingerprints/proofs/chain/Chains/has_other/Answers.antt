@@ -1,4 +1,6 @@
 use Rattle.std.proofs.Common.{◌<◌, ◌≤◌, length, arith, sym, ap, ◌∙◌}
+use Rattle.recent_fingerprints.specs.declared.note.Note.{Note}
+use Rattle.recent_fingerprints.specs.Notes.{is_other}
 use Rattle.recent_fingerprints.specs.Chains.{in_bucket, first_where}
 use Rattle.recent_fingerprints.proofs.Linked.{bucket-within, search-begins, search-steps, search-finds, search-ends}
 use Rattle.recent_fingerprints.proofs.chain.Chains.has_other.Goals as goal
@@ -17,13 +19,13 @@ pub returns-then-is_other : goal.returns-then-is_other
 returns-then-is_other g c =
     let s = c.args.self.now in
     let within : c.loop-age.age < length s.ring.items = omega (arith, c.len.ensures, s.ring.ok.0) in
-    sym (search-finds s.buckets.factor s.buckets.shift c.args.lives.now c.args.asked s.ring.items c.loop-age.age c.index-place.result.now c.loop-age.invariant within c.index-place.ensures (sym c.is_other.ensures ∙ c.if-is_other.true))
+    sym (search-finds s.buckets.factor s.buckets.shift c.args.lives.now c.args.asked s.ring.items c.loop-age.age c.index-place.result.now c.loop-age.invariant within c.index-place.ensures (ap (λ (n : Note). is_other c.args.lives.now c.args.asked n) (sym c.note.ensures) ∙ sym c.is_other.ensures ∙ c.if-is_other.true))
 
 pub loop-age-preserved : goal.loop-age-preserved
 loop-age-preserved g c =
     let s = c.args.self.now in
     let within : c.loop-age.age < length s.ring.items = omega (arith, c.len.ensures, s.ring.ok.0) in
-    search-steps s.buckets.factor s.buckets.shift c.args.lives.now c.args.asked s.ring.items c.loop-age.age c.index-place.result.now c.requires.linked c.loop-age.invariant within c.index-place.ensures (sym c.is_other.ensures ∙ c.if-is_other.false)
+    search-steps s.buckets.factor s.buckets.shift c.args.lives.now c.args.asked s.ring.items c.loop-age.age c.index-place.result.now c.requires.linked c.loop-age.invariant within c.index-place.ensures (ap (λ (n : Note). is_other c.args.lives.now c.args.asked n) (sym c.note.ensures) ∙ sym c.is_other.ensures ∙ c.if-is_other.false)
 
 pub returns : goal.returns
 returns g c =

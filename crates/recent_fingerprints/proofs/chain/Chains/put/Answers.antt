@@ -1,5 +1,6 @@
-use Rattle.std.proofs.Common.{map, arith, ap, ◌∙◌}
-use Rattle.recent_fingerprints.specs.Chains.{comes_next, note_in}
+use Rattle.std.proofs.Common.{map, take, ◌-◌, ◌∷◌, arith, ap, ◌∙◌}
+use Rattle.recent_fingerprints.specs.declared.note.Place.{Place}
+use Rattle.recent_fingerprints.specs.Chains.{comes_next, note_in, place_of}
 use Rattle.recent_fingerprints.proofs.Linked.{bucket-within, first-le, kept-more, notes-more}
 use Rattle.recent_fingerprints.proofs.chain.Chains.put.Goals as goal
 
@@ -26,9 +27,9 @@ index_mut-requires g c =
 pub returns-clause-kept : goal.returns-clause-kept
 returns-clause-kept g c =
     let s = c.args.self.now in
-    rw (c.put_first.ensures.items, c.put_first.ensures.capacity) (kept-more s.ring.items s.heads.items s.buckets.factor s.buckets.shift s.places s.newest _ c.of-bucket.result (record { note = c.args.note; between = c.between-between.result }) c.requires c.of-bucket.ensures c.between-between.ensures)
+    rw (c.put_first.ensures.items, c.put_first.ensures.capacity, c.of.ensures) (kept-more s.ring.items s.heads.items s.buckets.factor s.buckets.shift s.places s.newest _ c.of-bucket.result (place_of c.args.note c.between-between.result) c.requires c.of-bucket.ensures c.between-between.ensures)
 
 pub returns-clause-notes : goal.returns-clause-notes
 returns-clause-notes g c =
     let s = c.args.self.now in
-    ap (map note_in) c.put_first.ensures.items ∙ notes-more (record { note = c.args.note; between = c.between-between.result }) s.ring.items s.places c.requires.some
+    ap (map note_in) c.put_first.ensures.items ∙ ap (λ (p : Place). map note_in (p ∷ take (s.places - 1) s.ring.items)) c.of.ensures ∙ notes-more (place_of c.args.note c.between-between.result) s.ring.items s.places c.requires.some
