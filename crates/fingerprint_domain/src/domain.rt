@@ -1,14 +1,14 @@
 //! The domain.
 ghost use Rattle.std.specs.Prelude.{◌≡◌, ◌≤◌, ◌*◌, length, IfOk, MatchOption, MatchResult};
 ghost use Rattle.share_domain.specs.Bytes.{BytesStay};
-ghost use Rattle.share_domain.specs.Domains.{next_client, entered, page_machine, LendsIn, RefusesIn, release_answer, after_release};
+ghost use Rattle.share_domain.specs.Domains.{next_client, entered, release_answer, after_release};
 ghost use Rattle.share_domain.specs.Leaving.{Leaves, StaysOut};
 ghost use Rattle.share_domain.specs.Made.{AreLimits, AreFree, empty_domain};
 ghost use Rattle.share_domain.specs.Totals.{domain_totals, slots_of};
 ghost use Rattle.share_domain.specs.declared.config.TheConstants.{MAX_MACHINES};
 ghost use Rattle.page_model.specs.declared.limits.TheConstants.{MAX_FRAMES};
 ghost use Rattle.frame_fingerprints.specs.Held.{is_held};
-ghost use Rattle.fingerprint_domain.specs.Known.{fingerprints_in, with_domain};
+ghost use Rattle.fingerprint_domain.specs.Known.{fingerprints_in, with_domain, LendsFound, RefusesFound};
 
 use crate::frames::forget_each;
 use frame_fingerprints::FrameFingerprints;
@@ -98,25 +98,27 @@ impl<H: PageHash, A: Allocator> FingerprintDomain<H, A> {
         self.domain.enter()
     }
 
-    /// Lends a client's page, as [`Domain::lend`] does.
+    /// Lends a client's page, as [`Domain::lend_beside`] does: beside a frame in use whose bytes have the page's fingerprint, if there
+    /// is one.
     ///
     /// # Errors
     ///
-    /// Those of [`Domain::lend`]. Then nothing changed.
+    /// Those of [`Domain::lend_beside`]. Then nothing changed.
     pub fn lend(&mut self, client: u32, page: &Page) -> Result<Loan, LendFault>
         ensures lends { MatchResult result
-            (λ loan. LendsIn (page_machine H.hash_of self.old.domain page.now) client page.now loan self.old.domain self.new.domain)
-            (λ fault. RefusesIn (page_machine H.hash_of self.old.domain page.now) client fault self.old.domain × (self.new.domain ≡ self.old.domain)) }
+            (λ loan. LendsFound self.old.salt client page.now loan self.old.domain self.new.domain)
+            (λ fault. RefusesFound self.old.salt client page.now fault self.old.domain × (self.new.domain ≡ self.old.domain)) }
         ensures salt { self.new.salt ≡ self.old.salt }
         ensures bytes { IfOk result (λ _. BytesStay self.old.domain self.new.domain) }
     {
-        let answer = self.domain.lend(client, page);
+        let fingerprint = FoldHash.hash(self.salt, page);
+        let beside = self.fingerprints.find(fingerprint);
+        let answer = self.domain.lend_beside(beside, client, page);
         match answer {
             Err(fault) => Err(fault),
             Ok(loan) => {
                 if !self.fingerprints.is_kept(loan.frame) {
-                    self.fingerprints
-                        .put(loan.frame, FoldHash.hash(self.salt, page));
+                    self.fingerprints.put(loan.frame, fingerprint);
                 }
                 Ok(loan)
             }

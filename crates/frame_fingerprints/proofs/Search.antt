@@ -1,16 +1,17 @@
 -- A search along a chain.
-use Rattle.std.proofs.Common.{◌≡◌, ℕ, ◌+◌, ◌<◌, ◌≤◌, Bool, true, false, ◌||◌, cond, eqb, List, [], ◌∷◌, length, get_or, map, Some, None, sym, refl, ap, ◌∙◌, arith, subst, inl, inr}
-use Rattle.std.proofs.lemmas.Bool.{false≢true, eqb-true, eq-eqb, cases_eq}
+use Rattle.std.proofs.Common.{◌≡◌, ℕ, ◌+◌, ◌<◌, ◌≤◌, Bool, true, false, ◌||◌, cond, eqb, List, [], ◌∷◌, length, get_or, map, Option, Some, None, sym, refl, ap, ◌∙◌, arith, subst, inl, inr}
+use Rattle.std.proofs.lemmas.Bool.{false≢true, eqb-true, eq-eqb, cases_eq, cases_lt}
 use Rattle.std.proofs.lemmas.List.{length-map}
-use Rattle.std.proofs.lemmas.List.{get_or-map}
+use Rattle.std.proofs.lemmas.List.{get_or-map, get_or_past}
 use Rattle.std.proofs.lemmas.List.Folds.{list_any_at, list_any_none}
 use Rattle.std.proofs.lemmas.Map.Steps.{length-le_from_distinct_below}
+use Rattle.std.specs.Prelude.{is_some, slice_index_or}
 use Prim.Native.Nat.{suc, zero}
 use Rattle.std.proofs.lemmas.List.Elements.{recursion_from_All}
 use Rattle.std.specs.List.{list_any, IsDistinct}
 use Rattle.frame_fingerprints.specs.declared.node.Node.{Node}
 use Rattle.frame_fingerprints.specs.declared.node.TheConstants.{NOWHERE}
-use Rattle.frame_fingerprints.specs.Held.{is_this, is_held}
+use Rattle.frame_fingerprints.specs.Held.{Finds, is_this, is_held}
 use Rattle.frame_fingerprints.specs.Chained.{no_node, node_at, fingerprint_in, link_at, before_at, held_at, is_in, IsChain, AreApart, belongs, AreChained}
 use Rattle.frame_fingerprints.proofs.Paths.{in_first, in_later, in_rest, not_first, not_later, chain_below}
 use Rattle.frame_fingerprints.proofs.Nodes.{link_node, held_listed}
@@ -105,6 +106,11 @@ pub record IsSearch (nodes : List Node) (heads : List ℕ) (f at steps : ℕ) : 
   pub path : IsChain (link_at nodes heads) (before_at nodes) (length nodes) from at rest
   pub few : length rest + steps ≤ length nodes
   pub same : list_any (passes nodes f) rest ≡ is_held f (map fingerprint_in nodes)
+  pub used : (y : ℕ) → is_in y rest ≡ true → is_some (held_at nodes y) ≡ true
+
+used_of : (bucket : ℕ → ℕ) (b : ℕ) (held : Option ℕ) → belongs bucket b held ≡ true → is_some held ≡ true
+used_of bucket b None e = absurd (false≢true e)
+used_of bucket b (Some f) e = refl
 
 pub search_begins : (nodes : List Node) (heads : List ℕ) (bucket : ℕ → ℕ) (buckets f at : ℕ) → bucket f < buckets
     → AreChained (link_at nodes heads) (before_at nodes) (held_at nodes) bucket (length nodes) buckets → at ≡ link_at nodes heads (length nodes + bucket f)
@@ -117,6 +123,8 @@ search_begins nodes heads bucket buckets f at lt h e =
       path = subst (λ (t : ℕ). IsChain (link_at nodes heads) (before_at nodes) (length nodes) (length nodes + bucket f) t (h.chain (bucket f))) (sym e) path;
       few = let n = chain_few (link_at nodes heads) (before_at nodes) (length nodes) (length nodes + bucket f) (link_at nodes heads (length nodes + bucket f)) (h.chain (bucket f)) path (h.apart (bucket f) lt) in omega (arith, n);
       same = any_chain nodes heads bucket buckets f lt h;
+      used = λ y i. used_of bucket (bucket f) (held_at nodes y) (sym (h.listed (bucket f) y lt
+          (chain_below (link_at nodes heads) (before_at nodes) (length nodes) (length nodes + bucket f) (link_at nodes heads (length nodes + bucket f)) (h.chain (bucket f)) y path i)) ∙ i);
     }
 
 ends : (nodes : List Node) (heads : List ℕ) (f at steps from : ℕ) (rest : List ℕ) → IsChain (link_at nodes heads) (before_at nodes) (length nodes) from at rest
@@ -125,22 +133,30 @@ ends nodes heads f at steps from [] path le = refl
 ends nodes heads f at steps from (x ∷ xs) path le = absurd (let e = path.0 in let lt = path.2 in omega (arith, e, lt, le))
 
 -- a link leads to no frame
-pub search_ends : (nodes : List Node) (heads : List ℕ) (f at steps : ℕ) → IsSearch nodes heads f at steps → length nodes ≤ at → false ≡ is_held f (map fingerprint_in nodes)
-search_ends nodes heads f at steps s le = sym (ends nodes heads f at steps s.from s.rest s.path le) ∙ s.same
+pub search_ends : (nodes : List Node) (heads : List ℕ) (f at steps : ℕ) → IsSearch nodes heads f at steps → length nodes ≤ at → is_held f (map fingerprint_in nodes) ≡ false
+search_ends nodes heads f at steps s le = sym s.same ∙ ends nodes heads f at steps s.from s.rest s.path le
 
-finds : (nodes : List Node) (heads : List ℕ) (f at from : ℕ) (rest : List ℕ) → IsChain (link_at nodes heads) (before_at nodes) (length nodes) from at rest
-    → at < length nodes → passes nodes f at ≡ true → list_any (passes nodes f) rest ≡ true
-finds nodes heads f at from [] path lt p = absurd (omega (arith, path, lt))
-finds nodes heads f at from (x ∷ xs) path lt p = ap (λ (b : Bool). b || list_any (passes nodes f) xs) (ap (passes nodes f) (sym path.0) ∙ p)
+there : (nodes : List Node) (heads : List ℕ) (at from : ℕ) (rest : List ℕ) → IsChain (link_at nodes heads) (before_at nodes) (length nodes) from at rest
+    → at < length nodes → is_in at rest ≡ true
+there nodes heads at from [] path lt = absurd (omega (arith, path, lt))
+there nodes heads at from (x ∷ xs) path lt = ap (λ (y : ℕ). is_in y (x ∷ xs)) path.0 ∙ in_first x xs
 
-pub search_finds : (nodes : List Node) (heads : List ℕ) (f at steps : ℕ) → IsSearch nodes heads f at steps → at < length nodes → passes nodes f at ≡ true → true ≡ is_held f (map fingerprint_in nodes)
-search_finds nodes heads f at steps s lt p = sym (finds nodes heads f at s.from s.rest s.path lt p) ∙ s.same
+this_one : (f k : ℕ) (t : Bool) → is_some (cond t None (Some k)) ≡ true → eqb k f ≡ true → cond t None (Some k) ≡ Some f
+this_one f k true used e = absurd (false≢true used)
+this_one f k false used e = ap (λ (n : ℕ). Some n) (eqb-true k f e)
+
+-- a frame of the chain has the fingerprint
+pub search_finds : (nodes : List Node) (heads : List ℕ) (f at steps : ℕ) → IsSearch nodes heads f at steps → at < length nodes → passes nodes f at ≡ true
+    → slice_index_or (map fingerprint_in nodes) at None ≡ Some f
+search_finds nodes heads f at steps s lt p =
+    sym (held_listed nodes at) ∙ this_one f (node_at nodes at).fingerprint (eqb (node_at nodes at).before NOWHERE) (s.used at (there nodes heads at s.from s.rest s.path lt)) p
 
 step : (nodes : List Node) (heads : List ℕ) (f at steps from : ℕ) (rest : List ℕ) → IsChain (link_at nodes heads) (before_at nodes) (length nodes) from at rest
     → length rest + steps ≤ length nodes → list_any (passes nodes f) rest ≡ is_held f (map fingerprint_in nodes)
+    → ((y : ℕ) → is_in y rest ≡ true → is_some (held_at nodes y) ≡ true)
     → at < length nodes → passes nodes f at ≡ false → IsSearch nodes heads f (node_at nodes at).next (steps + 1)
-step nodes heads f at steps from [] path few same lt p = absurd (omega (arith, path, lt))
-step nodes heads f at steps from (x ∷ xs) path few same lt p =
+step nodes heads f at steps from [] path few same used lt p = absurd (omega (arith, path, lt))
+step nodes heads f at steps from (x ∷ xs) path few same used lt p =
     let here : passes nodes f x ≡ false = ap (passes nodes f) (sym path.0) ∙ p in
     record {
       rest = xs;
@@ -148,15 +164,31 @@ step nodes heads f at steps from (x ∷ xs) path few same lt p =
       path = subst (λ (t : ℕ). IsChain (link_at nodes heads) (before_at nodes) (length nodes) x t xs) (link_node nodes heads x path.2 ∙ ap (λ (y : ℕ). (node_at nodes y).next) (sym path.0)) path.3;
       few = omega (arith, few);
       same = ap (λ (b : Bool). b || list_any (passes nodes f) xs) (sym here) ∙ same;
+      used = λ y i. used y (in_later y x xs i);
     }
 
 pub search_steps : (nodes : List Node) (heads : List ℕ) (f at steps : ℕ) → IsSearch nodes heads f at steps → at < length nodes → passes nodes f at ≡ false
     → IsSearch nodes heads f (node_at nodes at).next (steps + 1)
-search_steps nodes heads f at steps s lt p = step nodes heads f at steps s.from s.rest s.path s.few s.same lt p
+search_steps nodes heads f at steps s lt p = step nodes heads f at steps s.from s.rest s.path s.few s.same s.used lt p
 
 gone : (nodes : List Node) (f steps : ℕ) (rest : List ℕ) → length rest + steps ≤ length nodes → length nodes ≤ steps → list_any (passes nodes f) rest ≡ false
 gone nodes f steps [] few le = refl
 gone nodes f steps (x ∷ xs) few le = absurd (omega (arith, few, le))
 
-pub search_gone : (nodes : List Node) (heads : List ℕ) (f at steps : ℕ) → IsSearch nodes heads f at steps → length nodes ≤ steps → false ≡ is_held f (map fingerprint_in nodes)
-search_gone nodes heads f at steps s le = sym (gone nodes f steps s.rest s.few le) ∙ s.same
+pub search_gone : (nodes : List Node) (heads : List ℕ) (f at steps : ℕ) → IsSearch nodes heads f at steps → length nodes ≤ steps → is_held f (map fingerprint_in nodes) ≡ false
+search_gone nodes heads f at steps s le = sym s.same ∙ gone nodes f steps s.rest s.few le
+
+-- ---- whether there is one
+
+within_held : (held : List (Option ℕ)) (at f : ℕ) → slice_index_or held at None ≡ Some f → at < length held
+within_held held at f e =
+    elim (cases_lt at (length held)) [
+      | inl lt ↦ lt
+      | inr le ↦ absurd (nothing (sym (get_or_past held at None le) ∙ e))
+    ] where
+      nothing : None ≡ Some f → ⊥
+      nothing q = cc
+
+pub found_is_held : (f : ℕ) (held : List (Option ℕ)) (found : Option ℕ) → Finds f held found → is_some found ≡ is_held f held
+found_is_held f held None e = sym e
+found_is_held f held (Some at) e = sym (list_any_at (is_this f) held at None (within_held held at f e) (ap (is_this f) e ∙ eq-eqb f f refl))

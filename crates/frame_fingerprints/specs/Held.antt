@@ -1,5 +1,5 @@
 -- The fingerprints of frames, as callers see them: one for each frame that has one.
-use Rattle.std.specs.Prelude.{ℕ, Bool, false, ◌==◌, List, Option, Some, None, replicate, bit_or}
+use Rattle.std.specs.Prelude.{◌≡◌, ℕ, Bool, false, ◌==◌, List, Option, Some, None, replicate, bit_or, slice_index_or}
 use Rattle.std.specs.List.{list_any}
 
 -- the fingerprints by the frames' numbers; and the number by which fingerprints are spread over buckets, on which no answer
@@ -16,6 +16,11 @@ is_this fingerprint (Some f) = f == fingerprint
 -- whether one of the frames has it
 abbrev pub is_held : ℕ → List (Option ℕ) → Bool
 is_held fingerprint held = list_any (is_this fingerprint) held
+
+-- a frame that has this fingerprint, or none where no frame has it
+abbrev pub Finds : ℕ → List (Option ℕ) → Option ℕ → Type 0
+Finds fingerprint held None = is_held fingerprint held ≡ false
+Finds fingerprint held (Some frame) = slice_index_or held frame None ≡ Some fingerprint
 
 -- no frame has a fingerprint; the factor is the seed made odd
 abbrev pub none_held : ℕ → ℕ → Fingerprints

@@ -1,7 +1,7 @@
 //! Frames in chains by the buckets of their fingerprints.
 ghost use Rattle.std.specs.Prelude.{◌≡◌, ◌+◌, ◌<◌, ◌≤◌, Some, None, IsSome, is_some, true, length, map, slice_set};
 ghost use Rattle.frame_fingerprints.specs.Chained.{AreKept, fingerprint_in, heads_after, held_at, node_at, with_before, with_next};
-ghost use Rattle.frame_fingerprints.specs.Held.{is_held};
+ghost use Rattle.frame_fingerprints.specs.Held.{Finds};
 
 use crate::node::{NOWHERE, Node};
 use recent_fingerprints::Buckets;
@@ -27,23 +27,23 @@ impl<A: Allocator> Chains<A> {
         self.nodes[frame as usize].before != NOWHERE
     }
 
-    // Whether a frame has the fingerprint.
-    pub(crate) fn has(&self, fingerprint: u64) -> bool
+    // Returns a frame that has the fingerprint, the first one of its chain.
+    pub(crate) fn find(&self, fingerprint: u64) -> Option<u32>
         requires { AreKept self.now.nodes.items self.now.heads.items self.now.buckets.factor self.now.buckets.shift }
-        ensures { result ≡ is_held fingerprint (map fingerprint_in self.now.nodes.items) }
+        ensures { Finds fingerprint (map fingerprint_in self.now.nodes.items) result }
     {
         let mut at = self.heads[self.buckets.of(fingerprint) as usize];
         for _ in 0..self.nodes.len() {
             if at as usize >= self.nodes.len() {
-                return false;
+                return None;
             }
             let node = self.nodes[at as usize];
             if node.fingerprint == fingerprint {
-                return true;
+                return Some(at);
             }
             at = node.next;
         }
-        false
+        None
     }
 
     // Puts a frame that has no fingerprint before the others of its bucket.

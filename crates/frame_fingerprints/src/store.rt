@@ -2,7 +2,7 @@
 ghost use Rattle.std.specs.Prelude.{◌≡◌, ◌≤◌, IfOk, None, Some, is_some, replicate, slice_index_or, slice_set};
 ghost use Rattle.frame_fingerprints.specs.Chained.{no_node};
 ghost use Rattle.frame_fingerprints.specs.declared.node.TheConstants.{NOWHERE};
-ghost use Rattle.frame_fingerprints.specs.Held.{is_held, none_held, with_held};
+ghost use Rattle.frame_fingerprints.specs.Held.{Finds, is_held, none_held, with_held};
 ghost use Rattle.frame_fingerprints.specs.declared.limits.TheConstants.{MAX_FRAMES};
 
 use crate::chains::Chains;
@@ -11,7 +11,7 @@ use recent_fingerprints::{Buckets, bucket_count};
 use std::alloc::{AllocError, Allocator, Global};
 use std::marker::Model;
 
-/// The fingerprints of the frames in use, by the frames' numbers. It says whether a frame has a fingerprint.
+/// The fingerprints of the frames in use, by the frames' numbers. It says whether a frame has a fingerprint, and which.
 ///
 /// `new` takes all memory.
 #[derive(Drop)]
@@ -86,7 +86,14 @@ impl<A: Allocator> FrameFingerprints<A> {
     pub fn has(&self, fingerprint: u64) -> bool
         ensures { result ≡ is_held fingerprint self.now.held }
     {
-        self.chains.has(fingerprint)
+        self.find(fingerprint).is_some()
+    }
+
+    /// Returns a frame that has this fingerprint, any one of several, or `None` if no frame has it.
+    pub fn find(&self, fingerprint: u64) -> Option<u32>
+        ensures { Finds fingerprint self.now.held result }
+    {
+        self.chains.find(fingerprint)
     }
 
     /// Whether the fingerprint of a frame is kept.

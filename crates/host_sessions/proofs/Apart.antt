@@ -70,9 +70,9 @@ opens n name (client.Ask questions) received old new lt o = breaks (session_at n
 opens n name (client.Lend count) received old new lt o = breaks (session_at new.sessions n) n (session.Silent name) fault.Early received old new o
 opens n name (client.Release slots) received old new lt o = breaks (session_at new.sessions n) n (session.Silent name) fault.Early received old new o
 
-lends_first : (hash : ℕ → List ℕ → ℕ) (n : ℕ) (b : Begun) (count : ℕ) (pages : List (List ℕ)) (received : Received) (old new : HostView) → n < length old.sessions
-    → LendsFirst hash n b count pages received old new → SparesOthers (session_at new.sessions n) old.domain new.domain
-lends_first hash n b count pages received old new lt l =
+lends_first : (n : ℕ) (b : Begun) (count : ℕ) (pages : List (List ℕ)) (received : Received) (old new : HostView) → n < length old.sessions
+    → LendsFirst n b count pages received old new → SparesOthers (session_at new.sessions n) old.domain new.domain
+lends_first n b count pages received old new lt l =
     elim (cases_lt (length pages) count) [
       | inl short ↦ breaks (session_at new.sessions n) n (session.Begun b) fault.Pages received old new (l.short short)
       | inr le ↦ elim (cases_lt MAX_IN_MESSAGE count) [
@@ -81,7 +81,7 @@ lends_first hash n b count pages received old new lt l =
             let w = l.enough few le in
             let now : Begun = lent b in
             let there : session_at new.sessions n ≡ session.Begun now = ap (λ (h : HostView). session_at h.sessions n) w.now ∙ put_there old.sessions n (session.Begun now) lt in
-            spares_begun now (session_at new.sessions n) old new there (lends_spare hash b.client old.quota (take count pages) w.loans old.domain new.domain w.lends)
+            spares_begun now (session_at new.sessions n) old new there (lends_spare old.salt b.client old.quota (take count pages) w.loans old.domain new.domain w.lends)
       ]
     ]
 
@@ -93,24 +93,24 @@ releases n b slots received old new lt t =
     spares_begun now (session_at new.sessions n) old new there
     (λ slot is. ap (λ (h : HostView). held_in h.domain.machines slot) t.now ∙ releases_spare b.client slots old.domain slot is)
 
-talks : (hash : ℕ → List ℕ → ℕ) (n : ℕ) (pages : List (List ℕ)) (b : Begun) (m : ClientMessage) (received : Received) (old new : HostView) → n < length old.sessions
-    → Talks hash n pages b m received old new → SparesOthers (session_at new.sessions n) old.domain new.domain
-talks hash n pages b (client.Hello wanted) received old new lt t = breaks (session_at new.sessions n) n (session.Begun b) fault.Again received old new t
-talks hash n pages b (client.Ask questions) received old new lt t = same_machines (session_at new.sessions n) old new (ap (λ (h : HostView). h.domain.machines) t.now)
-talks hash n pages b (client.Lend count) received old new lt t = lends_first hash n b count pages received old new lt t
-talks hash n pages b (client.Release slots) received old new lt t = releases n b slots.items received old new lt t
+talks : (n : ℕ) (pages : List (List ℕ)) (b : Begun) (m : ClientMessage) (received : Received) (old new : HostView) → n < length old.sessions
+    → Talks n pages b m received old new → SparesOthers (session_at new.sessions n) old.domain new.domain
+talks n pages b (client.Hello wanted) received old new lt t = breaks (session_at new.sessions n) n (session.Begun b) fault.Again received old new t
+talks n pages b (client.Ask questions) received old new lt t = same_machines (session_at new.sessions n) old new (ap (λ (h : HostView). h.domain.machines) t.now)
+talks n pages b (client.Lend count) received old new lt t = lends_first n b count pages received old new lt t
+talks n pages b (client.Release slots) received old new lt t = releases n b slots.items received old new lt t
 
-steps : (hash : ℕ → List ℕ → ℕ) (n : ℕ) (pages : List (List ℕ)) (s : Session) (m : ClientMessage) (received : Received) (old new : HostView) → n < length old.sessions
-    → Steps hash n pages s m received old new → SparesOthers (session_at new.sessions n) old.domain new.domain
-steps hash n pages session.Free m received old new lt p = same_machines (session_at new.sessions n) old new (ap (λ (h : HostView). h.domain.machines) p.1)
-steps hash n pages (session.Refused first) m received old new lt p = same_machines (session_at new.sessions n) old new (ap (λ (h : HostView). h.domain.machines) p.1)
-steps hash n pages (session.Silent name) m received old new lt p = opens n name m received old new lt p
-steps hash n pages (session.Begun b) m received old new lt p = talks hash n pages b m received old new lt p
+steps : (n : ℕ) (pages : List (List ℕ)) (s : Session) (m : ClientMessage) (received : Received) (old new : HostView) → n < length old.sessions
+    → Steps n pages s m received old new → SparesOthers (session_at new.sessions n) old.domain new.domain
+steps n pages session.Free m received old new lt p = same_machines (session_at new.sessions n) old new (ap (λ (h : HostView). h.domain.machines) p.1)
+steps n pages (session.Refused first) m received old new lt p = same_machines (session_at new.sessions n) old new (ap (λ (h : HostView). h.domain.machines) p.1)
+steps n pages (session.Silent name) m received old new lt p = opens n name m received old new lt p
+steps n pages (session.Begun b) m received old new lt p = talks n pages b m received old new lt p
 
-hears : (hash : ℕ → List ℕ → ℕ) (n : ℕ) (pages : List (List ℕ)) (s : Session) (r : Result ClientMessage MessageFault) (received : Received) (old new : HostView) → n < length old.sessions
-    → Hears hash n pages s r received old new → SparesOthers (session_at new.sessions n) old.domain new.domain
-hears hash n pages s (Ok m) received old new lt p = steps hash n pages s m received old new lt p
-hears hash n pages s (Err f) received old new lt p = breaks (session_at new.sessions n) n s (fault.Message f) received old new p
+hears : (n : ℕ) (pages : List (List ℕ)) (s : Session) (r : Result ClientMessage MessageFault) (received : Received) (old new : HostView) → n < length old.sessions
+    → Hears n pages s r received old new → SparesOthers (session_at new.sessions n) old.domain new.domain
+hears n pages s (Ok m) received old new lt p = steps n pages s m received old new lt p
+hears n pages s (Err f) received old new lt p = breaks (session_at new.sessions n) n s (fault.Message f) received old new p
 
 -- a session that takes messages is there
 is_there : (sessions : List Session) (n : ℕ) → takes (session_at sessions n) ≡ true → n < length sessions
@@ -123,10 +123,10 @@ is_there sessions n e =
     free_takes : (s : Session) → s ≡ session.Free → takes s ≡ true → ⊥
     free_takes s f t = false≢true (subst (λ (x : Session). takes x ≡ true) f t)
 
-pub receives_spare : (hash : ℕ → List ℕ → ℕ) (n : ℕ) (bytes : List ℕ) (pages : List (List ℕ)) (received : Received) (old new : HostView)
-    → Receives hash n bytes pages received old new → SparesOthers (session_at new.sessions n) old.domain new.domain
-receives_spare hash n bytes pages received old new p =
+pub receives_spare : (n : ℕ) (bytes : List ℕ) (pages : List (List ℕ)) (received : Received) (old new : HostView)
+    → Receives n bytes pages received old new → SparesOthers (session_at new.sessions n) old.domain new.domain
+receives_spare n bytes pages received old new p =
     elim (cases_Bool (takes (session_at old.sessions n))) [
-      | inl took ↦ hears hash n pages (session_at old.sessions n) (client_at bytes) received old new (is_there old.sessions n took) (p.heard-if took)
+      | inl took ↦ hears n pages (session_at old.sessions n) (client_at bytes) received old new (is_there old.sessions n took) (p.heard-if took)
       | inr idle ↦ same_machines (session_at new.sessions n) old new (ap (λ (h : HostView). h.domain.machines) (p.idle-if idle).1)
     ]

@@ -69,27 +69,30 @@ module _ (client : ℕ) (ss : List ℕ) (i : ℕ) where
 -- ---- lends
 
 -- the loans so far are the first ones of all, whatever the others will be
-abbrev pub SoFar : (ℕ → List ℕ → ℕ) → ℕ → ℕ → List (List ℕ) → DomainView → ℕ → List Lent → DomainView → Type 0
-SoFar hash client quota pages start i front d =
-    (rest : List Lent) (new : DomainView) → LendsInTurn hash client quota (drop i pages) rest d new
-    → LendsInTurn hash client quota pages (front ++ rest) start new
+abbrev pub SoFar : ℕ → ℕ → ℕ → List (List ℕ) → DomainView → ℕ → List Lent → DomainView → Type 0
+SoFar salt client quota pages start i front d =
+    (rest : List Lent) (new : DomainView) → LendsInTurn salt client quota (drop i pages) rest d new
+    → LendsInTurn salt client quota pages (front ++ rest) start new
 
-module _ (hash : ℕ → List ℕ → ℕ) (client quota : ℕ) (pages : List (List ℕ)) (start : DomainView) where
+pub under : (a b client quota : ℕ) (page : List ℕ) (lent : Lent) (d mid : DomainView) → a ≡ b → LendsOne a client quota page lent d mid → LendsOne b client quota page lent d mid
+under a b client quota page lent d mid e one = subst (λ (salt : ℕ). LendsOne salt client quota page lent d mid) e one
+
+module _ (salt client quota : ℕ) (pages : List (List ℕ)) (start : DomainView) where
   pub lent_more : (i : ℕ) (front : List Lent) (d mid : DomainView) (page e : List ℕ) (lent : Lent) → i < length pages → page ≡ get_or pages i e
-      → LendsOne hash client quota page lent d mid → SoFar hash client quota pages start i front d
-      → SoFar hash client quota pages start (i + 1) (front ++ lent ∷ []) mid
+      → LendsOne salt client quota page lent d mid → SoFar salt client quota pages start i front d
+      → SoFar salt client quota pages start (i + 1) (front ++ lent ∷ []) mid
   unfolding LendsInTurn
   lent_more i front d mid page e lent lt is one so_far rest new p =
-      subst (λ (ls : List Lent). LendsInTurn hash client quota pages ls start new) (sym (append_assoc front (lent ∷ []) rest))
+      subst (λ (ls : List Lent). LendsInTurn salt client quota pages ls start new) (sym (append_assoc front (lent ∷ []) rest))
       (so_far (lent ∷ rest) new
-      (subst (λ (ps : List (List ℕ)). LendsInTurn hash client quota ps (lent ∷ rest) d new) (sym (left_at pages i page e lt is)) (mid, one, p)))
+      (subst (λ (ps : List (List ℕ)). LendsInTurn salt client quota ps (lent ∷ rest) d new) (sym (left_at pages i page e lt is)) (mid, one, p)))
 
-  pub all_lent : (i : ℕ) (front : List Lent) (d : DomainView) → length pages ≤ i → SoFar hash client quota pages start i front d
-      → LendsInTurn hash client quota pages front start d
+  pub all_lent : (i : ℕ) (front : List Lent) (d : DomainView) → length pages ≤ i → SoFar salt client quota pages start i front d
+      → LendsInTurn salt client quota pages front start d
   unfolding LendsInTurn
   all_lent i front d le so_far =
-      subst (λ (ls : List Lent). LendsInTurn hash client quota pages ls start d) (append-nil front)
-      (so_far [] d (subst (λ (ps : List (List ℕ)). LendsInTurn hash client quota ps [] d d) (sym (drop_all i pages le)) refl))
+      subst (λ (ls : List Lent). LendsInTurn salt client quota pages ls start d) (append-nil front)
+      (so_far [] d (subst (λ (ps : List (List ℕ)). LendsInTurn salt client quota ps [] d d) (sym (drop_all i pages le)) refl))
 
 -- ---- the slots of loans
 

@@ -15,7 +15,7 @@ use Rattle.share_domain.specs.declared.client.Presence.TheVariants.{Out, In, Lea
 use Rattle.share_domain.specs.declared.holding.Loan.{Loan}
 use Rattle.share_domain.specs.declared.holding.Slot.{Slot}
 use Rattle.share_domain.specs.declared.fault.LendFault.{LendFault}
-use Rattle.share_domain.specs.Domains.{DomainView, is_out, next_client, page_machine, with_machines, with_released, held_in, after_release}
+use Rattle.share_domain.specs.Domains.{DomainView, is_out, next_client, with_machines, with_released, held_in, after_release}
 use Rattle.share_domain.specs.Leaving.{Leaves, StaysOut, presence_of, first_slot}
 use Rattle.share_domain.specs.Numbers.{slot_by}
 use Rattle.share_domain.specs.Totals.{slots_of, is_present}
@@ -118,23 +118,23 @@ unfolding after_releases
 releases_clients c [] d = refl
 releases_clients c (s ∷ ss) d = releases_clients c ss (after_release c (slot_by s) d) ∙ release_clients c (slot_by s) d
 
-answer_clients : (hash : ℕ → List ℕ → ℕ) (c : ℕ) (page : List ℕ) (answer : Result Loan LendFault) (old new : DomainView) → Answers hash c page answer old new → new.clients ≡ old.clients
-answer_clients hash c page (Ok loan) old new a = ap (λ (d : DomainView). d.clients) a.rest
-answer_clients hash c page (Err fault) old new a = ap (λ (d : DomainView). d.clients) a.1
+answer_clients : (salt c : ℕ) (page : List ℕ) (answer : Result Loan LendFault) (old new : DomainView) → Answers salt c page answer old new → new.clients ≡ old.clients
+answer_clients salt c page (Ok loan) old new a = ap (λ (d : DomainView). d.clients) a.lends.rest
+answer_clients salt c page (Err fault) old new a = ap (λ (d : DomainView). d.clients) a.1
 
-one_clients : (hash : ℕ → List ℕ → ℕ) (c quota : ℕ) (page : List ℕ) (lent : Lent) (old new : DomainView) → LendsOne hash c quota page lent old new → new.clients ≡ old.clients
-one_clients hash c quota page lent old new l =
+one_clients : (salt c quota : ℕ) (page : List ℕ) (lent : Lent) (old new : DomainView) → LendsOne salt c quota page lent old new → new.clients ≡ old.clients
+one_clients salt c quota page lent old new l =
     elim (cases_lt (slots_of c old.machines) quota) [
-      | inl lt ↦ let w = l.within lt in answer_clients hash c page w.answer old new w.answers
+      | inl lt ↦ let w = l.within lt in answer_clients salt c page w.answer old new w.answers
       | inr le ↦ ap (λ (d : DomainView). d.clients) (l.full le).1
     ]
 
-lends_clients : (hash : ℕ → List ℕ → ℕ) (c quota : ℕ) (pages : List (List ℕ)) (loans : List Lent) (old new : DomainView) → LendsInTurn hash c quota pages loans old new → new.clients ≡ old.clients
+lends_clients : (salt c quota : ℕ) (pages : List (List ℕ)) (loans : List Lent) (old new : DomainView) → LendsInTurn salt c quota pages loans old new → new.clients ≡ old.clients
 unfolding LendsInTurn
-lends_clients hash c quota [] [] old new l = ap (λ (d : DomainView). d.clients) l
-lends_clients hash c quota (page ∷ pages) [] old new l = absurd l
-lends_clients hash c quota [] (lent ∷ loans) old new l = absurd l
-lends_clients hash c quota (page ∷ pages) (lent ∷ loans) old new l = lends_clients hash c quota pages loans l.0 new l.2 ∙ one_clients hash c quota page lent old l.0 l.1
+lends_clients salt c quota [] [] old new l = ap (λ (d : DomainView). d.clients) l
+lends_clients salt c quota (page ∷ pages) [] old new l = absurd l
+lends_clients salt c quota [] (lent ∷ loans) old new l = absurd l
+lends_clients salt c quota (page ∷ pages) (lent ∷ loans) old new l = lends_clients salt c quota pages loans l.0 new l.2 ∙ one_clients salt c quota page lent old l.0 l.1
 
 -- ---- a packet
 
@@ -239,9 +239,9 @@ goes_on : (n : ℕ) (b now : Begun) (old new : HostView) → session_at old.sess
     → new.sessions ≡ slice_set old.sessions n (session.Begun now) → new.domain.clients ≡ old.domain.clients → HasOwn new
 goes_on n b now old new was whose own e f = becomes new (slice_set old.sessions n (session.Begun now)) old.domain.clients e f (same_put old.sessions old.domain.clients n b now was whose own)
 
-lends_first : (hash : ℕ → List ℕ → ℕ) (n : ℕ) (b : Begun) (count : ℕ) (pages : List (List ℕ)) (received : Received) (old new : HostView) → session_at old.sessions n ≡ session.Begun b → HasOwn old
-    → LendsFirst hash n b count pages received old new → HasOwn new
-lends_first hash n b count pages received old new was own l =
+lends_first : (n : ℕ) (b : Begun) (count : ℕ) (pages : List (List ℕ)) (received : Received) (old new : HostView) → session_at old.sessions n ≡ session.Begun b → HasOwn old
+    → LendsFirst n b count pages received old new → HasOwn new
+lends_first n b count pages received old new was own l =
     elim (cases_lt (length pages) count) [
       | inl short ↦ breaks n (session.Begun b) fault.Pages received old new was own (l.short short)
       | inr le ↦ elim (cases_lt MAX_IN_MESSAGE count) [
@@ -249,34 +249,34 @@ lends_first hash n b count pages received old new was own l =
         | inr few ↦
             let w = l.enough few le in
             goes_on n b (lent b) old new was refl own (ap (λ (h : HostView). h.sessions) w.now)
-            (lends_clients hash b.client old.quota (take count pages) w.loans old.domain new.domain w.lends)
+            (lends_clients old.salt b.client old.quota (take count pages) w.loans old.domain new.domain w.lends)
       ]
     ]
 
-talks : (hash : ℕ → List ℕ → ℕ) (n : ℕ) (pages : List (List ℕ)) (b : Begun) (m : ClientMessage) (received : Received) (old new : HostView) → session_at old.sessions n ≡ session.Begun b → HasOwn old
-    → Talks hash n pages b m received old new → HasOwn new
-talks hash n pages b (client.Hello wanted) received old new was own t = breaks n (session.Begun b) fault.Again received old new was own t
-talks hash n pages b (client.Ask questions) received old new was own t = goes_on n b (heard b) old new was refl own (ap (λ (h : HostView). h.sessions) t.now) (ap (λ (h : HostView). h.domain.clients) t.now)
-talks hash n pages b (client.Lend count) received old new was own t = lends_first hash n b count pages received old new was own t
-talks hash n pages b (client.Release slots) received old new was own t =
+talks : (n : ℕ) (pages : List (List ℕ)) (b : Begun) (m : ClientMessage) (received : Received) (old new : HostView) → session_at old.sessions n ≡ session.Begun b → HasOwn old
+    → Talks n pages b m received old new → HasOwn new
+talks n pages b (client.Hello wanted) received old new was own t = breaks n (session.Begun b) fault.Again received old new was own t
+talks n pages b (client.Ask questions) received old new was own t = goes_on n b (heard b) old new was refl own (ap (λ (h : HostView). h.sessions) t.now) (ap (λ (h : HostView). h.domain.clients) t.now)
+talks n pages b (client.Lend count) received old new was own t = lends_first n b count pages received old new was own t
+talks n pages b (client.Release slots) received old new was own t =
     goes_on n b (heard b) old new was refl own (ap (λ (h : HostView). h.sessions) t.now) (ap (λ (h : HostView). h.domain.clients) t.now ∙ releases_clients b.client slots.items old.domain)
 
-steps : (hash : ℕ → List ℕ → ℕ) (n : ℕ) (pages : List (List ℕ)) (s : Session) (m : ClientMessage) (received : Received) (old new : HostView) → session_at old.sessions n ≡ s → HasOwn old
-    → Steps hash n pages s m received old new → HasOwn new
-steps hash n pages session.Free m received old new was own p = stays old new p.1 own
-steps hash n pages (session.Refused first) m received old new was own p = stays old new p.1 own
-steps hash n pages (session.Silent name) m received old new was own p = opens n name m received old new was own p
-steps hash n pages (session.Begun b) m received old new was own p = talks hash n pages b m received old new was own p
+steps : (n : ℕ) (pages : List (List ℕ)) (s : Session) (m : ClientMessage) (received : Received) (old new : HostView) → session_at old.sessions n ≡ s → HasOwn old
+    → Steps n pages s m received old new → HasOwn new
+steps n pages session.Free m received old new was own p = stays old new p.1 own
+steps n pages (session.Refused first) m received old new was own p = stays old new p.1 own
+steps n pages (session.Silent name) m received old new was own p = opens n name m received old new was own p
+steps n pages (session.Begun b) m received old new was own p = talks n pages b m received old new was own p
 
-hears : (hash : ℕ → List ℕ → ℕ) (n : ℕ) (pages : List (List ℕ)) (s : Session) (r : Result ClientMessage MessageFault) (received : Received) (old new : HostView) → session_at old.sessions n ≡ s → HasOwn old
-    → Hears hash n pages s r received old new → HasOwn new
-hears hash n pages s (Ok m) received old new was own p = steps hash n pages s m received old new was own p
-hears hash n pages s (Err f) received old new was own p = breaks n s (fault.Message f) received old new was own p
+hears : (n : ℕ) (pages : List (List ℕ)) (s : Session) (r : Result ClientMessage MessageFault) (received : Received) (old new : HostView) → session_at old.sessions n ≡ s → HasOwn old
+    → Hears n pages s r received old new → HasOwn new
+hears n pages s (Ok m) received old new was own p = steps n pages s m received old new was own p
+hears n pages s (Err f) received old new was own p = breaks n s (fault.Message f) received old new was own p
 
-pub receive_keeps : (hash : ℕ → List ℕ → ℕ) (n : ℕ) (bytes : List ℕ) (pages : List (List ℕ)) (received : Received) (old new : HostView) → HasOwn old → Receives hash n bytes pages received old new → HasOwn new
-receive_keeps hash n bytes pages received old new own p =
+pub receive_keeps : (n : ℕ) (bytes : List ℕ) (pages : List (List ℕ)) (received : Received) (old new : HostView) → HasOwn old → Receives n bytes pages received old new → HasOwn new
+receive_keeps n bytes pages received old new own p =
     elim (cases_Bool (takes (session_at old.sessions n))) [
-      | inl took ↦ hears hash n pages (session_at old.sessions n) (client_at bytes) received old new refl own (p.heard-if took)
+      | inl took ↦ hears n pages (session_at old.sessions n) (client_at bytes) received old new refl own (p.heard-if took)
       | inr idle ↦ stays old new (p.idle-if idle).1 own
     ]
 

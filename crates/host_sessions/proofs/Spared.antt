@@ -12,7 +12,7 @@ use Rattle.lent_slots.proofs.SlotLists.{set_other}
 use Rattle.share_domain.specs.declared.holding.Slot.{Slot}
 use Rattle.share_domain.specs.declared.holding.Loan.{Loan}
 use Rattle.share_domain.specs.declared.fault.LendFault.{LendFault}
-use Rattle.share_domain.specs.Domains.{DomainView, with_machines, machine_at, no_machine, held_in, with_released, freed_in, after_release, page_machine, LendsIn}
+use Rattle.share_domain.specs.Domains.{DomainView, with_machines, machine_at, no_machine, held_in, with_released, freed_in, after_release, LendsIn}
 use Rattle.host_sessions.specs.Others.{IsAnothers, Spares}
 use Rattle.share_domain.specs.Leaving.{Leaves, at_first, first_slot, slot_from, or_later, left_by}
 use Rattle.share_domain.specs.Numbers.{frame_number}
@@ -100,25 +100,25 @@ releases_spare client [] d = same_spares client d d refl
 releases_spare client (s ∷ ss) d =
     spares_then client d (after_release client (slot_by s) d) (after_releases client ss (after_release client (slot_by s) d)) (release_spares client (slot_by s) d) (releases_spare client ss (after_release client (slot_by s) d))
 
-answer_spares : (hash : ℕ → List ℕ → ℕ) (client : ℕ) (page : List ℕ) (answer : Result Loan LendFault) (old new : DomainView) → Answers hash client page answer old new → Spares client old new
-answer_spares hash client page (Ok loan) old new a = lends_spares (page_machine hash old page) client page loan old new a
-answer_spares hash client page (Err fault) old new a = same_spares client old new a.1
+answer_spares : (salt client : ℕ) (page : List ℕ) (answer : Result Loan LendFault) (old new : DomainView) → Answers salt client page answer old new → Spares client old new
+answer_spares salt client page (Ok loan) old new a = lends_spares loan.slot.machine client page loan old new a.lends
+answer_spares salt client page (Err fault) old new a = same_spares client old new a.1
 
-one_spares : (hash : ℕ → List ℕ → ℕ) (client quota : ℕ) (page : List ℕ) (lent : Lent) (old new : DomainView) → LendsOne hash client quota page lent old new → Spares client old new
-one_spares hash client quota page lent old new l =
+one_spares : (salt client quota : ℕ) (page : List ℕ) (lent : Lent) (old new : DomainView) → LendsOne salt client quota page lent old new → Spares client old new
+one_spares salt client quota page lent old new l =
     elim (cases_lt (slots_of client old.machines) quota) [
-      | inl lt ↦ let w = l.within lt in answer_spares hash client page w.answer old new w.answers
+      | inl lt ↦ let w = l.within lt in answer_spares salt client page w.answer old new w.answers
       | inr le ↦ same_spares client old new (l.full le).1
     ]
 
-pub lends_spare : (hash : ℕ → List ℕ → ℕ) (client quota : ℕ) (pages : List (List ℕ)) (loans : List Lent) (old new : DomainView)
-    → LendsInTurn hash client quota pages loans old new → Spares client old new
+pub lends_spare : (salt client quota : ℕ) (pages : List (List ℕ)) (loans : List Lent) (old new : DomainView)
+    → LendsInTurn salt client quota pages loans old new → Spares client old new
 unfolding LendsInTurn
-lends_spare hash client quota [] [] old new l = same_spares client old new l
-lends_spare hash client quota (page ∷ pages) [] old new l = absurd l
-lends_spare hash client quota [] (lent ∷ loans) old new l = absurd l
-lends_spare hash client quota (page ∷ pages) (lent ∷ loans) old new l =
-    spares_then client old l.0 new (one_spares hash client quota page lent old l.0 l.1) (lends_spare hash client quota pages loans l.0 new l.2)
+lends_spare salt client quota [] [] old new l = same_spares client old new l
+lends_spare salt client quota (page ∷ pages) [] old new l = absurd l
+lends_spare salt client quota [] (lent ∷ loans) old new l = absurd l
+lends_spare salt client quota (page ∷ pages) (lent ∷ loans) old new l =
+    spares_then client old l.0 new (one_spares salt client quota page lent old l.0 l.1) (lends_spare salt client quota pages loans l.0 new l.2)
 
 -- ---- a client that leaves
 

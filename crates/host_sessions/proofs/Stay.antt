@@ -18,7 +18,7 @@ use Rattle.share_domain.specs.declared.holding.Slot.{Slot}
 use Rattle.share_domain.specs.declared.holding.Loan.{Loan}
 use Rattle.share_domain.specs.declared.fault.LendFault.{LendFault}
 use Rattle.share_domain.specs.Bytes.{BytesStay}
-use Rattle.share_domain.specs.Domains.{DomainView, with_machines, machine_at, no_machine, held_in, with_released, after_release, page_machine, LendsIn, next_client}
+use Rattle.share_domain.specs.Domains.{DomainView, with_machines, machine_at, no_machine, held_in, with_released, after_release, LendsIn, next_client}
 use Rattle.share_domain.specs.Leaving.{Leaves, StaysOut}
 use Rattle.share_domain.specs.Numbers.{slot_by}
 use Rattle.share_domain.specs.Totals.{slots_of}
@@ -64,14 +64,14 @@ lends_hold m client page loan old new lends = record { held = λ slot h is. pick
       ap (λ (d : DomainView). holding (machine_at d.machines slot.machine).slots slot.ppn) lends.rest
       ∙ ap (λ (v : MachineView). holding v.slots slot.ppn) (machine_other old.machines m slot.machine (machine_at new.machines m) other) ∙ is
 
-answer_holds : (hash : ℕ → List ℕ → ℕ) (client : ℕ) (page : List ℕ) (answer : Result Loan LendFault) (old new : DomainView) → Answers hash client page answer old new → HeldStay old new
-answer_holds hash client page (Ok loan) old new a = lends_hold (page_machine hash old page) client page loan old new a
-answer_holds hash client page (Err fault) old new a = same_held old new a.1
+answer_holds : (salt client : ℕ) (page : List ℕ) (answer : Result Loan LendFault) (old new : DomainView) → Answers salt client page answer old new → HeldStay old new
+answer_holds salt client page (Ok loan) old new a = lends_hold loan.slot.machine client page loan old new a.lends
+answer_holds salt client page (Err fault) old new a = same_held old new a.1
 
-pub one_holds : (hash : ℕ → List ℕ → ℕ) (client quota : ℕ) (page : List ℕ) (lent : Lent) (old new : DomainView) → LendsOne hash client quota page lent old new → HeldStay old new
-one_holds hash client quota page lent old new l =
+pub one_holds : (salt client quota : ℕ) (page : List ℕ) (lent : Lent) (old new : DomainView) → LendsOne salt client quota page lent old new → HeldStay old new
+one_holds salt client quota page lent old new l =
     elim (cases_lt (slots_of client old.machines) quota) [
-      | inl lt ↦ let w = l.within lt in answer_holds hash client page w.answer old new w.answers
+      | inl lt ↦ let w = l.within lt in answer_holds salt client page w.answer old new w.answers
       | inr le ↦ same_held old new (l.full le).1
     ]
 
@@ -83,10 +83,10 @@ same_bytes old new e = record { stay = λ slot h was is. ap (λ (ms : List Machi
 pub bytes_then : (a b c : DomainView) → HeldStay a b → BytesStay a b → BytesStay b c → BytesStay a c
 bytes_then a b c held p q = record { stay = λ slot h was is. q.stay slot h (held.held slot h was) is ∙ p.stay slot h was (held.held slot h was) }
 
-pub answer_bytes : (hash : ℕ → List ℕ → ℕ) (client : ℕ) (page : List ℕ) (answer : Result Loan LendFault) (old new : DomainView) → Answers hash client page answer old new
+pub answer_bytes : (salt client : ℕ) (page : List ℕ) (answer : Result Loan LendFault) (old new : DomainView) → Answers salt client page answer old new
     → IfOk answer (λ _. BytesStay old new) → BytesStay old new
-answer_bytes hash client page (Ok loan) old new a b = b
-answer_bytes hash client page (Err fault) old new a b = same_bytes old new (ap (λ (d : DomainView). d.machines) a.1)
+answer_bytes salt client page (Ok loan) old new a b = b
+answer_bytes salt client page (Err fault) old new a b = same_bytes old new (ap (λ (d : DomainView). d.machines) a.1)
 
 -- ---- releases: what is held then was held before
 
@@ -158,8 +158,8 @@ opens n name (client.Ask questions) received old new o = breaks n (session.Silen
 opens n name (client.Lend count) received old new o = breaks n (session.Silent name) fault.Early received old new o
 opens n name (client.Release slots) received old new o = breaks n (session.Silent name) fault.Early received old new o
 
-lends_first : (hash : ℕ → List ℕ → ℕ) (n : ℕ) (b : Begun) (count : ℕ) (pages : List (List ℕ)) (received : Received) (old new : HostView) → LendsFirst hash n b count pages received old new → BytesStay old.domain new.domain
-lends_first hash n b count pages received old new l =
+lends_first : (n : ℕ) (b : Begun) (count : ℕ) (pages : List (List ℕ)) (received : Received) (old new : HostView) → LendsFirst n b count pages received old new → BytesStay old.domain new.domain
+lends_first n b count pages received old new l =
     elim (cases_lt (length pages) count) [
       | inl short ↦ breaks n (session.Begun b) fault.Pages received old new (l.short short)
       | inr le ↦ elim (cases_lt MAX_IN_MESSAGE count) [
@@ -168,26 +168,26 @@ lends_first hash n b count pages received old new l =
       ]
     ]
 
-talks : (hash : ℕ → List ℕ → ℕ) (n : ℕ) (pages : List (List ℕ)) (b : Begun) (m : ClientMessage) (received : Received) (old new : HostView) → Talks hash n pages b m received old new → BytesStay old.domain new.domain
-talks hash n pages b (client.Hello wanted) received old new t = breaks n (session.Begun b) fault.Again received old new t
-talks hash n pages b (client.Ask questions) received old new t = same_host old new (ap (λ (h : HostView). h.domain.machines) t.now)
-talks hash n pages b (client.Lend count) received old new t = lends_first hash n b count pages received old new t
-talks hash n pages b (client.Release slots) received old new t = released_host b.client slots.items old new (ap (λ (h : HostView). h.domain) t.now)
+talks : (n : ℕ) (pages : List (List ℕ)) (b : Begun) (m : ClientMessage) (received : Received) (old new : HostView) → Talks n pages b m received old new → BytesStay old.domain new.domain
+talks n pages b (client.Hello wanted) received old new t = breaks n (session.Begun b) fault.Again received old new t
+talks n pages b (client.Ask questions) received old new t = same_host old new (ap (λ (h : HostView). h.domain.machines) t.now)
+talks n pages b (client.Lend count) received old new t = lends_first n b count pages received old new t
+talks n pages b (client.Release slots) received old new t = released_host b.client slots.items old new (ap (λ (h : HostView). h.domain) t.now)
 
-steps : (hash : ℕ → List ℕ → ℕ) (n : ℕ) (pages : List (List ℕ)) (s : Session) (m : ClientMessage) (received : Received) (old new : HostView) → Steps hash n pages s m received old new → BytesStay old.domain new.domain
-steps hash n pages session.Free m received old new p = same_host old new (ap (λ (h : HostView). h.domain.machines) p.1)
-steps hash n pages (session.Refused first) m received old new p = same_host old new (ap (λ (h : HostView). h.domain.machines) p.1)
-steps hash n pages (session.Silent name) m received old new p = opens n name m received old new p
-steps hash n pages (session.Begun b) m received old new p = talks hash n pages b m received old new p
+steps : (n : ℕ) (pages : List (List ℕ)) (s : Session) (m : ClientMessage) (received : Received) (old new : HostView) → Steps n pages s m received old new → BytesStay old.domain new.domain
+steps n pages session.Free m received old new p = same_host old new (ap (λ (h : HostView). h.domain.machines) p.1)
+steps n pages (session.Refused first) m received old new p = same_host old new (ap (λ (h : HostView). h.domain.machines) p.1)
+steps n pages (session.Silent name) m received old new p = opens n name m received old new p
+steps n pages (session.Begun b) m received old new p = talks n pages b m received old new p
 
-hears : (hash : ℕ → List ℕ → ℕ) (n : ℕ) (pages : List (List ℕ)) (s : Session) (r : Result ClientMessage MessageFault) (received : Received) (old new : HostView) → Hears hash n pages s r received old new → BytesStay old.domain new.domain
-hears hash n pages s (Ok m) received old new p = steps hash n pages s m received old new p
-hears hash n pages s (Err f) received old new p = breaks n s (fault.Message f) received old new p
+hears : (n : ℕ) (pages : List (List ℕ)) (s : Session) (r : Result ClientMessage MessageFault) (received : Received) (old new : HostView) → Hears n pages s r received old new → BytesStay old.domain new.domain
+hears n pages s (Ok m) received old new p = steps n pages s m received old new p
+hears n pages s (Err f) received old new p = breaks n s (fault.Message f) received old new p
 
-pub receives_bytes : (hash : ℕ → List ℕ → ℕ) (n : ℕ) (bytes : List ℕ) (pages : List (List ℕ)) (received : Received) (old new : HostView) → Receives hash n bytes pages received old new → BytesStay old.domain new.domain
-receives_bytes hash n bytes pages received old new p =
+pub receives_bytes : (n : ℕ) (bytes : List ℕ) (pages : List (List ℕ)) (received : Received) (old new : HostView) → Receives n bytes pages received old new → BytesStay old.domain new.domain
+receives_bytes n bytes pages received old new p =
     elim (cases_Bool (takes (session_at old.sessions n))) [
-      | inl took ↦ hears hash n pages (session_at old.sessions n) (client_at bytes) received old new (p.heard-if took)
+      | inl took ↦ hears n pages (session_at old.sessions n) (client_at bytes) received old new (p.heard-if took)
       | inr idle ↦ same_host old new (ap (λ (h : HostView). h.domain.machines) (p.idle-if idle).1)
     ]
 

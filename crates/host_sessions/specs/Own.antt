@@ -29,8 +29,8 @@ abbrev pub ConnectKeepsOwn : Type 0
 ConnectKeepsOwn = (name : List ℕ) (h : HostView) → HasOwn h → HasOwn (with_sessions h (connected name (next_number h.sessions) h.sessions))
 
 abbrev pub ReceiveKeepsOwn : Type 0
-ReceiveKeepsOwn = (hash : ℕ → List ℕ → ℕ) (n : ℕ) (bytes : List ℕ) (pages : List (List ℕ)) (received : Received) (old new : HostView)
-    → HasOwn old → Receives hash n bytes pages received old new → HasOwn new
+ReceiveKeepsOwn = (n : ℕ) (bytes : List ℕ) (pages : List (List ℕ)) (received : Received) (old new : HostView)
+    → HasOwn old → Receives n bytes pages received old new → HasOwn new
 
 abbrev pub DisconnectKeepsOwn : Type 0
 DisconnectKeepsOwn = (n : ℕ) (h : HostView) → HasOwn h → HasOwn (with_session h n (gone (session_at h.sessions n)))

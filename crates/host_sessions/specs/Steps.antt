@@ -95,16 +95,16 @@ pub record Releases (n : ℕ) (b : Begun) (slots : List ℕ) (received : Receive
   pub now : new ≡ with_session (with_domain old (after_releases b.client slots old.domain)) n (session.Begun (heard b))
 
 -- (each slot that stays reads the same bytes after as before)
-pub record LendsPages (hash : ℕ → List ℕ → ℕ) (n : ℕ) (b : Begun) (pages : List (List ℕ)) (received : Received) (old new : HostView) : Type 0 where
+pub record LendsPages (n : ℕ) (b : Begun) (pages : List (List ℕ)) (received : Received) (old new : HostView) : Type 0 where
   pub loans : List Lent
-  pub lends : LendsInTurn hash b.client old.quota pages loans old.domain new.domain
+  pub lends : LendsInTurn old.salt b.client old.quota pages loans old.domain new.domain
   pub bytes : BytesStay old.domain new.domain
   pub reply : received ≡ got.Loans (record { items = loans })
   pub now : new ≡ with_last (with_session (with_domain old new.domain) n (session.Begun (lent b))) n (slots_in loans)
 
 -- so many pages of the buffer are lent, if it has as many. (No message that was read names more than 128)
-pub record LendsFirst (hash : ℕ → List ℕ → ℕ) (n : ℕ) (b : Begun) (count : ℕ) (pages : List (List ℕ)) (received : Received) (old new : HostView) : Type 0 where
-  pub enough : count ≤ MAX_IN_MESSAGE → count ≤ length pages → LendsPages hash n b (take count pages) received old new
+pub record LendsFirst (n : ℕ) (b : Begun) (count : ℕ) (pages : List (List ℕ)) (received : Received) (old new : HostView) : Type 0 where
+  pub enough : count ≤ MAX_IN_MESSAGE → count ≤ length pages → LendsPages n b (take count pages) received old new
   pub short : length pages < count → Breaks n (session.Begun b) fault.Pages received old new
   pub many : MAX_IN_MESSAGE < count → Breaks n (session.Begun b) fault.Pages received old new
 
@@ -118,24 +118,24 @@ Opens n name (client.Lend count) received old new = Breaks n (session.Silent nam
 Opens n name (client.Release slots) received old new = Breaks n (session.Silent name) fault.Early received old new
 
 -- a later message
-abbrev pub Talks : (ℕ → List ℕ → ℕ) → ℕ → List (List ℕ) → Begun → ClientMessage → Received → HostView → HostView → Type 0
-Talks hash n pages b (client.Hello wanted) received old new = Breaks n (session.Begun b) fault.Again received old new
-Talks hash n pages b (client.Ask questions) received old new = Asks n b questions.items received old new
-Talks hash n pages b (client.Lend count) received old new = LendsFirst hash n b count pages received old new
-Talks hash n pages b (client.Release slots) received old new = Releases n b slots.items received old new
+abbrev pub Talks : ℕ → List (List ℕ) → Begun → ClientMessage → Received → HostView → HostView → Type 0
+Talks n pages b (client.Hello wanted) received old new = Breaks n (session.Begun b) fault.Again received old new
+Talks n pages b (client.Ask questions) received old new = Asks n b questions.items received old new
+Talks n pages b (client.Lend count) received old new = LendsFirst n b count pages received old new
+Talks n pages b (client.Release slots) received old new = Releases n b slots.items received old new
 
-abbrev pub Steps : (ℕ → List ℕ → ℕ) → ℕ → List (List ℕ) → Session → ClientMessage → Received → HostView → HostView → Type 0
-Steps hash n pages session.Free message received old new = (received ≡ got.NoSession) × (new ≡ old)
-Steps hash n pages (session.Refused first) message received old new = (received ≡ got.NoSession) × (new ≡ old)
-Steps hash n pages (session.Silent name) message received old new = Opens n name message received old new
-Steps hash n pages (session.Begun b) message received old new = Talks hash n pages b message received old new
+abbrev pub Steps : ℕ → List (List ℕ) → Session → ClientMessage → Received → HostView → HostView → Type 0
+Steps n pages session.Free message received old new = (received ≡ got.NoSession) × (new ≡ old)
+Steps n pages (session.Refused first) message received old new = (received ≡ got.NoSession) × (new ≡ old)
+Steps n pages (session.Silent name) message received old new = Opens n name message received old new
+Steps n pages (session.Begun b) message received old new = Talks n pages b message received old new
 
 -- a packet of a session that takes messages
-abbrev pub Hears : (ℕ → List ℕ → ℕ) → ℕ → List (List ℕ) → Session → Result ClientMessage MessageFault → Received → HostView → HostView → Type 0
-Hears hash n pages s (Ok message) received old new = Steps hash n pages s message received old new
-Hears hash n pages s (Err f) received old new = Breaks n s (fault.Message f) received old new
+abbrev pub Hears : ℕ → List (List ℕ) → Session → Result ClientMessage MessageFault → Received → HostView → HostView → Type 0
+Hears n pages s (Ok message) received old new = Steps n pages s message received old new
+Hears n pages s (Err f) received old new = Breaks n s (fault.Message f) received old new
 
 -- a packet of a session: nothing changes where it takes no messages
-pub record Receives (hash : ℕ → List ℕ → ℕ) (n : ℕ) (bytes : List ℕ) (pages : List (List ℕ)) (received : Received) (old new : HostView) : Type 0 where
-  pub heard-if : takes (session_at old.sessions n) ≡ true → Hears hash n pages (session_at old.sessions n) (client_at bytes) received old new
+pub record Receives (n : ℕ) (bytes : List ℕ) (pages : List (List ℕ)) (received : Received) (old new : HostView) : Type 0 where
+  pub heard-if : takes (session_at old.sessions n) ≡ true → Hears n pages (session_at old.sessions n) (client_at bytes) received old new
   pub idle-if : takes (session_at old.sessions n) ≡ false → (received ≡ got.NoSession) × (new ≡ old)

@@ -9,7 +9,8 @@ use Rattle.recent_fingerprints.specs.Notes.{Recent, was_noted, with_note}
 use Rattle.share_domain.specs.declared.holding.Loan.{Loan}
 use Rattle.share_domain.specs.declared.fault.LendFault.{LendFault}
 use Rattle.share_domain.specs.declared.fault.NoSuchSlot.{NoSuchSlot}
-use Rattle.share_domain.specs.Domains.{DomainView, page_machine, LendsIn, RefusesIn, release_answer, after_release}
+use Rattle.share_domain.specs.Domains.{DomainView, release_answer, after_release}
+use Rattle.fingerprint_domain.specs.Known.{LendsFound, RefusesFound}
 use Rattle.share_domain.specs.Totals.{slots_of}
 use Rattle.share_domain.specs.Numbers.{frame_number, slot_by, slot_number}
 
@@ -71,26 +72,26 @@ slots_in [] = []
 slots_in (lent ∷ loans) = if is_lent lent then lent.slot ∷ slots_in loans else slots_in loans
 
 -- the domain lends the page, or refuses it
-abbrev pub Answers : (ℕ → List ℕ → ℕ) → ℕ → List ℕ → Result Loan LendFault → DomainView → DomainView → Type 0
-Answers hash client page answer old new = MatchResult answer
-    (λ loan. LendsIn (page_machine hash old page) client page loan old new)
-    (λ fault. RefusesIn (page_machine hash old page) client fault old × (new ≡ old))
+abbrev pub Answers : ℕ → ℕ → List ℕ → Result Loan LendFault → DomainView → DomainView → Type 0
+Answers salt client page answer old new = MatchResult answer
+    (λ loan. LendsFound salt client page loan old new)
+    (λ fault. RefusesFound salt client page fault old × (new ≡ old))
 
 -- a page of a client: what it learns of it, and the domain then
-pub record Lends (hash : ℕ → List ℕ → ℕ) (client : ℕ) (page : List ℕ) (lent : Lent) (old new : DomainView) : Type 0 where
+pub record Lends (salt client : ℕ) (page : List ℕ) (lent : Lent) (old new : DomainView) : Type 0 where
   pub answer : Result Loan LendFault
-  pub answers : Answers hash client page answer old new
+  pub answers : Answers salt client page answer old new
   pub lent-is : lent ≡ lent_by answer
 
 -- a client that has as many slots as it may have gets no more
-pub record LendsOne (hash : ℕ → List ℕ → ℕ) (client quota : ℕ) (page : List ℕ) (lent : Lent) (old new : DomainView) : Type 0 where
-  pub within : slots_of client old.machines < quota → Lends hash client page lent old new
+pub record LendsOne (salt client quota : ℕ) (page : List ℕ) (lent : Lent) (old new : DomainView) : Type 0 where
+  pub within : slots_of client old.machines < quota → Lends salt client page lent old new
   pub full : quota ≤ slots_of client old.machines → (lent ≡ not_lent) × (new ≡ old)
 
 -- the pages of a message, one after the other
-unfoldable pub LendsInTurn : (ℕ → List ℕ → ℕ) → ℕ → ℕ → List (List ℕ) → List Lent → DomainView → DomainView → Type 0
-LendsInTurn hash client quota [] [] old new = new ≡ old
-LendsInTurn hash client quota (page ∷ pages) [] old new = ⊥
-LendsInTurn hash client quota [] (lent ∷ loans) old new = ⊥
-LendsInTurn hash client quota (page ∷ pages) (lent ∷ loans) old new =
-    (mid : DomainView) × LendsOne hash client quota page lent old mid × LendsInTurn hash client quota pages loans mid new
+unfoldable pub LendsInTurn : ℕ → ℕ → ℕ → List (List ℕ) → List Lent → DomainView → DomainView → Type 0
+LendsInTurn salt client quota [] [] old new = new ≡ old
+LendsInTurn salt client quota (page ∷ pages) [] old new = ⊥
+LendsInTurn salt client quota [] (lent ∷ loans) old new = ⊥
+LendsInTurn salt client quota (page ∷ pages) (lent ∷ loans) old new =
+    (mid : DomainView) × LendsOne salt client quota page lent old mid × LendsInTurn salt client quota pages loans mid new

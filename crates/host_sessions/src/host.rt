@@ -152,7 +152,7 @@ impl<H: PageHash, A: Allocator> Host<H, A> {
     /// Receives a packet of a session. `pages` are the pages of the buffer that lies beside it. Whatever the bytes are, the slots of
     /// every client but the one that has the session afterwards stay as they are.
     pub fn receive(&mut self, number: u32, bytes: &[u8], pages: &[Page]) -> Received
-        ensures receives { Receives H.hash_of number bytes.now pages.now result self.old self.new }
+        ensures receives { Receives number bytes.now pages.now result self.old self.new }
         ensures others { SparesOthers (session_at self.new.sessions number) self.old.domain self.new.domain }
         ensures bytes { BytesStay self.old.domain self.new.domain }
     {
@@ -161,7 +161,7 @@ impl<H: PageHash, A: Allocator> Host<H, A> {
 
     /// Receives a packet of a session.
     fn hear(&mut self, number: u32, bytes: &[u8], pages: &[Page]) -> Received
-        ensures { Receives H.hash_of number bytes.now pages.now result self.old self.new }
+        ensures { Receives number bytes.now pages.now result self.old self.new }
     {
         if self.takes(number) {
             return self.hear_bytes(number, bytes, pages);
@@ -172,7 +172,7 @@ impl<H: PageHash, A: Allocator> Host<H, A> {
     /// Receives a packet of a session that takes messages.
     fn hear_bytes(&mut self, number: u32, bytes: &[u8], pages: &[Page]) -> Received
         requires { number < length self.old.sessions }
-        ensures { Hears H.hash_of number pages.now (session_at self.old.sessions number) (client_at bytes.now) result self.old self.new }
+        ensures { Hears number pages.now (session_at self.old.sessions number) (client_at bytes.now) result self.old self.new }
     {
         let session = self.session(number);
         let read = ClientMessage::from_bytes(bytes);
@@ -188,7 +188,7 @@ impl<H: PageHash, A: Allocator> Host<H, A> {
         pages: &[Page],
     ) -> Received
         requires { number < length self.old.sessions }
-        ensures { Hears H.hash_of number pages.now session read result self.old self.new }
+        ensures { Hears number pages.now session read result self.old self.new }
     {
         match read {
             Err(fault) => self.break_off(number, session, SessionFault::Message(fault)),
@@ -296,7 +296,7 @@ impl<H: PageHash, A: Allocator> Host<H, A> {
         pages: &[Page],
     ) -> Received
         requires { number < length self.old.sessions }
-        ensures { Steps H.hash_of number pages.now session message result self.old self.new }
+        ensures { Steps number pages.now session message result self.old self.new }
     {
         match session {
             Session::Free => Received::NoSession,
@@ -433,7 +433,7 @@ impl<H: PageHash, A: Allocator> Host<H, A> {
         pages: &[Page],
     ) -> Received
         requires { number < length self.old.sessions }
-        ensures { Talks H.hash_of number pages.now begun message result self.old self.new }
+        ensures { Talks number pages.now begun message result self.old self.new }
     {
         match message {
             ClientMessage::Hello(_) => {
@@ -470,7 +470,7 @@ impl<H: PageHash, A: Allocator> Host<H, A> {
     /// Lends the first `count` pages of a buffer. If it has fewer, or a message can't list as many, the session breaks off.
     fn lend_first(&mut self, number: u32, begun: Begun, count: u32, pages: &[Page]) -> Received
         requires { number < length self.old.sessions }
-        ensures { LendsFirst H.hash_of number begun count pages.now result self.old self.new }
+        ensures { LendsFirst number begun count pages.now result self.old self.new }
     {
         if pages.len() < count as usize {
             return self.break_off(number, Session::Begun(begun), SessionFault::Pages);
@@ -485,7 +485,7 @@ impl<H: PageHash, A: Allocator> Host<H, A> {
     fn lend(&mut self, number: u32, begun: Begun, pages: &[Page]) -> Received
         requires number { number < length self.old.sessions }
         requires few { length pages.now ≤ MAX_IN_MESSAGE }
-        ensures { LendsPages H.hash_of number begun pages.now result self.old self.new }
+        ensures { LendsPages number begun pages.now result self.old self.new }
     {
         let loans = lend_each(&mut self.domain, begun.client, self.quota, pages);
         self.put(number, Session::Begun(begun.lent()));

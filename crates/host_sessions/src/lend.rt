@@ -21,7 +21,7 @@ pub(crate) fn lend_each<H: PageHash, A: Allocator>(
     pages: &[Page],
 ) -> ArrayVec<Lent, MAX_IN_MESSAGE>
     requires { length pages.now ≤ MAX_IN_MESSAGE }
-    ensures lends { LendsInTurn H.hash_of client quota pages.now result.items domain.old.domain domain.new.domain }
+    ensures lends { LendsInTurn domain.old.salt client quota pages.now result.items domain.old.domain domain.new.domain }
     ensures len { length result.items ≤ MAX_IN_MESSAGE }
     ensures salt { domain.new.salt ≡ domain.old.salt }
     ensures bytes { BytesStay domain.old.domain domain.new.domain }
@@ -40,7 +40,7 @@ fn lend_one<H: PageHash, A: Allocator>(
     quota: u32,
     page: &Page,
 ) -> Lent
-    ensures lends { LendsOne H.hash_of client quota page.now result domain.old.domain domain.new.domain }
+    ensures lends { LendsOne domain.old.salt client quota page.now result domain.old.domain domain.new.domain }
     ensures salt { domain.new.salt ≡ domain.old.salt }
     ensures bytes { BytesStay domain.old.domain domain.new.domain }
 {
@@ -56,7 +56,7 @@ fn lend_within<H: PageHash, A: Allocator>(
     client: u32,
     page: &Page,
 ) -> Lent
-    ensures lends { Lends H.hash_of client page.now result domain.old.domain domain.new.domain }
+    ensures lends { Lends domain.old.salt client page.now result domain.old.domain domain.new.domain }
     ensures salt { domain.new.salt ≡ domain.old.salt }
     ensures bytes { BytesStay domain.old.domain domain.new.domain }
 {

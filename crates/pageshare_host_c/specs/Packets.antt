@@ -1,7 +1,6 @@
 -- What C gets of a packet.
 use Rattle.std.specs.Prelude.{◌≡◌, ℕ, ◌||◌, nat_lt, MatchBool, List, [], ◌++◌, length, drop, Option, Some, None}
 use Rattle.c_surface.specs.declared.status.TheConstants as status
-use Rattle.page_digest.specs.Hashes.{fold_hash}
 use Rattle.host_messages.specs.declared.fault.MessageFault.{MessageFault}
 use Rattle.host_messages.specs.declared.fault.MessageFault.TheVariants as message
 use Rattle.host_messages.specs.declared.limits.TheConstants.{MAX_IN_MESSAGE, MAX_MESSAGE_BYTES}
@@ -86,7 +85,7 @@ pub record IsRefused (why : ℕ) (returned : ReceivedPacket) (reply reply' freed
 -- each slot that stays a client's reads the same bytes after as before
 pub record ReceivesPacket (session : ℕ) (bytes : List ℕ) (pages : List (List ℕ)) (returned : ReceivedPacket) (reply reply' freed freed' : List ℕ) (old new : HostView) : Type 0 where
   pub received : Received
-  pub receives : Receives fold_hash session bytes pages received old new
+  pub receives : Receives session bytes pages received old new
   pub others : SparesOthers (session_at new.sessions session) old.domain new.domain
   pub stay : BytesStay old.domain new.domain
   pub gives : Gives received returned reply reply' freed freed'

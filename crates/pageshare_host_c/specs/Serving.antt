@@ -1,7 +1,6 @@
 -- What C gets of a packet, with what the reply to it says.
 use Rattle.std.specs.Prelude.{◌≡◌, ℕ, ◌||◌, nat_lt, MatchBool, List, [], ◌∷◌, length, Option}
 use Rattle.c_surface.specs.declared.status.TheConstants as status
-use Rattle.page_digest.specs.Hashes.{fold_hash}
 use Rattle.host_messages.specs.declared.item.Lent.{Lent}
 use Rattle.host_messages.specs.declared.limits.TheConstants.{MAX_IN_MESSAGE, MAX_MESSAGE_BYTES, WELCOME, SEEN, LOANS}
 use Rattle.host_sessions.specs.declared.answer.Received.{Received}
@@ -83,7 +82,7 @@ pub record IsUnserved (why : ℕ) (served : ServedPacket) (reply reply' frames f
 -- A packet that a host received, as `Packets` has it, with what the reply says
 pub record ServesPacket (session : ℕ) (bytes : List ℕ) (pages : List (List ℕ)) (served : ServedPacket) (reply reply' frames frames' : List ℕ) (old new : HostView) : Type 0 where
   pub received : Received
-  pub receives : Receives fold_hash session bytes pages received old new
+  pub receives : Receives session bytes pages received old new
   pub others : SparesOthers (session_at new.sessions session) old.domain new.domain
   pub stay : BytesStay old.domain new.domain
   pub shows : Shows received served reply reply' frames frames'

@@ -1,3 +1,4 @@
+pub mod Beside
 pub mod Bytes
 pub mod Domains
 pub mod Given

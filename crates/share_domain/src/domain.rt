@@ -1,8 +1,9 @@
 //! The domain.
 ghost use Rattle.std.specs.Prelude.{◌≡◌, ◌*◌, ◌<◌, ◌≤◌, ◌++◌, drop, length, IfOk, IfSome, Some, MatchOption, MatchResult, slice_get};
+ghost use Rattle.share_domain.specs.Beside.{GoesBeside, IsRefusedBeside, first_open};
 ghost use Rattle.share_domain.specs.Bytes.{BytesStay};
 ghost use Rattle.share_domain.specs.Domains.{next_client, entered, page_machine, LendsIn, RefusesIn, release_answer, after_release};
-ghost use Rattle.share_domain.specs.Domains.{held_in, machine_at, with_client, with_machines, with_released, freed_in};
+ghost use Rattle.share_domain.specs.Domains.{IsIn, held_in, machine_at, with_client, with_machines, with_released, freed_in};
 ghost use Rattle.share_domain.specs.Leaving.{Leaves, StaysOut, first_slot, is_here, left_by, slot_from};
 ghost use Rattle.share_domain.specs.Made.{AreLimits, AreFree, NoDomainFor, empty_domain};
 ghost use Rattle.share_domain.specs.Totals.{domain_totals, slots_of};
@@ -16,7 +17,7 @@ use crate::config::{DomainConfig, limit_fault};
 use crate::fault::{DomainFault, LendFault, NoSuchSlot};
 use crate::holding::{Loan, Slot};
 use crate::leave::find_slot;
-use crate::lend::{holding_at, lend_at, machine_of, release_at};
+use crate::lend::{first_open, holding_at, lend_at, machine_of, release_at};
 use crate::make::{new_clients, new_frames, new_machines};
 use crate::number::frame_number;
 use crate::report::{DomainReport, count_slots, report};
@@ -111,7 +112,6 @@ impl<H: PageHash, A: Allocator> Domain<H, A> {
     ///
     /// The client isn't in or has begun to leave; the machine has no free slot; or the page joined no other, and all frames of the
     /// machine but the spare one are in use. Then nothing changed.
-    #[tactic(auto, using(crate::proofs::Bytes::bytes_by_lend))]
     pub fn lend(&mut self, client: u32, page: &Page) -> Result<Loan, LendFault>
         ensures lends { MatchResult result
             (λ loan. LendsIn (page_machine H.hash_of self.old page.now) client page.now loan self.old self.new)
@@ -121,23 +121,46 @@ impl<H: PageHash, A: Allocator> Domain<H, A> {
         if !is_in(&self.clients, client) {
             return Err(LendFault::NoClient);
         }
-        let hash = self.hash.hash(self.salt, page);
-        let m = machine_of(self.machines.len(), hash);
-        let known = SaltedHash {
-            salt: self.salt,
-            hash,
-        };
-        match lend_at(&mut self.machines, m, client, page, known) {
-            Err(SlotFault::NoSlot) => Err(LendFault::NoSlot),
-            Err(SlotFault::NoFrame) => Err(LendFault::NoFrame),
-            Ok(lent) => Ok(Loan {
-                slot: Slot {
-                    machine: m as u32,
-                    ppn: lent.ppn,
-                },
-                frame: m as u32 * self.frames + lent.frame,
-                sharers: lent.sharers,
-            }),
+        let known = self.hash_of(page);
+        let m = machine_of(self.machines.len(), known.hash);
+        self.lend_at(m, client, page, known)
+    }
+
+    /// Lends a client's page at the machine of a frame, whose number is that among the frames of all machines. If there is no such
+    /// frame, or its machine refuses the page, it goes to the first machine with a free slot and a free frame besides the spare one.
+    ///
+    /// So a caller that knows a frame with the page's bytes lets equal pages meet, as [`lend`](Domain::lend) does. Pages that are
+    /// lent one after the other get frames of one machine. Lend all pages of a domain by one of the two calls.
+    ///
+    /// # Errors
+    ///
+    /// The client isn't in or has begun to leave, or no machine takes the page: the fault is that of the last one asked, machine 0
+    /// where none is open. Then nothing changed.
+    pub fn lend_beside(
+        &mut self,
+        frame: Option<u32>,
+        client: u32,
+        page: &Page,
+    ) -> Result<Loan, LendFault>
+        requires within { IfSome frame (λ number. number < length self.old.machines * self.old.frames) }
+        ensures lends { MatchResult result
+            (λ loan. GoesBeside frame client self.old loan.slot.machine × LendsIn loan.slot.machine client page.now loan self.old self.new)
+            (λ fault. IsRefusedBeside frame client self.old × RefusesIn (first_open self.old.machines) client fault self.old × (self.new ≡ self.old)) }
+        ensures bytes { IfOk result (λ _. BytesStay self.old self.new) }
+    {
+        if !is_in(&self.clients, client) {
+            return Err(LendFault::NoClient);
+        }
+        let known = self.hash_of(page);
+        match frame {
+            None => self.lend_at_open(client, page, known),
+            Some(number) => {
+                let beside = (number / self.frames) as usize;
+                match self.lend_at(beside, client, page, known) {
+                    Ok(loan) => Ok(loan),
+                    Err(_) => self.lend_at_open(client, page, known),
+                }
+            }
         }
     }
 
@@ -223,6 +246,66 @@ impl<H: PageHash, A: Allocator> Domain<H, A> {
         ensures slots { FramesOfSlots (machine_at self.now.machines machine) }
     {
         self.machines[machine as usize].frames()
+    }
+
+    /// Returns a page's hash, and the salt that it is under.
+    fn hash_of(&self, page: &Page) -> SaltedHash
+        ensures salt { result.salt ≡ self.now.salt }
+        ensures hash { result.hash ≡ H.hash_of self.now.salt page.now }
+    {
+        SaltedHash {
+            salt: self.salt,
+            hash: self.hash.hash(self.salt, page),
+        }
+    }
+
+    /// Lends the page of a client that is in at the first machine that is open, or at machine 0 where none is.
+    fn lend_at_open(
+        &mut self,
+        client: u32,
+        page: &Page,
+        known: SaltedHash,
+    ) -> Result<Loan, LendFault>
+        requires here { IsIn self.old client }
+        requires hash { known.hash ≡ H.hash_of known.salt page.now }
+        ensures lends { MatchResult result
+            (λ loan. LendsIn (first_open self.old.machines) client page.now loan self.old self.new)
+            (λ fault. RefusesIn (first_open self.old.machines) client fault self.old × (self.new ≡ self.old)) }
+        ensures bytes { IfOk result (λ _. BytesStay self.old self.new) }
+    {
+        let m = first_open(&self.machines);
+        self.lend_at(m, client, page, known)
+    }
+
+    /// Lends the page of a client that is in at a machine.
+    #[tactic(auto, using(crate::proofs::Bytes::bytes_by_lend))]
+    fn lend_at(
+        &mut self,
+        m: usize,
+        client: u32,
+        page: &Page,
+        known: SaltedHash,
+    ) -> Result<Loan, LendFault>
+        requires here { IsIn self.old client }
+        requires within { m < length self.old.machines }
+        requires hash { known.hash ≡ H.hash_of known.salt page.now }
+        ensures lends { MatchResult result
+            (λ loan. LendsIn m client page.now loan self.old self.new)
+            (λ fault. RefusesIn m client fault self.old × (self.new ≡ self.old)) }
+        ensures bytes { IfOk result (λ _. BytesStay self.old self.new) }
+    {
+        match lend_at(&mut self.machines, m, client, page, known) {
+            Err(SlotFault::NoSlot) => Err(LendFault::NoSlot),
+            Err(SlotFault::NoFrame) => Err(LendFault::NoFrame),
+            Ok(lent) => Ok(Loan {
+                slot: Slot {
+                    machine: m as u32,
+                    ppn: lent.ppn,
+                },
+                frame: m as u32 * self.frames + lent.frame,
+                sharers: lent.sharers,
+            }),
+        }
     }
 
     /// Whether a client has entered, and isn't out yet.

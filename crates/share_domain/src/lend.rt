@@ -1,6 +1,7 @@
 //! Lending and releasing at one of a domain's machines.
 ghost use Rattle.std.specs.Prelude.{◌≡◌, ◌<◌, length, IfOk, IfSome, MatchResult, slice_set};
 ghost use Rattle.share_domain.specs.Domains.{machine_at, machine_of, held_in, with_released};
+ghost use Rattle.share_domain.specs.Beside.{is_open, first_open};
 ghost use Rattle.lent_slots.specs.Bytes.{BytesStayIn};
 ghost use Rattle.lent_slots.specs.Slots.{LendsPage, RefusesPage, freed};
 
@@ -18,6 +19,29 @@ pub(crate) fn machine_of(machines: usize, hash: u64) -> usize
     ensures within { result < machines }
 {
     ((hash >> 32) % machines as u64) as usize
+}
+
+/// Whether a machine has a free slot, and a free frame besides the spare one.
+fn is_open<H: PageHash, A: Allocator>(machine: &LentSlots<H, A>) -> bool
+    ensures { result ≡ is_open machine.now }
+{
+    let slots = machine.slots().len();
+    let frames = machine.frames().total();
+    (machine.held() as usize) < slots && machine.frames_in_use() + 1 < frames
+}
+
+/// Returns the first machine that is open, and machine 0 if none is.
+pub(crate) fn first_open<H: PageHash, A: Allocator>(machines: &Vec<LentSlots<H, A>, A>) -> usize
+    requires some { 0 < length machines.now.items }
+    ensures machine { result ≡ first_open machines.now.items }
+    ensures within { result < length machines.now.items }
+{
+    for m in 0..machines.len() {
+        if is_open(&machines[m]) {
+            return m;
+        }
+    }
+    0
 }
 
 /// Lends a client's page at a machine.

@@ -2,7 +2,8 @@
 //!
 //! A domain has one to 64 machines, each a core with one guest, and clients, which come and go. A client lends pages. Each page
 //! that it lent has a slot, which is a page of one of the machines and belongs to the client until the client releases it or
-//! leaves. A page goes to the machine that its hash names, so equal pages meet, and share a frame there.
+//! leaves. A page goes to the machine that its hash names, or to the machine of a frame with its bytes, so equal pages meet, and share
+//! a frame there.
 #![tactic(auto)]
 
 mod client;
@@ -25,7 +26,7 @@ pub use domain::Domain;
 pub use fault::{DomainFault, LendFault, NoSuchSlot};
 pub use given::GivenFrames;
 pub use holding::{Loan, Slot};
-pub use laws::{bytes_law, limits_law};
+pub use laws::{bytes_law, limits_law, open_law};
 pub use lent_slots::Holding;
 pub use make::new_frames;
 pub use number::{NO_FRAME, SLOTS_APART, frame_number, slot_by, slot_number, slots_law};

@@ -8,7 +8,7 @@ pub returns-clause-connects : goal.returns-clause-connects
 returns-clause-connects c = λ name h own. connect_keeps name h own
 
 pub returns-clause-receives : goal.returns-clause-receives
-returns-clause-receives c = λ hash n bytes pages received old new own p. receive_keeps hash n bytes pages received old new own p
+returns-clause-receives c = λ n bytes pages received old new own p. receive_keeps n bytes pages received old new own p
 
 pub returns-clause-disconnects : goal.returns-clause-disconnects
 returns-clause-disconnects c = λ n h own. disconnect_keeps n h own

@@ -7,7 +7,7 @@ use Rattle.host_sessions.proofs.lend.lend_each.Given as goal
 
 abbrev pub invariant-loop-page : goal.invariant-loop-page
 invariant-loop-page g l = record {
-  lends : SoFar g.H.HashFunction.hash_of l.client l.quota l.pages l.fn.domain.domain l.page-index l.loans.items l.domain.domain;
+  lends : SoFar l.fn.domain.salt l.client l.quota l.pages l.fn.domain.domain l.page-index l.loans.items l.domain.domain;
   held : HeldStay l.fn.domain.domain l.domain.domain;
   bytes : BytesStay l.fn.domain.domain l.domain.domain;
   salt : l.domain.salt ≡ l.fn.domain.salt;

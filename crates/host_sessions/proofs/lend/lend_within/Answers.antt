@@ -5,4 +5,4 @@ pub returns-clause-lends : goal.returns-clause-lends
 returns-clause-lends g c = record { answer = c.lend-answer.result; answers = c.lend-answer.ensures.lends; lent-is = c.lent_by.ensures }
 
 pub returns-clause-bytes : goal.returns-clause-bytes
-returns-clause-bytes g c = answer_bytes g.H.HashFunction.hash_of c.args.client c.args.page.now c.lend-answer.result c.args.domain.now.domain c.lend-answer.new.self.domain c.lend-answer.ensures.lends c.lend-answer.ensures.bytes
+returns-clause-bytes g c = answer_bytes c.args.domain.now.salt c.args.client c.args.page.now c.lend-answer.result c.args.domain.now.domain c.lend-answer.new.self.domain c.lend-answer.ensures.lends c.lend-answer.ensures.bytes

@@ -1,5 +1,5 @@
 use Rattle.frame_fingerprints.proofs.Search.{IsSearch}
-use Rattle.frame_fingerprints.proofs.chains.Chains.has.Given as goal
+use Rattle.frame_fingerprints.proofs.chains.Chains.find.Given as goal
 
 abbrev pub invariant-loop : goal.invariant-loop
 invariant-loop g l = IsSearch l.self.nodes.items l.self.heads.items l.fingerprint l.at l.counter

@@ -6,7 +6,7 @@ use Rattle.recent_fingerprints.specs.Chains.{bucket_of}
 use Rattle.frame_fingerprints.specs.Chained.{no_node}
 use Rattle.frame_fingerprints.proofs.Nodes.{bucket_below, link_head}
 use Rattle.frame_fingerprints.proofs.Search.{search_begins, search_ends, search_finds, search_steps, search_gone}
-use Rattle.frame_fingerprints.proofs.chains.Chains.has.Goals as goal
+use Rattle.frame_fingerprints.proofs.chains.Chains.find.Goals as goal
 
 pub index-at-requires : goal.index-at-requires
 index-at-requires g c =

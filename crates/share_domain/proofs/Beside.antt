@@ -1,0 +1,66 @@
+-- Where a page goes that is lent beside a frame.
+use Rattle.std.proofs.Common.{◌≡◌, ℕ, ◌+◌, ◌<◌, Bool, true, false, cond, List, [], ◌∷◌, length, Option, Some, None, refl, sym, ap, ◌∙◌, arith, suc, ◌⊎◌, inl, inr}
+use Rattle.std.specs.Prelude.{◌&&◌, nat_lt, count_by, is_some}
+use Rattle.std.proofs.lemmas.Bool.{false≢true, ltb-true, lt-ltb, le-ltb, cases_eq}
+use Rattle.std.specs.List.{position_or_len}
+use Rattle.std.proofs.lemmas.List.Recursion.{is_count_by}
+use Rattle.std.proofs.lemmas.List.Sums.{position_or_len_is}
+use Rattle.lent_slots.specs.declared.holding.Holding.{Holding}
+use Rattle.lent_slots.specs.declared.fault.SlotFault.TheVariants.{NoSlot, NoFrame}
+use Rattle.lent_slots.specs.Slots.{MachineView, IsFull}
+use Rattle.lent_slots.specs.Totals.{held_slots, frames_in_use}
+use Rattle.share_domain.specs.Domains.{machine_at, no_machine}
+use Rattle.share_domain.specs.Beside.{is_open, first_open, OpenRefusesNone}
+
+abbrev held : List (Option Holding) → ℕ
+held [] = 0
+held (slot ∷ slots) = cond (is_some slot) (1 + held slots) (held slots)
+
+held_is : (slots : List (Option Holding)) → held slots ≡ count_by is_some slots
+held_is slots = is_count_by held is_some refl (λ slot rest. refl) slots
+
+-- slots none of which is free are all held
+all_held : (slots : List (Option Holding)) → IsFull slots → held slots ≡ length slots
+all_held [] full = refl
+all_held (None ∷ slots) full = absurd (full 0 refl)
+all_held (Some h ∷ slots) full = let rest = all_held slots (λ ppn e. full (suc ppn) e) in omega (arith, rest)
+
+both : (a b : Bool) → (a && b) ≡ true → (a ≡ true) × (b ≡ true)
+both true b e = (refl, e)
+both false b e = absurd (false≢true e)
+
+pub open_refuses_none : OpenRefusesNone
+open_refuses_none m NoSlot is full =
+    let less = ltb-true (held_slots m) (length m.slots) (both (nat_lt (held_slots m) (length m.slots)) (nat_lt (frames_in_use m + 1) (length m.frames)) is).0 in
+    let all = all_held m.slots full in
+    let count = held_is m.slots in
+    absurd (omega (arith, less, all, count))
+open_refuses_none m NoFrame is refused =
+    let less = ltb-true (frames_in_use m + 1) (length m.frames) (both (nat_lt (held_slots m) (length m.slots)) (nat_lt (frames_in_use m + 1) (length m.frames)) is).1 in
+    let spent = refused.1 in
+    absurd (omega (arith, less, spent))
+
+-- the machines before this one aren't open
+pub record NoneOpen (machines : List MachineView) (m : ℕ) : Type 0 where
+  pub before : (k : ℕ) → k < m → is_open (machine_at machines k) ≡ false
+
+pub none_open_yet : (machines : List MachineView) → NoneOpen machines 0
+none_open_yet machines = record { before = λ k less. absurd (omega (arith, less)) }
+
+pub one_more : (machines : List MachineView) (m : ℕ) → NoneOpen machines m → is_open (machine_at machines m) ≡ false → NoneOpen machines (m + 1)
+one_more machines m none shut = record { before = λ k less. pick k less (cases_eq k m) } where
+  pick : (k : ℕ) → k < m + 1 → ((k ≡ m) ⊎ (k ≡ m → ⊥)) → is_open (machine_at machines k) ≡ false
+  pick k less (inl same) = ap (λ (i : ℕ). is_open (machine_at machines i)) same ∙ shut
+  pick k less (inr other) = none.before k (omega (arith, less, other))
+
+pub first_is : (machines : List MachineView) (m : ℕ) → m < length machines → NoneOpen machines m → is_open (machine_at machines m) ≡ true → m ≡ first_open machines
+first_is machines m less none open_here =
+    let at : position_or_len is_open machines ≡ m = position_or_len_is is_open machines m no_machine (omega (arith, less)) none.before (λ l. open_here) in
+    let within : nat_lt (position_or_len is_open machines) (length machines) ≡ true = lt-ltb (position_or_len is_open machines) (length machines) (omega (arith, at, less)) in
+    sym (ap (λ (b : Bool). cond b (position_or_len is_open machines) 0) within ∙ at)
+
+pub none_is : (machines : List MachineView) (m : ℕ) → m ≡ length machines → NoneOpen machines m → 0 ≡ first_open machines
+none_is machines m all none =
+    let at : position_or_len is_open machines ≡ m = position_or_len_is is_open machines m no_machine (omega (arith, all)) none.before (λ l. absurd (omega (arith, l, all))) in
+    let past : nat_lt (position_or_len is_open machines) (length machines) ≡ false = le-ltb (position_or_len is_open machines) (length machines) (omega (arith, at, all)) in
+    sym (ap (λ (b : Bool). cond b (position_or_len is_open machines) 0) past)

@@ -1,0 +1,40 @@
+-- Where a page goes that is lent beside a frame.
+use Rattle.std.specs.Prelude.{◌≡◌, ℕ, ◌+◌, ◌/◌, ◌⊎◌, Bool, true, nat_lt, ◌&&◌, if◌then◌else◌, List, length, Option, Some, None}
+use Rattle.std.specs.List.{position_or_len}
+use Rattle.lent_slots.specs.declared.fault.SlotFault.{SlotFault}
+use Rattle.lent_slots.specs.Slots.{MachineView, RefusesPage}
+use Rattle.lent_slots.specs.Totals.{held_slots, frames_in_use}
+use Rattle.share_domain.specs.declared.fault.LendFault.{LendFault}
+use Rattle.share_domain.specs.Domains.{DomainView, RefusesIn}
+
+-- the machine has a free slot, and a free frame besides the spare one
+abbrev pub is_open : MachineView → Bool
+is_open m = nat_lt (held_slots m) (length m.slots) && nat_lt (frames_in_use m + 1) (length m.frames)
+
+-- the first machine that is open, and machine 0 where none is
+abbrev pub first_open : List MachineView → ℕ
+first_open machines = if nat_lt (position_or_len is_open machines) (length machines) then position_or_len is_open machines else 0
+
+-- the machine refuses a page of this client
+pub record IsRefused (m client : ℕ) (d : DomainView) : Type 0 where
+  pub fault : LendFault
+  pub refuses : RefusesIn m client fault d
+
+-- there is no frame, or its machine refuses a page of this client
+abbrev pub IsRefusedBeside : Option ℕ → ℕ → DomainView → Type 0
+IsRefusedBeside None client d = Unit {0}
+IsRefusedBeside (Some frame) client d = IsRefused (frame / d.frames) client d
+
+-- the machine is that of the frame
+abbrev pub IsBeside : Option ℕ → DomainView → ℕ → Type 0
+IsBeside None d m = ⊥
+IsBeside (Some frame) d m = m ≡ frame / d.frames
+
+-- A page that is lent beside a frame goes to the frame's machine. Only where that one refuses it, or there is no frame, it goes to
+-- the first machine that is open.
+abbrev pub GoesBeside : Option ℕ → ℕ → DomainView → ℕ → Type 0
+GoesBeside frame client d m = IsBeside frame d m ⊎ (IsRefusedBeside frame client d × (m ≡ first_open d.machines))
+
+-- A machine that is open refuses no page.
+abbrev pub OpenRefusesNone : Type 0
+OpenRefusesNone = (m : MachineView) (fault : SlotFault) → is_open m ≡ true → RefusesPage fault m → ⊥
