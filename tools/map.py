@@ -2,7 +2,7 @@
 """The map of crates, crates/README.md, and the index of docs/DECISIONS.md, made of crates.txt and the crates' READMEs.
 
     tools/map.py           writes both
-    tools/map.py --check   says whether they are current
+    tools/map.py --check   says whether they are current, and whether src/checks.rt is one text in all crates of tests
 
 A layer is a comment line of crates.txt, up to a bracket. The first line of each crate's README is '# NAME: WHAT IT DOES'. A line
 'Proved in a line: WHAT.' says what is proved of the crate; a layer in which one crate has that line needs it of each. The index
@@ -12,6 +12,7 @@ is missing, and with --check last 'N passed, M failed' (status 0 where M is 0, e
 from __future__ import annotations
 
 import argparse
+import collections
 import re
 import sys
 from collections.abc import Sequence
@@ -108,6 +109,13 @@ def indexed() -> str:
     return DECISIONS.read_text().partition("## Index\n")[0] + INDEX + rows
 
 
+def differing() -> list[str]:
+    """What is wrong with the text that tests compare by, which stands in each crate of tests, since no library can have it."""
+    texts = {it: it.read_text() for it in sorted((TOP / "crates").glob("worked_*/src/checks.rt"))}
+    most = collections.Counter(texts.values()).most_common(1)
+    return [f"{it.relative_to(TOP)} isn't what most crates of tests have" for it, text in texts.items() if text != most[0][0]]
+
+
 def main() -> int:
     options = argparse.ArgumentParser(description=__doc__.splitlines()[0])
     options.add_argument("--check", action="store_true", help="say whether the files are current, and write none")
@@ -118,9 +126,11 @@ def main() -> int:
             file.write_text(due)
         elif not file.is_file() or file.read_text() != due:
             wrong.append(f"{file.relative_to(TOP)} isn't current: run tools/map.py")
+    if is_check:
+        wrong += differing()
     print("".join(f"{it}\n" for it in wrong), end="")
     if is_check:
-        close(crates + 2 - len(wrong), len(wrong))
+        close(crates + 3 - len(wrong), len(wrong))
     return 1 if wrong else 0
 
 

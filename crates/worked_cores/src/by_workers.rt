@@ -5,7 +5,7 @@ ghost use Rattle.merge_core.specs.Hashing.{AreWorkers, page_hash};
 ghost use Rattle.merge_core.specs.Shown.{state_of};
 ghost use Rattle.merge_core.specs.declared.counting.TheConstants.{MAX_REQUESTS};
 
-use crate::asks::{Ask, core_of, first_pages, numbers, serve, store_each};
+use crate::asks::{Ask, Line, core_of, first_pages, numbers, serve, store_each};
 use crate::checks::{holds, holds_at};
 use merge_core::Core;
 use page_digest::{HashFault, Sha256Hash};
@@ -127,6 +127,26 @@ fn note_by_two<R: Threads + Wait + Sync, B: Allocator + Clone + Send>(
     core.note_hashes_by(rt, alloc, 2, pages);
 }
 
+const PROPOSALS: [Line; 2] = [
+    (0, Ask::Propose(7), Answer::Hinted),
+    (0, Ask::Propose(39), Answer::Paired),
+];
+
+/// Stores forty equal pages to a new machine, lets two workers note their hashes, and then proposes two of the pages. Returns the
+/// report before the proposals.
+fn note_forty<R: Threads + Wait + Sync + Abort, B: Allocator + Clone + Send>(
+    rt: &R,
+    memory: Global,
+    alloc: B,
+    core: &mut Core<Sha256Hash>,
+) -> [u32; 6] {
+    store_each(rt, core, 40);
+    note_by_two(rt, alloc, core, &first_pages(rt, memory, 40));
+    let report = numbers(core);
+    serve(rt, core, &PROPOSALS);
+    report
+}
+
 /// Returns the report of a machine of forty equal pages whose hashes two workers note with memory from `alloc`. Two of
 /// the pages are then proposed.
 fn noted_report<R: Threads + Wait + Sync + Abort, B: Allocator + Clone + Send>(
@@ -135,15 +155,7 @@ fn noted_report<R: Threads + Wait + Sync + Abort, B: Allocator + Clone + Send>(
     alloc: B,
 ) -> [u32; 6] {
     let mut core = core_of(rt, memory, 40, &[40], Sha256Hash);
-    store_each(rt, &mut core, 40);
-    note_by_two(rt, alloc, &mut core, &first_pages(rt, memory, 40));
-    let report = numbers(&core);
-    let proposals = [
-        (0, Ask::Propose(7), Answer::Hinted),
-        (0, Ask::Propose(39), Answer::Paired),
-    ];
-    serve(rt, &mut core, &proposals);
-    report
+    note_forty(rt, memory, alloc, &mut core)
 }
 
 /// Two workers note the hashes of forty pages, while one growth is refused, or none.

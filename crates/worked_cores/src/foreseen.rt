@@ -80,6 +80,14 @@ fn hashed(rt: &impl Abort, alloc: Global, lines: &[Line]) -> (u32, u32, u32) {
     calls.counts()
 }
 
+/// Returns the same numbers for a machine without forecasts.
+fn hashed_without_forecasts(rt: &impl Abort, alloc: Global, lines: &[Line]) -> (u32, u32, u32) {
+    let calls = Calls::new();
+    let mut core = core_without_forecasts(rt, alloc, 16, &[8, 8], Lanes(&calls));
+    serve_ahead(rt, alloc, &mut core, lines);
+    calls.counts()
+}
+
 /// Returns the page that each of these eight lines proposes, after those before it.
 fn upcoming_of(rt: &impl Abort, alloc: Global, lines: &[Line; 8]) -> [Option<Upcoming>; 8] {
     let entries = entries_of(rt, alloc, lines);
@@ -119,10 +127,11 @@ fn stored_and_proposed(rt: HostRuntime) {
 /// A machine without forecasts hashes each page alone, when it is proposed. Its answers are the same.
 #[test]
 fn without_forecasts(rt: HostRuntime) {
-    let calls = Calls::new();
-    let mut core = core_without_forecasts(&rt, rt.alloc(), 16, &[8, 8], Lanes(&calls));
-    serve_ahead(&rt, rt.alloc(), &mut core, &STORED_AND_PROPOSED);
-    equal(&rt, calls.counts(), (5, 0, 0));
+    equal(
+        &rt,
+        hashed_without_forecasts(&rt, rt.alloc(), &STORED_AND_PROPOSED),
+        (5, 0, 0),
+    );
 }
 
 /// Pages at rest are hashed four at once, before those that are stored to first.
@@ -164,11 +173,15 @@ fn lines_in_turn(rt: &impl Abort, alloc: Global, pages: u32) -> Vec<Line> {
 /// Returns lines by which all of these pages are stored to, and then all proposed.
 fn lines_at_rest(rt: &impl Abort, alloc: Global, pages: u32) -> Vec<Line> {
     let mut lines = Vec::new(alloc);
-    for ppn in 0..pages {
-        lines.push(stored(ppn)).expect(rt, "memory for a line");
-    }
-    for ppn in 0..pages {
-        lines.push(proposed(ppn)).expect(rt, "memory for a line");
+    for is_proposed in [false, true] {
+        for ppn in 0..pages {
+            let line = if is_proposed {
+                proposed(ppn)
+            } else {
+                stored(ppn)
+            };
+            lines.push(line).expect(rt, "memory for a line");
+        }
     }
     lines
 }
@@ -192,12 +205,14 @@ fn by_eights(rt: HostRuntime) {
 
 /// Adds the lines by which a page is stored to fifteen times and then proposed.
 fn push_sixteen(rt: &impl Abort, lines: &mut Vec<Line>, ppn: u32) {
-    lines.push(stored(ppn)).expect(rt, "memory for a line");
-    for _again in 1..15 {
-        let again = (0, Ask::Store(ppn, ppn.to_be_bytes()[3]), Answer::Stored);
-        lines.push(again).expect(rt, "memory for a line");
+    for nth in 0..16 {
+        let line = match nth {
+            0 => stored(ppn),
+            15 => proposed(ppn),
+            _ => (0, Ask::Store(ppn, ppn.to_be_bytes()[3]), Answer::Stored),
+        };
+        lines.push(line).expect(rt, "memory for a line");
     }
-    lines.push(proposed(ppn)).expect(rt, "memory for a line");
 }
 
 /// Eight pages are hashed at once where one request in 16 is a proposal.
@@ -230,6 +245,22 @@ fn released(rt: HostRuntime) {
     equal(&rt, hashed(&rt, rt.alloc(), &lines), (0, 4, 0));
 }
 
+/// Serves such lines on a new machine. Returns what was counted after each part.
+fn counts_otherwise(
+    rt: &impl Abort,
+    alloc: Global,
+    core: &mut Core<Lanes<'_>>,
+    calls: &Calls,
+    sight: &[Line],
+    came: &[Line],
+) -> [(u32, u32, u32); 2] {
+    store_all(rt, core, 0);
+    serve_first(rt, alloc, core, sight);
+    let first = calls.counts();
+    serve_ahead(rt, alloc, core, came);
+    [first, calls.counts()]
+}
+
 /// Returns the same numbers for a machine of one guest with four pages, twice: after the first line of those in
 /// `sight`, and after other lines `came` than the rest of them.
 fn hashed_otherwise(
@@ -240,11 +271,7 @@ fn hashed_otherwise(
 ) -> [(u32, u32, u32); 2] {
     let calls = Calls::new();
     let mut core = core_of(rt, alloc, 4, &[4], Lanes(&calls));
-    store_all(rt, &mut core, 0);
-    serve_first(rt, alloc, &mut core, sight);
-    let first = calls.counts();
-    serve_ahead(rt, alloc, &mut core, came);
-    [first, calls.counts()]
+    counts_otherwise(rt, alloc, &mut core, &calls, sight, came)
 }
 
 /// The requests that come differ from those in sight: the page is hashed anew, and the verdicts are those of what came.

@@ -57,12 +57,23 @@ fn look(rt: &impl Abort, core: &mut Core<Sha256Hash>, lines: &[Line]) -> Seen {
     }
 }
 
+/// Returns what is seen after each of three parts.
+fn look_thrice(
+    rt: &impl Abort,
+    core: &mut Core<Sha256Hash>,
+    a: &[Line],
+    b: &[Line],
+    c: &[Line],
+) -> [Seen; 3] {
+    let first = look(rt, core, a);
+    let second = look(rt, core, b);
+    [first, second, look(rt, core, c)]
+}
+
 /// Returns what is seen of a machine of three frames and of guests with two pages and one, after each of three parts.
 fn seen_after(rt: &impl Abort, alloc: Global, a: &[Line], b: &[Line], c: &[Line]) -> [Seen; 3] {
     let mut core = core_of(rt, alloc, 3, &[2, 1], Sha256Hash);
-    let first = look(rt, &mut core, a);
-    let second = look(rt, &mut core, b);
-    [first, second, look(rt, &mut core, c)]
+    look_thrice(rt, &mut core, a, b, c)
 }
 
 #[test]

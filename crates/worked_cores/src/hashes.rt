@@ -3,6 +3,7 @@ ghost use Rattle.std.specs.Prelude.{◌≡◌, [], ◌∷◌, slice_index};
 
 use crate::asks::{Ask, Line, core_of, first_pages, serve, share_three, store_each};
 use crate::checks::{equal, equal_at};
+use merge_core::Core;
 use page_digest::PageHash;
 use page_model::{HashFunction, Page};
 use std::alloc::Global;
@@ -25,17 +26,28 @@ impl PageHash for Counted<'_> {
     }
 }
 
+/// Lets three pages of a new machine share a frame, and serves two parts. Returns how often pages were hashed after each.
+fn share_and_serve(
+    rt: &impl Abort,
+    core: &mut Core<Counted<'_>>,
+    calls: &AtomicU32,
+    first: &[Line],
+    second: &[Line],
+) -> [u32; 3] {
+    share_three(rt, core);
+    let shared = calls.load(Ordering::SeqCst);
+    serve(rt, core, first);
+    let served = calls.load(Ordering::SeqCst);
+    serve(rt, core, second);
+    [shared, served, calls.load(Ordering::SeqCst)]
+}
+
 /// Returns how often pages were hashed when three pages had come to share a frame, and after each of two parts, served in
 /// turn.
 fn calls_after(rt: &impl Abort, alloc: Global, first: &[Line], second: &[Line]) -> [u32; 3] {
     let calls = AtomicU32::new(0);
     let mut core = core_of(rt, alloc, 3, &[2, 1], Counted(&calls));
-    share_three(rt, &mut core);
-    let shared = calls.load(Ordering::SeqCst);
-    serve(rt, &mut core, first);
-    let served = calls.load(Ordering::SeqCst);
-    serve(rt, &mut core, second);
-    [shared, served, calls.load(Ordering::SeqCst)]
+    share_and_serve(rt, &mut core, &calls, first, second)
 }
 
 /// Each page is hashed once as long as its bytes stay the same. A proposal of an unchanged page, a match, and leaving a shared
@@ -68,28 +80,40 @@ const FIVE_STORES: [Line; 5] = [
     (0, Ask::Store(4, b'E'), Answer::Mapped),
 ];
 
+const THREE_PROPOSALS: [Line; 3] = [
+    (0, Ask::Propose(0), Answer::Hinted),
+    (0, Ask::Propose(1), Answer::Hinted),
+    (0, Ask::Propose(4), Answer::Hinted),
+];
+
+const CHANGED: [Line; 2] = [
+    (0, Ask::Store(0, b'F'), Answer::Stored),
+    (0, Ask::Propose(0), Answer::Hinted),
+];
+
+/// Does what `calls_noted` says, on a new machine.
+fn note_and_serve(
+    rt: &impl Abort,
+    core: &mut Core<Counted<'_>>,
+    calls: &AtomicU32,
+    pages: &[(u8, u32)],
+) -> [u32; 3] {
+    serve(rt, core, &FIVE_STORES);
+    core.note_hashes(pages);
+    let noted = calls.load(Ordering::SeqCst);
+    core.note_hashes(pages);
+    serve(rt, core, &THREE_PROPOSALS);
+    let proposed = calls.load(Ordering::SeqCst);
+    serve(rt, core, &CHANGED);
+    [noted, proposed, calls.load(Ordering::SeqCst)]
+}
+
 /// Returns how often pages were hashed, at three times. First these pages' hashes were noted, after stores to five pages of six.
 /// Then they were noted again and three of them proposed. Then another was stored to and proposed.
 fn calls_noted(rt: &impl Abort, alloc: Global, pages: &[(u8, u32)]) -> [u32; 3] {
     let calls = AtomicU32::new(0);
     let mut core = core_of(rt, alloc, 5, &[6], Counted(&calls));
-    serve(rt, &mut core, &FIVE_STORES);
-    core.note_hashes(pages);
-    let noted = calls.load(Ordering::SeqCst);
-    core.note_hashes(pages);
-    let proposals = [
-        (0, Ask::Propose(0), Answer::Hinted),
-        (0, Ask::Propose(1), Answer::Hinted),
-        (0, Ask::Propose(4), Answer::Hinted),
-    ];
-    serve(rt, &mut core, &proposals);
-    let proposed = calls.load(Ordering::SeqCst);
-    let changed = [
-        (0, Ask::Store(0, b'F'), Answer::Stored),
-        (0, Ask::Propose(0), Answer::Hinted),
-    ];
-    serve(rt, &mut core, &changed);
-    [noted, proposed, calls.load(Ordering::SeqCst)]
+    note_and_serve(rt, &mut core, &calls, pages)
 }
 
 /// Pages whose hashes are noted ahead are hashed then, and not at their proposals; a store makes a hash unknown again.

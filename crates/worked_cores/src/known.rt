@@ -65,14 +65,19 @@ fn propose_known(rt: &impl Abort, core: &mut Core<Zero<'_>>) -> Answer {
     answer_of(&core.apply_hashed(0, &Request::Propose(0), 0))
 }
 
-/// Stores to a page, proposes it with its hash, and proposes it again. Returns the first answer, and how often the page was
-/// hashed.
+/// Stores to a page, proposes it with its hash, and proposes it again. Returns the first answer.
+fn propose_twice(rt: &impl Abort, core: &mut Core<Zero<'_>>) -> Answer {
+    serve(rt, core, &[(0, Ask::Store(0, b'A'), Answer::Mapped)]);
+    let answer = propose_known(rt, core);
+    serve(rt, core, &[(0, Ask::Propose(0), Answer::Kept)]);
+    answer
+}
+
+/// Does so on a new machine. Returns the first answer, and how often the page was hashed.
 fn calls_known(rt: &impl Abort, alloc: Global) -> (Answer, u32) {
     let calls = AtomicU32::new(0);
     let mut core = core_of(rt, alloc, 1, &[1], Zero(&calls));
-    serve(rt, &mut core, &[(0, Ask::Store(0, b'A'), Answer::Mapped)]);
-    let answer = propose_known(rt, &mut core);
-    serve(rt, &mut core, &[(0, Ask::Propose(0), Answer::Kept)]);
+    let answer = propose_twice(rt, &mut core);
     (answer, calls.load(Ordering::SeqCst))
 }
 

@@ -156,16 +156,27 @@ fn serve<H: PageHash, A: Allocator>(rt: &impl Abort, core: &mut Core<H, A>, line
     }
 }
 
+/// Serves these lines, none of which asks for memory, and returns the report.
+fn serve_refused<A: Allocator>(
+    rt: &impl Abort,
+    heap: &Refusing,
+    core: &mut Core<Counted<'_>, A>,
+    lines: &[Line],
+) -> [u32; 6] {
+    heap.refuse_all();
+    serve(rt, core, lines);
+    holds_at(rt, "a line took memory", !heap.has_refused());
+    numbers(core)
+}
+
 /// Returns the report of a machine of guests with two pages and one, once these lines are served, and how often pages were
 /// hashed. None of them asks for memory.
 fn report_of(rt: &impl Abort, alloc: Global, frames: u32, lines: &[Line]) -> ([u32; 6], u32) {
     let heap = Refusing::new(alloc, u64::MAX, 0);
     let calls = AtomicU32::new(0);
     let mut core = core_of(rt, &heap, frames, &[2, 1], Counted(&calls));
-    heap.refuse_all();
-    serve(rt, &mut core, lines);
-    holds_at(rt, "a line took memory", !heap.has_refused());
-    (numbers(&core), calls.load(Ordering::SeqCst))
+    let report = serve_refused(rt, &heap, &mut core, lines);
+    (report, calls.load(Ordering::SeqCst))
 }
 
 /// Three equal pages are lent, each hashed once, and share one frame; then all are taken back. A page that isn't there leaves the

@@ -50,6 +50,18 @@ fn greatest(rt: &impl Abort, alloc: Global) -> Core<FirstByteHash> {
     Core::with_shape(alloc, &shape, FirstByteHash).expect(rt, "a core")
 }
 
+/// Returns the same of any machine.
+fn seen_of(
+    rt: &impl Abort,
+    core: &mut Core<FirstByteHash>,
+    lines: &[Line],
+    ppn: u32,
+) -> ([u32; 6], bool, u32) {
+    serve(rt, core, lines);
+    let is_mapped = frame(rt, core, 0, ppn).is_some();
+    (numbers(core), is_mapped, core.frames().total())
+}
+
 /// Returns the report of the largest machine once it has served these lines, whether guest 0's page is mapped, and the
 /// frames.
 fn greatest_served(
@@ -59,9 +71,7 @@ fn greatest_served(
     ppn: u32,
 ) -> ([u32; 6], bool, u32) {
     let mut core = greatest(rt, alloc);
-    serve(rt, &mut core, lines);
-    let is_mapped = frame(rt, &core, 0, ppn).is_some();
-    (numbers(&core), is_mapped, core.frames().total())
+    seen_of(rt, &mut core, lines, ppn)
 }
 
 /// Of the room that the largest machine takes, that of the frames is reserved and not touched.
@@ -77,20 +87,25 @@ fn most_frames_and_pages(rt: HostRuntime) {
     equal(&rt, served, ([3, 1, 0, 1, 0, 1], true, MAX_FRAMES));
 }
 
-/// 64 guests, each with 1/64 of the most pages: each stores the same to a page, then each proposes it. Returns the
-/// report.
-fn all_propose(rt: &impl Abort, alloc: Global) -> [u32; 6] {
-    let pages = [MAX_PAGES / 64; MAX_GUESTS];
-    let mut core = core_of(rt, alloc, 64, &pages, FirstByteHash);
-    store_all(rt, &mut core, 7);
+/// Lets each of 64 guests propose its page 7.
+fn propose_in_turn(rt: &impl Abort, core: &mut Core<FirstByteHash>) {
     for guest in 0..64 {
         let wanted = match guest {
             0 => Answer::Hinted,
             1 => Answer::Paired,
             n => Answer::Joined(u32::from(n) + 1),
         };
-        serve(rt, &mut core, &[(guest, Ask::Propose(7), wanted)]);
+        serve(rt, core, &[(guest, Ask::Propose(7), wanted)]);
     }
+}
+
+/// 64 guests, each with 1/64 of the most pages: each stores the same to a page, then each proposes it. Returns the
+/// report.
+fn all_propose(rt: &impl Abort, alloc: Global) -> [u32; 6] {
+    let pages = [MAX_PAGES / 64; MAX_GUESTS];
+    let mut core = core_of(rt, alloc, 64, &pages, FirstByteHash);
+    store_all(rt, &mut core, 7);
+    propose_in_turn(rt, &mut core);
     numbers(&core)
 }
 

@@ -24,17 +24,29 @@ const LATER: [Line; 10] = [
     (0, Ask::Count, Answer::Totals([16, 1, 0, 1, 0, 0])),
 ];
 
+/// Makes a machine, of which no more is known.
+fn new_core<A: Allocator + Clone>(alloc: A) -> Result<Core<Sha256Hash, A>, CoreFault> {
+    Core::new(alloc, 3, &[2, 1], &[0, 0], Sha256Hash)
+}
+
+/// Serves a machine while every growth is refused. Returns whether a growth was refused before that.
+fn serve_refused<A: Allocator, B: Allocator>(
+    rt: &impl Abort,
+    heap: &Refusing<B>,
+    core: &mut Core<Sha256Hash, A>,
+) -> bool {
+    let has_refused = heap.has_refused();
+    heap.refuse_all();
+    share_three(rt, core);
+    serve(rt, core, &LATER);
+    has_refused
+}
+
 /// Makes a machine with memory from this allocator, and serves it once every later growth is refused. Returns its fault
 /// if there is no machine, and whether a growth was refused before that.
 fn served<B: Allocator>(rt: &impl Abort, heap: &Refusing<B>) -> (Option<CoreFault>, bool) {
-    match Core::new(heap, 3, &[2, 1], &[0, 0], Sha256Hash) {
-        Ok(mut core) => {
-            let has_refused = heap.has_refused();
-            heap.refuse_all();
-            share_three(rt, &mut core);
-            serve(rt, &mut core, &LATER);
-            (None, has_refused)
-        }
+    match new_core(heap) {
+        Ok(mut core) => (None, serve_refused(rt, heap, &mut core)),
         Err(fault) => (Some(fault), heap.has_refused()),
     }
 }

@@ -4,7 +4,7 @@ use merge_core::Core;
 use page_digest::Sha256Hash;
 use page_model::{MAX_FRAMES, MAX_PAGES};
 use refusing::Refusing;
-use std::alloc::Global;
+use std::alloc::{Allocator, Global};
 use std::process::Abort;
 
 // What a machine keeps in addition to the pages of its frames, at most: for each frame, for each page, and in all. Seven forecasts
@@ -15,11 +15,15 @@ const PAGE: u64 = 16;
 
 const MORE: u64 = 4096 + 7 * 4160;
 
+/// Makes a machine with `frames` frames and one guest of `pages` pages. Returns whether there was memory for it.
+fn is_made<A: Allocator + Clone>(alloc: A, frames: u32, pages: u32) -> bool {
+    Core::new(alloc, frames, &[pages], &[0], Sha256Hash).is_ok()
+}
+
 /// Returns how many bytes a machine with `frames` frames and one guest of `pages` pages asks for.
 fn asked(rt: &impl Abort, alloc: Global, frames: u32, pages: u32) -> u64 {
     let heap = Refusing::new(alloc, u64::MAX, 0);
-    let core = Core::new(&heap, frames, &[pages], &[0], Sha256Hash);
-    holds_at(rt, frames, core.is_ok());
+    holds_at(rt, frames, is_made(&heap, frames, pages));
     heap.bytes_asked()
 }
 

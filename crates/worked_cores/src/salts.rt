@@ -15,6 +15,32 @@ fn propose_all<H: PageHash>(rt: &impl Abort, core: &mut Core<H>, answers: &[Answ
     }
 }
 
+/// Makes a machine of guests of one page each, with these salts.
+fn core_with<H: PageHash + Drop>(
+    rt: &impl Abort,
+    alloc: Global,
+    hash: H,
+    frames: u32,
+    salts: &[u32],
+) -> Core<H> {
+    let ones = [1; 4];
+    holds(rt, salts.len() <= 4);
+    Core::new(alloc, frames, &ones[..salts.len()], salts, hash)
+        .ok()
+        .expect(rt, "a core")
+}
+
+/// Lets each guest store the same byte, and then propose. Returns the report.
+fn store_and_propose<H: PageHash>(
+    rt: &impl Abort,
+    core: &mut Core<H>,
+    answers: &[Answer],
+) -> [u32; 6] {
+    store_all(rt, core, 0);
+    propose_all(rt, core, answers);
+    numbers(core)
+}
+
 /// Guests of one page each, with these salts: each stores the same byte, then each proposes. Returns the report.
 fn salted_row<H: PageHash + Drop>(
     rt: &impl Abort,
@@ -24,14 +50,8 @@ fn salted_row<H: PageHash + Drop>(
     salts: &[u32],
     answers: &[Answer],
 ) -> [u32; 6] {
-    let ones = [1; 4];
-    holds(rt, salts.len() <= 4);
-    let mut core = Core::new(alloc, frames, &ones[..salts.len()], salts, hash)
-        .ok()
-        .expect(rt, "a core");
-    store_all(rt, &mut core, 0);
-    propose_all(rt, &mut core, answers);
-    numbers(&core)
+    let mut core = core_with(rt, alloc, hash, frames, salts);
+    store_and_propose(rt, &mut core, answers)
 }
 
 #[test]

@@ -36,10 +36,21 @@ fn shown_after(
     second: &[Line],
 ) -> (Option<u32>, Shown, Shown) {
     let mut core = core_of(rt, alloc, 3, &[2, 1], Sha256Hash);
-    serve(rt, &mut core, first);
-    let (mpn, before) = (frame(rt, &core, 0, 0), show(&core, code));
-    serve(rt, &mut core, second);
-    (mpn, before, show(&core, code))
+    show_twice(rt, &mut core, code, first, second)
+}
+
+/// Does so on a new machine.
+fn show_twice(
+    rt: &impl Abort,
+    core: &mut Core<Sha256Hash>,
+    code: u64,
+    first: &[Line],
+    second: &[Line],
+) -> (Option<u32>, Shown, Shown) {
+    serve(rt, core, first);
+    let (mpn, before) = (frame(rt, core, 0, 0), show(core, code));
+    serve(rt, core, second);
+    (mpn, before, show(core, code))
 }
 
 #[test]
@@ -70,10 +81,8 @@ fn table_shows_core(rt: HostRuntime) {
     equal(&rt, after.shared, Some((mpn, 3)));
 }
 
-/// Lets `pages` pages of one content share a frame, by stores and proposals in turn; then page 0 is released. Returns
-/// the report before and after that.
-fn share_all(rt: &impl Abort, alloc: Global, pages: u32) -> [[u32; 6]; 2] {
-    let mut core = core_of(rt, alloc, 2, &[pages], FirstByteHash);
+/// Stores the same to each of a new machine's `pages` pages, and proposes it.
+fn join_all(rt: &impl Abort, core: &mut Core<FirstByteHash>, pages: u32) {
     for ppn in 0..pages {
         let verdict = match ppn {
             0 => Answer::Hinted,
@@ -84,15 +93,23 @@ fn share_all(rt: &impl Abort, alloc: Global, pages: u32) -> [[u32; 6]; 2] {
             (0, Ask::Store(ppn, b'A'), Answer::Mapped),
             (0, Ask::Propose(ppn), verdict),
         ];
-        serve(rt, &mut core, &lines);
+        serve(rt, core, &lines);
     }
-    let before = numbers(&core);
-    serve(
-        rt,
-        &mut core,
-        &[(0, Ask::Release(0), Answer::Released(false))],
-    );
-    [before, numbers(&core)]
+}
+
+/// Releases page 0, whose frame others have. Returns the report before and after that.
+fn release_one(rt: &impl Abort, core: &mut Core<FirstByteHash>) -> [[u32; 6]; 2] {
+    let before = numbers(core);
+    serve(rt, core, &[(0, Ask::Release(0), Answer::Released(false))]);
+    [before, numbers(core)]
+}
+
+/// Lets `pages` pages of one content share a frame, by stores and proposals in turn; then page 0 is released. Returns
+/// the report before and after that.
+fn share_all(rt: &impl Abort, alloc: Global, pages: u32) -> [[u32; 6]; 2] {
+    let mut core = core_of(rt, alloc, 2, &[pages], FirstByteHash);
+    join_all(rt, &mut core, pages);
+    release_one(rt, &mut core)
 }
 
 #[test]

@@ -139,6 +139,13 @@ fn clients_come_and_go(rt: HostRuntime) {
     expect_lines(&rt, domain, &LINES);
 }
 
+/// This client leaves, of which this is seen, and another enters.
+fn leave_and_enter(rt: &impl Abort, domain: &mut Domain<FoldHash>, client: u32, left: Seen) {
+    holds(rt, serve(domain, Ask::Leave(client)) == left);
+    holds(rt, serve(domain, Ask::Leave(client)) == Seen::Left(0, 0));
+    holds(rt, domain.enter().is_some());
+}
+
 /// Lends equal pages, and looks that they share one frame, whichever of the machines they go to.
 #[test]
 fn equal_pages_meet_in_one_machine(rt: HostRuntime) {
@@ -149,13 +156,26 @@ fn equal_pages_meet_in_one_machine(rt: HostRuntime) {
     for byte in 0..40 {
         holds(&rt, serve(&mut domain, Ask::Lend(0, byte)) == Seen::Lent(1));
         holds(&rt, serve(&mut domain, Ask::Lend(1, byte)) == Seen::Lent(2));
-        holds(&rt, serve(&mut domain, Ask::Leave(0)) == Seen::Left(1, 0));
-        holds(&rt, serve(&mut domain, Ask::Leave(0)) == Seen::Left(0, 0));
-        holds(&rt, domain.enter().is_some());
-        holds(&rt, serve(&mut domain, Ask::Leave(1)) == Seen::Left(1, 1));
-        holds(&rt, serve(&mut domain, Ask::Leave(1)) == Seen::Left(0, 0));
-        holds(&rt, domain.enter().is_some());
+        leave_and_enter(&rt, &mut domain, 0, Seen::Left(1, 0));
+        leave_and_enter(&rt, &mut domain, 1, Seen::Left(1, 1));
     }
+}
+
+/// Client 0 lends a page of these bytes, and releases it.
+fn lend_and_release(rt: &impl Abort, domain: &mut Domain<FoldHash>, byte: u8) {
+    let loan = domain
+        .lend(0, &[byte; 4096])
+        .expect(rt, "there is room for one page");
+    let machine = loan.slot.machine;
+    let held = Holding {
+        client: 0,
+        frame: loan.frame % 3,
+    };
+    holds(rt, loan.frame / 3 == machine);
+    holds(rt, domain.holding(loan.slot) == Some(held));
+    holds(rt, machine < domain.machines());
+    holds(rt, domain.frames(machine).used() == 1);
+    holds(rt, domain.release(0, loan.slot) == Ok(Some(loan.frame)));
 }
 
 /// Looks that a loan's frame is numbered among those of both machines, and that the slot holds it.
@@ -165,18 +185,6 @@ fn frames_are_numbered_among_all_machines(rt: HostRuntime) {
     holds(&rt, domain.machines() == 2);
     holds(&rt, domain.enter() == Some(0));
     for byte in 0..8 {
-        let loan = domain
-            .lend(0, &[byte; 4096])
-            .expect(&rt, "there is room for one page");
-        let machine = loan.slot.machine;
-        let held = Holding {
-            client: 0,
-            frame: loan.frame % 3,
-        };
-        holds(&rt, loan.frame / 3 == machine);
-        holds(&rt, domain.holding(loan.slot) == Some(held));
-        holds(&rt, machine < domain.machines());
-        holds(&rt, domain.frames(machine).used() == 1);
-        holds(&rt, domain.release(0, loan.slot) == Ok(Some(loan.frame)));
+        lend_and_release(&rt, &mut domain, byte);
     }
 }

@@ -1,13 +1,8 @@
 //! A domain whose frames are given for one machine after the other.
-ghost use Rattle.std.specs.Prelude.{◌≡◌, ◌∷◌, [], None, Some};
-ghost use Rattle.machine_frames.specs.FrameMap.{no_frames};
-ghost use Rattle.page_model.specs.Pages.{blank};
-
 use crate::checks::holds;
-use machine_frames::Frames;
+use crate::frames::{three_frames, turned_frames};
 use page_digest::FoldHash;
 use share_domain::{Domain, DomainConfig, GivenFrames};
-use std::alloc::Global;
 use std::process::Abort;
 
 const CONFIG: DomainConfig = DomainConfig {
@@ -17,32 +12,6 @@ const CONFIG: DomainConfig = DomainConfig {
     clients: 2,
     salt: 7,
 };
-
-fn three_frames(rt: &impl Abort, alloc: Global) -> Frames
-    ensures { result ≡ no_frames 3 }
-{
-    Frames::new(alloc, 3).expect(rt, "there is memory")
-}
-
-/// Takes the first two of three frames.
-fn take_two(rt: &impl Abort, frames: &mut Frames)
-    requires { frames.old ≡ no_frames 3 }
-    ensures { frames.new ≡ Some blank ∷ Some blank ∷ None ∷ [] }
-{
-    holds(rt, frames.take_zeroed() == Some(0));
-    holds(rt, frames.take_zeroed() == Some(1));
-}
-
-/// Returns three free frames, of which frame 1 is taken first.
-fn turned_frames(rt: &impl Abort, alloc: Global) -> Frames
-    ensures { result ≡ no_frames 3 }
-{
-    let mut frames = three_frames(rt, alloc);
-    take_two(rt, &mut frames);
-    frames.give_back(0);
-    frames.give_back(1);
-    frames
-}
 
 /// Returns the frame of the first page that each machine gets.
 fn first_frames(domain: &mut Domain<FoldHash>) -> [Option<u32>; 2] {
@@ -74,6 +43,15 @@ fn each_machine_has_the_frames_that_were_given_for_it(rt: HostRuntime) {
     holds(&rt, first[1] == Some(4));
 }
 
+/// Looks at the frames of two machines, and lends a page.
+fn lend_one(rt: &impl Abort, domain: &mut Domain<FoldHash>) {
+    holds(rt, domain.machines() == 2);
+    holds(rt, domain.frames(1).total() == 3);
+    holds(rt, domain.enter() == Some(0));
+    holds(rt, domain.lend(0, &[5; 4096]).is_ok());
+    holds(rt, domain.report().frames == 1);
+}
+
 /// Gives the frames of two machines, and makes a domain of them.
 #[test]
 fn a_domain_has_the_frames_that_were_given(rt: HostRuntime) {
@@ -86,11 +64,7 @@ fn a_domain_has_the_frames_that_were_given(rt: HostRuntime) {
         &rt,
         "there is memory",
     );
-    holds(&rt, domain.machines() == 2);
-    holds(&rt, domain.frames(1).total() == 3);
-    holds(&rt, domain.enter() == Some(0));
-    holds(&rt, domain.lend(0, &[5; 4096]).is_ok());
-    holds(&rt, domain.report().frames == 1);
+    lend_one(&rt, &mut domain);
 }
 
 /// There is room for the frames of as many machines as there may be.

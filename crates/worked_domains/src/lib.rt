@@ -1,11 +1,19 @@
-//! Worked domains, served by the public calls of `share_domain`: clients that come and go, frames that are given, and what is
-//! counted. This crate has only tests.
+//! Worked slots, domains, fingerprints and sessions, by the public calls of `lent_slots`, `share_domain`, `recent_fingerprints`,
+//! `frame_fingerprints`, `fingerprint_domain`, `host_messages` and `host_sessions`. This crate has only tests.
 #![tactic(auto)]
 
+#[cfg(test)]
+mod beside;
 #[cfg(test)]
 mod checks;
 #[cfg(test)]
 mod clients;
+#[cfg(test)]
+mod counted;
+#[cfg(test)]
+mod fingerprints;
+#[cfg(test)]
+mod frames;
 #[cfg(test)]
 mod given;
 #[cfg(test)]
@@ -14,3 +22,7 @@ mod limits;
 mod salts;
 #[cfg(test)]
 mod sentences;
+#[cfg(test)]
+mod sessions;
+#[cfg(test)]
+mod slots;

@@ -2,6 +2,7 @@
 use crate::checks::holds;
 use page_digest::FoldHash;
 use share_domain::{Domain, DomainConfig, DomainFault, NO_FRAME, Slot, frame_number, limit_fault};
+use std::process::Abort;
 
 /// As many machines and clients as there may be, of which some hundred enter.
 #[test]
@@ -44,6 +45,37 @@ fn numbers_out_of_range(rt: HostRuntime) {
     holds(&rt, frame_number(Some(7)) == 7);
 }
 
+/// Two clients enter, and lend three equal pages.
+fn lend_three(rt: &impl Abort, domain: &mut Domain<FoldHash>) {
+    holds(rt, domain.enter() == Some(0));
+    holds(rt, domain.enter() == Some(1));
+    for client in [1, 0, 1] {
+        holds(rt, domain.lend(client, &[9; 4096]).is_ok());
+    }
+}
+
+/// Looks at the last slot, and at how many slots each client has.
+fn look_at_three(rt: &impl Abort, domain: &Domain<FoldHash>) {
+    let last = Slot {
+        machine: 0,
+        ppn: 1_048_575,
+    };
+    holds(rt, domain.holding(last).is_some());
+    holds(rt, domain.held_by(0) == 1);
+    holds(rt, domain.held_by(1) == 2);
+}
+
+/// Both clients leave: the last to do so frees the frame.
+fn leave_both(rt: &impl Abort, domain: &mut Domain<FoldHash>) {
+    let mut freed = [5; 3];
+    holds(rt, domain.leave(1, &mut freed) == Some(2));
+    holds(rt, freed == [NO_FRAME, NO_FRAME, 5]);
+    holds(rt, domain.held_by(1) == 0);
+    holds(rt, domain.leave(1, &mut freed) == Some(0));
+    holds(rt, domain.leave(0, &mut freed) == Some(1));
+    holds(rt, freed[0] != NO_FRAME);
+}
+
 /// As many slots and frames as a machine may have. The last slot is lent first.
 #[test]
 fn a_million_slots(rt: HostRuntime) {
@@ -55,23 +87,7 @@ fn a_million_slots(rt: HostRuntime) {
         salt: 7,
     };
     let mut domain = Domain::new(rt.alloc(), &config, FoldHash).expect(&rt, "there is memory");
-    holds(&rt, domain.enter() == Some(0));
-    holds(&rt, domain.enter() == Some(1));
-    let last = Slot {
-        machine: 0,
-        ppn: 1_048_575,
-    };
-    for client in [1, 0, 1] {
-        holds(&rt, domain.lend(client, &[9; 4096]).is_ok());
-    }
-    holds(&rt, domain.holding(last).is_some());
-    holds(&rt, domain.held_by(0) == 1);
-    holds(&rt, domain.held_by(1) == 2);
-    let mut freed = [5; 3];
-    holds(&rt, domain.leave(1, &mut freed) == Some(2));
-    holds(&rt, freed == [NO_FRAME, NO_FRAME, 5]);
-    holds(&rt, domain.held_by(1) == 0);
-    holds(&rt, domain.leave(1, &mut freed) == Some(0));
-    holds(&rt, domain.leave(0, &mut freed) == Some(1));
-    holds(&rt, freed[0] != NO_FRAME);
+    lend_three(&rt, &mut domain);
+    look_at_three(&rt, &domain);
+    leave_both(&rt, &mut domain);
 }

@@ -1,28 +1,10 @@
 //! How often the pages of a domain are hashed.
-ghost use Rattle.std.specs.Prelude.{◌+◌, slice_index};
-
 use crate::checks::holds;
-use page_digest::PageHash;
-use page_model::{HashFunction, Page};
+use crate::counted::Counted;
 use share_domain::{Domain, DomainConfig, Slot};
 use std::alloc::Global;
 use std::process::Abort;
 use std::sync::atomic::{AtomicU32, Ordering};
-
-/// Hashes to the first byte, and counts its calls.
-#[derive(Clone, Copy, Drop)]
-struct Counted<'a>(&'a AtomicU32);
-
-impl HashFunction for Counted<'_> {
-    ghost hash_of = { λ _ bytes. slice_index bytes 0 };
-}
-
-impl PageHash for Counted<'_> {
-    fn hash(&self, _salt: u32, page: &Page) -> u64 {
-        self.0.fetch_add(1, Ordering::SeqCst);
-        u64::from(page[0])
-    }
-}
 
 /// Lends pages of one byte each, in a domain of one machine. Returns how often pages were hashed.
 fn hashed(rt: &impl Abort, alloc: Global, bytes: &[u8]) -> u32 {

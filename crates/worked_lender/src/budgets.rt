@@ -83,9 +83,13 @@ fn what_an_order_takes_too_much_is_owed(rt: HostRuntime) {
 #[test]
 fn a_long_order_is_paid_for(rt: HostRuntime) {
     let mut budget = Budget::new(TENTH, 0, 0);
-    assert_eq!(rt; budget.settle(1_000_000_000, 1_000_000_000), 9_000_000_000);
-    assert_eq!(rt; budget.settle(9_997_999_999, 1_000_000_000), 2_000_010);
-    assert!(rt; !budget.may_work());
-    assert_eq!(rt; budget.settle(9_998_000_009, 1_000_000_000), 0);
-    assert!(rt; budget.may_work());
+    equal(
+        &rt,
+        budget.settle(1_000_000_000, 1_000_000_000),
+        9_000_000_000,
+    );
+    equal(&rt, budget.settle(9_997_999_999, 1_000_000_000), 2_000_010);
+    holds(&rt, !budget.may_work());
+    equal(&rt, budget.settle(9_998_000_009, 1_000_000_000), 0);
+    holds(&rt, budget.may_work());
 }

@@ -1,6 +1,6 @@
-//! Lenders of one page and of a window beside the protocol of windows, the budget of their thread, its looks and their order, and the
-//! mappings that windows take. It is by the public calls of `page_lender`, `window_lender`, `window_events`, `work_budget`, `idle_pages`,
-//! `look_order`, `look_steps` and `mapping_room`. This crate has only tests.
+//! Traces of windows, lenders of one page and of a window beside the protocol of windows, the budget of their thread, its looks and
+//! their order, and the mappings that windows take. It is by the public calls of `page_lender`, `window_lender`, `window_events`,
+//! `work_budget`, `idle_pages`, `look_order`, `look_steps` and `mapping_room`. This crate has only tests.
 #![tactic(auto)]
 
 #[cfg(test)]
@@ -25,5 +25,7 @@ mod parts;
 mod rooms;
 #[cfg(test)]
 mod steps;
+#[cfg(test)]
+mod traces;
 #[cfg(test)]
 mod windows;

@@ -1,9 +1,9 @@
 //! The order in which the parts of a window are looked at, worked out by hand and beside counts of the test's own.
+use crate::checks::{equal, holds};
 use crate::numbers::Numbers;
 use look_order::{LookOrder, PartMark};
 use std::alloc::Allocator;
 use std::process::Abort;
-use std::test::Fail;
 
 /// How many parts there are where finds come as chance has it.
 const PARTS: u32 = 8;
@@ -23,33 +23,33 @@ fn find<A: Allocator>(order: &mut LookOrder<A>, place: u32) {
 /// Asks so many times, and checks that these parts come.
 fn must_come<A: Allocator>(rt: &impl Abort, order: &mut LookOrder<A>, places: &[u32]) {
     for place in places {
-        assert_eq!(rt; next_of(order), Some(*place));
+        equal(rt, next_of(order), Some(*place));
     }
 }
 
 #[test]
-fn hot_parts_come_first(rt: HostRuntime) -> Result<(), Fail> {
-    let mut order = LookOrder::new(rt.alloc(), 5)?;
+fn hot_parts_come_first(rt: HostRuntime) {
+    let mut order = LookOrder::new(rt.alloc(), 5).expect(&rt, "memory");
     must_come(&rt, &mut order, &[0, 1, 2, 3, 4]);
     find(&mut order, 2);
     find(&mut order, 4);
-    assert_eq!(rt; next_of(&mut order), None);
+    equal(&rt, next_of(&mut order), None);
     must_come(&rt, &mut order, &[2, 4, 0]);
     find(&mut order, 3);
     find(&mut order, 0);
     must_come(&rt, &mut order, &[3, 1]);
-    assert_eq!(rt; next_of(&mut order), None);
-    assert_eq!(rt;
+    equal(&rt, next_of(&mut order), None);
+    equal(
+        &rt,
         order.part(0),
         Some(PartMark {
             is_hot: true,
-            is_done: false
-        })
+            is_done: false,
+        }),
     );
     must_come(&rt, &mut order, &[0, 1, 2, 3, 4]);
-    assert_eq!(rt; next_of(&mut order), None);
-    assert_eq!(rt; order.part(5), None);
-    Ok(())
+    equal(&rt, next_of(&mut order), None);
+    equal(&rt, order.part(5), None);
 }
 
 /// What the test counts of a part.
@@ -79,14 +79,14 @@ fn count(rt: &impl Abort, parts: &mut [Counted; 8], chosen: Option<u32>) {
     } else {
         first_left
     };
-    assert_eq!(rt; chosen, expected);
+    equal(rt, chosen, expected);
 }
 
 /// Notes a turn, or the end of a look.
 fn note(rt: &impl Abort, parts: &mut [Counted; 8], chosen: Option<u32>) {
     match chosen {
         Some(place) => {
-            assert!(rt; place < PARTS);
+            holds(rt, place < PARTS);
             parts[place as usize] = Counted {
                 hot: false,
                 had_turn: true,
@@ -102,9 +102,9 @@ fn note(rt: &impl Abort, parts: &mut [Counted; 8], chosen: Option<u32>) {
 }
 
 #[test]
-fn each_part_has_its_turn(rt: HostRuntime) -> Result<(), Fail> {
+fn each_part_has_its_turn(rt: HostRuntime) {
     let mut numbers = Numbers { state: 4 };
-    let mut order = LookOrder::new(rt.alloc(), PARTS)?;
+    let mut order = LookOrder::new(rt.alloc(), PARTS).expect(&rt, "memory");
     let mut parts = [Counted {
         hot: true,
         had_turn: false,
@@ -115,7 +115,7 @@ fn each_part_has_its_turn(rt: HostRuntime) -> Result<(), Fail> {
         count(&rt, &mut parts, chosen);
         note(&rt, &mut parts, chosen);
         for place in 0..PARTS {
-            assert!(rt; parts[place as usize].calls < 2 * PARTS);
+            holds(&rt, parts[place as usize].calls < 2 * PARTS);
         }
         let place = numbers.next() % PARTS;
         if numbers.coin() {
@@ -123,5 +123,4 @@ fn each_part_has_its_turn(rt: HostRuntime) -> Result<(), Fail> {
             parts[place as usize].hot = true;
         }
     }
-    Ok(())
 }

@@ -1,9 +1,9 @@
 //! What a thread that looks at a window of two parts does, worked out by hand.
+use crate::checks::{equal, equal_at};
 use idle_pages::{LookConfig, PartRest};
 use look_steps::{Step, WindowLooks};
 use std::alloc::Allocator;
 use std::process::Abort;
-use std::test::Fail;
 use work_budget::Config;
 
 /// A tenth of a processor.
@@ -45,7 +45,7 @@ fn look<A: Allocator>(
     place: u32,
     changes: u32,
 ) {
-    assert_eq!(rt; next_of(looks, clocks), Step::Look(place));
+    equal(rt, next_of(looks, clocks), Step::Look(place));
     if place < looks.len() {
         looks.looked(place, changes, 512);
     }
@@ -58,45 +58,69 @@ fn find<A: Allocator>(looks: &mut WindowLooks<A>, place: u32) {
     }
 }
 
+/// What is done, or what comes next.
+#[derive(Clone, Copy)]
+enum Turn {
+    /// A part must come next, is looked at, and has so many changes.
+    Look(u32, u32),
+    /// Something to be shared is found in a part.
+    Find(u32),
+    Next(Step),
+}
+
+const FIRST: Clocks = Clocks { now: 0, spent: 0 };
+
+const SECOND: Clocks = Clocks {
+    now: 1_000_000,
+    spent: 300_000,
+};
+
+const OWING: Clocks = Clocks {
+    now: 1_000_000,
+    spent: 300_001,
+};
+
+const THIRD: Clocks = Clocks {
+    now: 3_000_010,
+    spent: 300_001,
+};
+
+const TURNS: [(Clocks, Turn); 15] = [
+    (FIRST, Turn::Look(0, 0)),
+    (FIRST, Turn::Look(1, 0)),
+    (FIRST, Turn::Next(Step::End)),
+    (SECOND, Turn::Look(0, 0)),
+    (SECOND, Turn::Look(1, 9)),
+    (SECOND, Turn::Next(Step::End)),
+    (OWING, Turn::Next(Step::Wait(2_000_010))),
+    (THIRD, Turn::Next(Step::LeaveOut(0))),
+    (THIRD, Turn::Look(1, 8)),
+    (THIRD, Turn::Next(Step::End)),
+    (THIRD, Turn::Look(0, 0)),
+    (THIRD, Turn::Find(1)),
+    (THIRD, Turn::Next(Step::Look(1))),
+    (THIRD, Turn::Next(Step::End)),
+    (THIRD, Turn::Next(Step::LeaveOut(0))),
+];
+
 #[test]
-fn a_thread_waits_looks_and_leaves_out(rt: HostRuntime) -> Result<(), Fail> {
-    let mut looks = WindowLooks::new(rt.alloc(), 2, TENTH, CONFIG, 0, 0)?;
-    let first = Clocks { now: 0, spent: 0 };
-    look(&rt, &mut looks, first, 0, 0);
-    look(&rt, &mut looks, first, 1, 0);
-    assert_eq!(rt; next_of(&mut looks, first), Step::End);
-    let second = Clocks {
-        now: 1_000_000,
-        spent: 300_000,
-    };
-    look(&rt, &mut looks, second, 0, 0);
-    look(&rt, &mut looks, second, 1, 9);
-    assert_eq!(rt; next_of(&mut looks, second), Step::End);
-    let owing = Clocks {
-        now: 1_000_000,
-        spent: 300_001,
-    };
-    assert_eq!(rt; next_of(&mut looks, owing), Step::Wait(2_000_010));
-    let third = Clocks {
-        now: 3_000_010,
-        spent: 300_001,
-    };
-    assert_eq!(rt; next_of(&mut looks, third), Step::LeaveOut(0));
-    look(&rt, &mut looks, third, 1, 8);
-    assert_eq!(rt; next_of(&mut looks, third), Step::End);
-    look(&rt, &mut looks, third, 0, 0);
-    find(&mut looks, 1);
-    assert_eq!(rt; next_of(&mut looks, third), Step::Look(1));
-    assert_eq!(rt; next_of(&mut looks, third), Step::End);
-    assert_eq!(rt; next_of(&mut looks, third), Step::LeaveOut(0));
-    assert_eq!(rt;
+fn a_thread_waits_looks_and_leaves_out(rt: HostRuntime) {
+    let mut looks = WindowLooks::new(rt.alloc(), 2, TENTH, CONFIG, 0, 0).expect(&rt, "memory");
+    for (at, (clocks, turn)) in TURNS.iter().enumerate() {
+        match turn {
+            Turn::Look(place, changes) => look(&rt, &mut looks, *clocks, *place, *changes),
+            Turn::Find(place) => find(&mut looks, *place),
+            Turn::Next(step) => equal_at(&rt, at, next_of(&mut looks, *clocks), *step),
+        }
+    }
+    equal(
+        &rt,
         looks.rest(1),
         Some(PartRest {
             rest: 1,
             left: 0,
             own: 512,
-            is_still: false
-        })
+            is_still: false,
+        }),
     );
-    Ok(())
 }

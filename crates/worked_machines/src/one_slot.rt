@@ -98,13 +98,18 @@ fn rings_of_one_item(rt: HostRuntime) {
     run_to_the_end(&rt, made(&rt, rt.alloc(), 1, &[1], 1, 4));
 }
 
+/// Makes a machine, and runs it while every request for memory is refused.
+fn run_without_memory(rt: &impl Abort, heap: &Refusing) {
+    let course = made(rt, heap, 1, &[1], 1, 4);
+    heap.refuse_all();
+    run_to_the_end(rt, course);
+}
+
 // Each call works when every request for memory is refused.
 #[test]
 fn no_memory_after_the_start(rt: HostRuntime) {
     let heap = Refusing::new(rt.alloc(), u64::MAX, 0);
-    let course = made(&rt, &heap, 1, &[1], 1, 4);
-    heap.refuse_all();
-    run_to_the_end(&rt, course);
+    run_without_memory(&rt, &heap);
     holds(&rt, !heap.has_refused());
     holds(&rt, heap.holds_nothing());
 }

@@ -154,13 +154,18 @@ fn equal_pages_of_two_guests(rt: HostRuntime) {
     holds(&rt, seen.is_one_frame);
 }
 
+/// Returns what is seen of a machine whose every request for memory is refused once it is made.
+fn copied_without_memory(rt: &impl Abort, heap: &Refusing) -> ([u8; 3], Seen) {
+    let course = made(rt, heap, 3, &[2, 1], 8, 16);
+    heap.refuse_all();
+    look_at_end(rt, copy(rt, share(rt, course)))
+}
+
 // Neither a store nor a proposal nor a load asks for memory, so none is refused.
 #[test]
 fn a_store_copies_a_shared_page(rt: HostRuntime) {
     let heap = Refusing::new(rt.alloc(), u64::MAX, 0);
-    let course = made(&rt, &heap, 3, &[2, 1], 8, 16);
-    heap.refuse_all();
-    let (before, seen) = look_at_end(&rt, copy(&rt, share(&rt, course)));
+    let (before, seen) = copied_without_memory(&rt, &heap);
     holds(&rt, !heap.has_refused());
     equal(&rt, before, [b'A', b'A', b'B']);
     equal(&rt, seen.numbers, [12, 3, 2, 2, 1, 0]);

@@ -1,5 +1,5 @@
 //! Machine shapes at their limits.
-use crate::checks::equal;
+use crate::checks::{equal, equal_at};
 use page_model::{MAX_FRAMES, MAX_PAGES, MachineShape, ShapeFault};
 
 #[test]
@@ -22,12 +22,11 @@ fn shape_limits(rt: HostRuntime) {
         (1, most, most, None),
     ];
     for (frames, pages, salts, fault) in rows {
-        assert_eq!(rt;
+        equal_at(
+            &rt,
+            (frames, pages.len(), salts.len()),
             MachineShape::new(frames, pages, salts).err(),
             fault,
-            "{frames} frames, {} guests, {} salts",
-            pages.len(),
-            salts.len()
         );
     }
 }

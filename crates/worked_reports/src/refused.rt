@@ -76,18 +76,23 @@ fn each_growth_refused_in_turn(rt: HostRuntime) {
     holds(&rt, whole_at.is_some());
 }
 
+/// Makes a watch, which reads the first report and then the end.
+fn watch_the_end<R: Abort + Wait, A: Allocator>(rt: &R, publisher: Publisher<A>) {
+    let mut publisher = publisher;
+    let mut watch = publisher.watch().expect(rt, "a watch");
+    watch.learn(publisher.tell());
+    equal(rt, watch.read(), Some(all_zeros()));
+    publisher.end(rt);
+    equal(rt, watch.read(), None);
+}
+
 // Once a publisher is made, making watches, telling, reading and ending ask for no memory.
 #[test]
 fn no_memory_but_for_publishing(rt: HostRuntime) {
     let heap = Refusing::new(rt.alloc(), u64::MAX, 0);
-    let mut publisher = Publisher::new(&rt, &heap).expect(&rt, "memory");
+    let publisher = Publisher::new(&rt, &heap).expect(&rt, "memory");
     heap.refuse_all();
-    let mut watch = publisher.watch().expect(&rt, "a watch");
-    watch.learn(publisher.tell());
-    equal(&rt, watch.read(), Some(all_zeros()));
-    publisher.end(&rt);
-    equal(&rt, watch.read(), None);
-    drop(watch);
+    watch_the_end(&rt, publisher);
     holds(&rt, !heap.has_refused());
     holds(&rt, heap.holds_nothing());
 }

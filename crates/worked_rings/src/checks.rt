@@ -4,19 +4,19 @@ ghost use Rattle.std.specs.Prelude.{◌≡◌, true};
 use std::fmt::Debug;
 use std::process::Abort;
 
-/// Ends the test where two values differ, and shows both.
+/// Ends the test where two values differ, and shows both: what was found, and what was due.
 pub(crate) fn equal<T: Copy + PartialEq + Debug>(rt: &impl Abort, found: T, due: T) {
-    assert_eq!(rt; found, due);
+    holds_at(rt, (found, due), found == due);
 }
 
-/// Ends the test where two values differ, and shows both and the row of which they are.
+/// Ends the test where two values differ, and shows the row of which they are, what was found, and what was due.
 pub(crate) fn equal_at<R: Copy + Debug, T: Copy + PartialEq + Debug>(
     rt: &impl Abort,
     row: R,
     found: T,
     due: T,
 ) {
-    assert_eq!(rt; found, due, "at {row:?}");
+    holds_at(rt, (row, found, due), found == due);
 }
 
 /// Ends the test where a condition doesn't hold.

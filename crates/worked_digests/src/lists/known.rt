@@ -114,8 +114,10 @@ fn count_by<R: Threads + Abort + Sync>(
 ) -> Option<usize> {
     match digests_of(rt, heap, 2, sampling_of(rt, 0, 1), memory) {
         Ok(found) => Some(found.lines.len()),
-        Err(ReadFault::OutOfMemory) => None,
-        Err(ReadFault::Read(_)) => panic!(rt; "another fault"),
+        Err(fault) => {
+            holds(rt, matches!(fault, ReadFault::OutOfMemory));
+            None
+        }
     }
 }
 

@@ -124,8 +124,10 @@ fn total_by<R: Threads + Abort + Sync, H: PageHash>(
 ) -> Option<TotalNumbers> {
     match census_of(rt, heap, 4, hash, guests) {
         Ok(found) => Some(found.total),
-        Err(CensusFault::OutOfMemory) => None,
-        Err(_) => panic!(rt; "another fault"),
+        Err(fault) => {
+            holds(rt, matches!(fault, CensusFault::OutOfMemory));
+            None
+        }
     }
 }
 

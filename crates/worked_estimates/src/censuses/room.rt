@@ -1,6 +1,7 @@
 //! How much memory a census asks for.
-use crate::censuses::pages::{census_of, guest_of};
+use crate::censuses::pages::{Memory, census_of, guest_of};
 use crate::checks::{holds, holds_at};
+use page_census::Guest;
 use page_digest::FoldHash;
 use refusing::Refusing;
 use std::alloc::Global;
@@ -15,12 +16,21 @@ const WORKER: u64 = 66 * 4096 + 256;
 
 const MORE: u64 = 2 * 4096 + 640;
 
+/// Whether a census with memory of this allocator has numbers.
+fn is_counted<R: Threads + Abort + Sync>(
+    rt: &R,
+    heap: &Refusing,
+    workers: u32,
+    guests: &[Guest<Memory>],
+) -> bool {
+    census_of(rt, heap, workers, &FoldHash, guests).is_ok()
+}
+
 /// Returns how many bytes a census of 200 pages of zeros, by this many workers, asks for.
 fn asked<R: Threads + Abort + Sync>(rt: &R, alloc: Global, workers: u32) -> u64 {
     let guests = [guest_of(rt, alloc, 0, &[None; 200], u32::MAX)];
     let heap = Refusing::new(alloc, u64::MAX, 0);
-    let found = census_of(rt, &heap, workers, &FoldHash, &guests);
-    holds(rt, found.is_ok());
+    holds(rt, is_counted(rt, &heap, workers, &guests));
     heap.bytes_asked()
 }
 

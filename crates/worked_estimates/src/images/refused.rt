@@ -27,9 +27,10 @@ fn opens(rt: &impl Abort, alloc: Global, heap: &Refusing) -> bool {
             holds(rt, has_pages(rt, alloc, &image, &parts));
             true
         }
-        Err(ImageFault::OutOfMemory) => false,
-        Err(ImageFault::Form(_)) => panic!(rt; "malformed"),
-        Err(ImageFault::Read(_)) => panic!(rt; "unreadable"),
+        Err(fault) => {
+            holds(rt, matches!(fault, ImageFault::OutOfMemory));
+            false
+        }
     }
 }
 

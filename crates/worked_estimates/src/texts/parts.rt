@@ -32,7 +32,7 @@ fn parts(numbers: [u32; 4]) -> Parts {
 }
 
 fn have_parts<R: Abort>(rt: &R, guests: &[GuestLine<'_>], due: &[Parts]) {
-    assert_eq!(rt; guests.len(), due.len());
+    equal(rt, guests.len(), due.len());
     for (guest, parts) in guests.iter().zip(due) {
         equal(rt, parts_of(guest, guests), *parts);
     }

@@ -115,7 +115,7 @@ fn as_many_as_there_are(rt: HostRuntime) {
     let guests = guest_lines(rt.alloc(), &["a", "b"], &[0, 7, 9], &GUESTS[..1]).expect(
         &rt, "memory",
     );
-    assert_eq!(rt; guests.len(), 1);
+    holds(&rt, guests.len() == 1);
     equal(&rt, guests[0].image, "a");
     equal(&rt, guests[0].numbers, GUESTS[0]);
 }

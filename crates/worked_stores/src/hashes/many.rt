@@ -114,8 +114,10 @@ fn six_hashes<R: Threads + Wait + Abort + Sync>(
 ) -> Option<(usize, u64)> {
     match hashes_of(rt, lists, heap, 4, &Sha256Hash, 6) {
         Ok(hashes) => Some((hashes.len(), hashes.first().copied().unwrap_or(0))),
-        Err(HashFault::OutOfMemory) => None,
-        Err(HashFault::NoThread) => panic!(rt; "no thread"),
+        Err(fault) => {
+            holds(rt, matches!(fault, HashFault::OutOfMemory));
+            None
+        }
     }
 }
 

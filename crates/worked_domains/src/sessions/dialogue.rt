@@ -1,0 +1,354 @@
+//! Dialogues of clients with a host of one machine of five slots and three frames. What is expected was worked out by hand.
+use crate::checks::holds_at;
+use arrayvec::ArrayVec;
+use host_messages::{ClientMessage, Lent, MessageFault, Name, Question, Wanted};
+use host_sessions::{Host, HostConfig, Link, Received, Session, SessionFault};
+use machine_frames::Frames;
+use page_digest::FoldHash;
+use page_model::Page;
+use share_domain::{DomainConfig, NO_FRAME};
+use std::alloc::Global;
+use std::process::Abort;
+
+/// What is seen of a packet.
+#[derive(Clone, Copy, Debug, PartialEq, Eq)]
+enum Got {
+    /// No session takes it.
+    Nothing,
+    Fault(SessionFault),
+    /// The first byte of the session's name.
+    Welcome(u8),
+    /// The same, the number that the session had, and how many slots are released.
+    Resumed(u8, u32, usize),
+    /// Whether the first page was seen.
+    Seen(bool),
+    /// How many pages were lent, and how many slots have the frame of the first.
+    Lent(usize, u32),
+    /// How many frames are free since, of so many slots.
+    Freed(usize, usize),
+}
+
+/// What a client says.
+#[derive(Clone, Copy)]
+enum Said {
+    Hello,
+    /// Wants the session with this name, in which so many replies to lends came.
+    HelloAs(Name, u64),
+    /// Asks about page 7, in a passing question or not.
+    Ask(bool),
+    Lend(u32),
+    /// Releases this slot.
+    Release(u64),
+}
+
+/// What is done with a host, and what is seen of it.
+#[derive(Clone, Copy)]
+enum Step {
+    /// A client with this name connects, and its session gets this number.
+    Connects(Name, Option<u32>),
+    /// A session's connection ends; whether there was such a session.
+    Disconnects(u32, bool),
+    Says(u32, Said, Got),
+    SendsCutRelease(u32, Got),
+    /// A session ends, which had so many slots.
+    Ends(u32, usize),
+    /// No session has this number.
+    IsFree(u32),
+    HasLink(u32, Option<Link>),
+    /// A session has so many slots, or 99 where it hasn't begun.
+    HasSlots(u32, u32),
+    /// So many slots, frames or clients are counted.
+    Slots(u32),
+    Frames(u32),
+    Clients(u32),
+}
+
+fn host_of(rt: &impl Abort, alloc: Global) -> Host<FoldHash> {
+    let config = HostConfig {
+        domain: DomainConfig {
+            machines: 1,
+            slots: 5,
+            frames: 3,
+            clients: 3,
+            salt: 7,
+        },
+        recent: 4,
+        seed: 11,
+        salt: 9,
+        quota: 3,
+        client_cpu: 25,
+    };
+    let mut frames = Vec::with_capacity(alloc, 1).expect(rt, "there is memory");
+    frames.push_reserved(Frames::new(alloc, 3).expect(rt, "there is memory"));
+    Host::with_frames(alloc, &config, FoldHash, frames).expect(rt, "there is memory")
+}
+
+/// Returns what is seen of pages that were to be lent.
+fn lent_of(loans: &[Lent]) -> Got {
+    let mut count = 0;
+    for lent in loans {
+        if lent.frame != NO_FRAME {
+            count += 1;
+        }
+    }
+    Got::Lent(
+        count,
+        if loans.is_empty() {
+            0
+        } else {
+            loans[0].sharers
+        },
+    )
+}
+
+/// Returns what is seen of slots that were to be released.
+fn freed_of(freed: &[u32]) -> Got {
+    let mut count = 0;
+    for frame in freed {
+        if *frame != NO_FRAME {
+            count += 1;
+        }
+    }
+    Got::Freed(count, freed.len())
+}
+
+/// Sends a packet of a session, with a buffer of four pages.
+fn send(host: &mut Host<FoldHash>, number: u32, bytes: &[u8]) -> Got {
+    let pages: [Page; 4] = [[5; 4096], [5; 4096], [6; 4096], [5; 4096]];
+    match host.receive(number, bytes, &pages) {
+        Received::NoSession => Got::Nothing,
+        Received::Fault(fault) => Got::Fault(fault),
+        Received::Welcome(welcome) => Got::Welcome(welcome.name[0]),
+        Received::Resumed(welcome, before, freed) => {
+            Got::Resumed(welcome.name[0], before, freed.len())
+        }
+        Received::Seen(seen) => Got::Seen(!seen.is_empty() && seen[0]),
+        Received::Loans(loans) => lent_of(loans.as_slice()),
+        Received::Released(freed) => freed_of(freed.as_slice()),
+    }
+}
+
+/// Sends a message of a session.
+fn say(host: &mut Host<FoldHash>, number: u32, message: &ClientMessage) -> Got {
+    send(host, number, message.to_bytes().as_slice())
+}
+
+/// A question about page 7, which is a passing one or not.
+fn question_of(is_passing: bool) -> ClientMessage {
+    let mut questions = ArrayVec::new();
+    questions.push(Question {
+        page: 7,
+        fingerprint: 99,
+        is_passing,
+    });
+    ClientMessage::Ask(questions)
+}
+
+/// The release of one slot.
+fn release(slot: u64) -> ClientMessage {
+    let mut slots = ArrayVec::new();
+    slots.push(slot);
+    ClientMessage::Release(slots)
+}
+
+fn message_of(said: Said) -> ClientMessage {
+    match said {
+        Said::Hello => ClientMessage::Hello(None),
+        Said::HelloAs(name, loans) => ClientMessage::Hello(Some(Wanted { name, loans })),
+        Said::Ask(is_passing) => question_of(is_passing),
+        Said::Lend(count) => ClientMessage::Lend(count),
+        Said::Release(slot) => release(slot),
+    }
+}
+
+/// Returns how many slots a session has, or 99 where it hasn't begun.
+fn slots_of(host: &Host<FoldHash>, number: u32) -> u32 {
+    match host.session(number) {
+        Session::Begun(_) => host.slots_of(number),
+        _ => 99,
+    }
+}
+
+/// Returns a session's link, if it has begun.
+fn link_of(host: &Host<FoldHash>, number: u32) -> Option<Link> {
+    match host.session(number) {
+        Session::Begun(begun) => Some(begun.link),
+        _ => None,
+    }
+}
+
+/// Ends a session, by two slots in each call, and returns how many slots it had.
+fn end(host: &mut Host<FoldHash>, number: u32) -> usize {
+    let mut total = 0;
+    let mut freed = [0; 2];
+    for _ in 0..9 {
+        match host.end(number, &mut freed) {
+            None => return total,
+            Some(0) => return total,
+            Some(count) => total = total.saturating_add(count),
+        }
+    }
+    total
+}
+
+/// A release of one slot, without its last byte.
+const CUT_RELEASE: [u8; 15] = [4, 0, 0, 0, 1, 0, 0, 0, 4, 0, 0, 0, 0, 0, 0];
+
+/// Takes a step, and returns whether that was seen which was to be.
+fn is_seen(host: &mut Host<FoldHash>, step: Step) -> bool {
+    match step {
+        Step::Connects(name, number) => host.connect(name) == number,
+        Step::Disconnects(number, was_there) => host.disconnect(number) == was_there,
+        Step::Says(number, said, got) => say(host, number, &message_of(said)) == got,
+        Step::SendsCutRelease(number, got) => send(host, number, &CUT_RELEASE) == got,
+        Step::Ends(number, slots) => end(host, number) == slots,
+        Step::IsFree(number) => host.session(number) == Session::Free,
+        Step::HasLink(number, link) => link_of(host, number) == link,
+        Step::HasSlots(number, slots) => slots_of(host, number) == slots,
+        Step::Slots(count) => host.report().slots == count,
+        Step::Frames(count) => host.report().frames == count,
+        Step::Clients(count) => host.report().clients == count,
+    }
+}
+
+/// Takes one step after the other, and looks for what is to be seen.
+fn take_steps(rt: &impl Abort, host: &mut Host<FoldHash>, steps: &[Step]) {
+    for (at, step) in steps.iter().enumerate() {
+        holds_at(rt, at, is_seen(host, *step));
+    }
+}
+
+/// Takes these steps with a new host.
+fn play(rt: &impl Abort, alloc: Global, steps: &[Step]) {
+    let mut host = host_of(rt, alloc);
+    take_steps(rt, &mut host, steps);
+}
+
+const SHORT: SessionFault = SessionFault::Message(MessageFault::Length);
+
+const A: Name = [10; 16];
+
+const B: Name = [11; 16];
+
+const C: Name = [12; 16];
+
+const D: Name = [13; 16];
+
+const CLIENTS_LEND: [Step; 25] = [
+    Step::Connects(A, Some(0)),
+    Step::Connects(B, Some(1)),
+    Step::Says(0, Said::Hello, Got::Welcome(10)),
+    Step::Says(1, Said::Hello, Got::Welcome(11)),
+    Step::Says(0, Said::Ask(true), Got::Seen(false)),
+    Step::Says(1, Said::Ask(true), Got::Seen(false)),
+    Step::Says(0, Said::Ask(false), Got::Seen(false)),
+    Step::Says(0, Said::Ask(false), Got::Seen(false)),
+    Step::Says(1, Said::Ask(true), Got::Seen(true)),
+    Step::Says(0, Said::Ask(false), Got::Seen(false)),
+    Step::Says(1, Said::Ask(false), Got::Seen(true)),
+    Step::Says(0, Said::Lend(2), Got::Lent(2, 1)),
+    Step::Says(1, Said::Lend(1), Got::Lent(1, 3)),
+    Step::Frames(1),
+    // Slots are given from the last one on: 4 and 3 are the first session's, and 2 is the other's.
+    Step::Says(1, Said::Release(4), Got::Freed(0, 1)),
+    Step::HasSlots(0, 2),
+    Step::HasSlots(1, 1),
+    Step::Slots(3),
+    Step::Says(0, Said::Release(4), Got::Freed(0, 1)),
+    Step::Says(0, Said::Release(3), Got::Freed(0, 1)),
+    Step::HasSlots(0, 0),
+    Step::Says(1, Said::Release(2), Got::Freed(1, 1)),
+    Step::Frames(0),
+    // A session has three slots at most.
+    Step::Says(0, Said::Lend(4), Got::Lent(3, 1)),
+    Step::HasSlots(0, 3),
+];
+
+#[test]
+fn clients_ask_lend_and_release(rt: HostRuntime) {
+    play(&rt, rt.alloc(), &CLIENTS_LEND);
+}
+
+const FAULTS: [Step; 19] = [
+    Step::Connects(A, Some(0)),
+    Step::Says(0, Said::Ask(false), Got::Fault(SessionFault::Early)),
+    Step::Says(0, Said::Hello, Got::Nothing),
+    Step::Disconnects(0, true),
+    Step::Disconnects(0, false),
+    Step::Connects(B, Some(0)),
+    Step::Says(0, Said::Hello, Got::Welcome(11)),
+    Step::Says(0, Said::Lend(1), Got::Lent(1, 1)),
+    Step::SendsCutRelease(0, Got::Fault(SHORT)),
+    Step::Says(0, Said::Release(4), Got::Nothing),
+    Step::HasLink(0, Some(Link::Broken(SHORT))),
+    Step::Disconnects(0, true),
+    // A session that sent a packet at fault isn't taken up.
+    Step::Connects(C, Some(1)),
+    Step::Says(1, Said::HelloAs(B, 1), Got::Welcome(12)),
+    Step::Says(1, Said::Hello, Got::Fault(SessionFault::Again)),
+    Step::Slots(1),
+    Step::Ends(0, 1),
+    Step::Slots(0),
+    Step::IsFree(0),
+];
+
+#[test]
+fn faults_end_a_session_and_its_slots_stay(rt: HostRuntime) {
+    play(&rt, rt.alloc(), &FAULTS);
+}
+
+const TAKEN_UP: [Step; 20] = [
+    Step::Connects(A, Some(0)),
+    Step::Says(0, Said::Hello, Got::Welcome(10)),
+    Step::Says(0, Said::Lend(2), Got::Lent(2, 1)),
+    // It is connected still.
+    Step::Connects(B, Some(1)),
+    Step::Says(1, Said::HelloAs(A, 1), Got::Welcome(11)),
+    Step::Disconnects(0, true),
+    Step::HasLink(0, Some(Link::Gone)),
+    Step::Slots(2),
+    Step::Says(0, Said::Release(4), Got::Nothing),
+    Step::Connects(C, Some(2)),
+    Step::Connects(D, None),
+    Step::Says(2, Said::HelloAs(A, 1), Got::Resumed(10, 0, 0)),
+    Step::IsFree(0),
+    Step::HasSlots(2, 2),
+    Step::HasSlots(1, 0),
+    Step::Says(1, Said::Release(4), Got::Freed(0, 1)),
+    Step::Says(2, Said::Release(4), Got::Freed(0, 1)),
+    Step::Ends(2, 1),
+    Step::Slots(0),
+    Step::Clients(1),
+];
+
+#[test]
+fn a_session_is_taken_up_by_its_name(rt: HostRuntime) {
+    play(&rt, rt.alloc(), &TAKEN_UP);
+}
+
+const LOST_REPLY: [Step; 17] = [
+    Step::Connects(A, Some(0)),
+    Step::Says(0, Said::Hello, Got::Welcome(10)),
+    Step::Says(0, Said::Lend(1), Got::Lent(1, 1)),
+    Step::Says(0, Said::Lend(4), Got::Lent(2, 2)),
+    Step::Disconnects(0, true),
+    // The first reply came, and the second one got lost, with two slots.
+    Step::Connects(B, Some(1)),
+    Step::Says(1, Said::HelloAs(A, 1), Got::Resumed(10, 0, 2)),
+    Step::HasSlots(1, 1),
+    Step::Slots(1),
+    Step::Disconnects(1, true),
+    // Both sides count from one now, and the message that got lost before the host heard it changes nothing.
+    Step::Connects(C, Some(0)),
+    Step::Says(0, Said::HelloAs(A, 1), Got::Resumed(10, 1, 0)),
+    Step::Says(0, Said::Lend(1), Got::Lent(1, 2)),
+    Step::Disconnects(0, true),
+    Step::Connects(D, Some(1)),
+    Step::Says(1, Said::HelloAs(A, 2), Got::Resumed(10, 0, 0)),
+    Step::HasSlots(1, 2),
+];
+
+#[test]
+fn slots_of_a_lost_reply_are_released(rt: HostRuntime) {
+    play(&rt, rt.alloc(), &LOST_REPLY);
+}
