@@ -38,7 +38,8 @@ LONG = ("soak",)
 IN_GATE = {
     "words": 60, "hostile": 240, "tables": 300, "fuzz": 120, "stress": 240, "restarts": 300, "sanitizers": 600, "denied": 120, "hangup": 120,
     "descriptors-sent": 240, "quotas": 120, "breaker": 240, "storm": 240, "parts": 300, "forks": 300, "pins": 600, "lent-again": 300, "newcomer": 120,
-    "locks": 300, "endings": 300, "devices": 120, "size": 600, "paced": 60, "names": 60, "counts": 60, "refused": 60, "kvm": 300, "ends": 600, "remote": 60,
+    "locks": 300, "endings": 300, "devices": 120, "size": 600, "runs": 180, "paced": 60, "names": 60, "counts": 60, "refused": 60, "kvm": 300,
+    "ends": 600, "remote": 60,
 }
 
 if __name__ == "__main__":

@@ -32,10 +32,9 @@ class Kind:
     is_local: bool = False
 
 
-USUAL, SHORT, ALONE = Kind(40, 10, 16, 20), Kind(40, 10, 16, 5), Kind(50, 0, 1, 1)
+USUAL, SHORT, ALONE, RUNS = Kind(40, 10, 16, 20), Kind(40, 10, 16, 5), Kind(50, 0, 1, 1), Kind(60, 0, 16, 1)
 # (so many zeros that each part of the memory is split)
-LATE_AT = 25
-FIRST, LATER = (Kind(40, 20, 16, 20, late, True) for late in (1, LATE_AT))
+FIRST = Kind(40, 20, 16, 20, 1, True)
 Counts = dict[str, Any]  # as JSON has them
 
 
@@ -90,8 +89,13 @@ def settled(series: list[tuple[float, Counts]]) -> float:
     return float(after["processor_ns"] - before["processor_ns"]) / (last - first) / 1e7
 
 
+def at_second(series: list[tuple[float, Counts]], seconds: float) -> Counts:
+    """The counts of a process so many seconds after its memory was filled."""
+    return min(series, key=lambda it: abs(it[0] - seconds))[1]
+
+
 def run_size(
-    sizes: Sequence[int], kinds: Sequence[Kind], seconds: int, is_huge: bool = True, memory: str = "4G", lent: str = "64G",
+    sizes: Sequence[int], kinds: Sequence[Kind], seconds: int, is_huge: bool = True, memory: str = "4G", lent: str = "64G", late: int = 0,
 ) -> tuple[list[Counts], Counts]:
     """Processes of these sizes and kinds beside one host. Answers for each what it said, and its row; and the host's state before the end."""
     host = Host("--lent", lent, memory=memory)
@@ -103,8 +107,9 @@ def run_size(
     said = [it.end(seconds + fill + 240) for it in made]
     rows = []
     for it, end in zip(made, said):
-        last = it.series[-1][1]
+        last, before = it.series[-1][1], at_second(it.series, late)
         rows.append({
+            "late_round_ms": before["round_ms"], "late_credit_ms": before["credit_ms"],
             "mib": it.mib, **end, "seconds_to_95": seconds_to_95(it.series), "thread_percent": settled(it.series),
             "lent_most": max(sample["lent"] for _, sample in it.series), "pages_of_mapping": last["lent"] / max(1, last["mappings"]), **{
                 name: last[name] for name in (
@@ -154,8 +159,8 @@ def case_size() -> None:
             if is_huge:
                 huge_pages_stay(rows)
             table[name] = {"rows": rows, "host": state, "alone": alone}
-    # (runs of one page: each page that is lent is a mapping by itself)
-    rows, state = run_size([512, 512], [ALONE] * 2, max(seconds, 45))
+    # (half of the pages are equal, one by one: so most that are lent are a mapping by themselves)
+    rows, state = run_size([768, 768], [ALONE] * 2, max(seconds, 45))
     show("runs of 1", rows, state)
     is_met = [it["no_mapping"] > 0 for it in rows]
     print(f"  the limit of {LIMIT} mappings was {'met' if any(is_met) else 'not met'}")
@@ -167,16 +172,32 @@ def case_size() -> None:
     (OUT / "size.json").write_text(json.dumps(table, indent=1))
 
 
-def case_late() -> None:
-    """Pages that become equal late (SIZES=MIB, by default 1024): how long it takes until they are shared."""
+def case_runs() -> None:
+    """Runs of 16 equal pages are few mappings, also where a domain has many machines (SIZES=MIB of both guests; LENT=64G)."""
     compile_c("size")
-    mib = int(os.environ.get("SIZES", "1024"))
-    rows, state = run_size([mib, max(256, mib // 2 if mib < 4096 else mib // 4)], [LATER, FIRST], LATE_AT + 75, memory="1G", lent="4G")
+    mib, lent = int(os.environ.get("SIZES", "512")), os.environ.get("LENT", "64G")
+    rows, state = run_size([mib, mib], [RUNS] * 2, 30 + mib // 50, lent=lent)
+    show(f"runs of 16, --lent {lent}", rows, state)
+    for row in rows:
+        must(row["pages_of_mapping"] >= 4, f"too few pages a mapping: {row}")
+
+
+def case_late() -> None:
+    """Pages that become equal late (SIZES=MIB or MIB,MIB of the other, by default 1024; LATE=SECONDS): how long it takes until they are shared."""
+    compile_c("size")
+    mib, *others = [int(it) for it in os.environ.get("SIZES", "1024").split(",")]
+    other = others[0] if others else max(256, mib // 2 if mib < 4096 else mib // 4)
+    # (by then the thread has spent most of what it may use for what is new)
+    late = int(os.environ.get("LATE", 60 + mib // 32))
+    memory, lent = max(1024, (mib + other) // 4), max(4096, mib + other)
+    kinds = [dataclasses.replace(FIRST, late=late), FIRST]
+    rows, state = run_size([mib, other], kinds, late + 75, memory=f"{memory}M", lent=f"{lent}M", late=late)
     show("late", rows, state)
     since = max(row["late_s"] for row in rows)
     for row in rows:
         times = [row[name] - since if row[name] >= 0 else float("inf") for name in ("late_half_s", "late_95_s")]
-        print(f"  {row['mib']} MiB: half of the pages that became equal late were shared {times[0]:.1f} s later, 95 % {times[1]:.1f} s")
+        print(f"  {row['mib']} MiB: half of the pages that became equal late were shared {times[0]:.1f} s later, 95 % {times[1]:.1f} s; a look took "
+              f"{row['late_round_ms']} ms before, and the thread had {row['late_credit_ms']} ms left for what is new")
         must(times[0] < float("inf"), f"they weren't shared: {row}")
 
 
