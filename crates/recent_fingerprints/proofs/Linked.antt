@@ -1,5 +1,5 @@
 -- Notes in chains.
-use Rattle.std.proofs.Common.{◌≡◌, ℕ, ◌+◌, ◌-◌, ◌*◌, ◌%◌, ◌^◌, ◌<◌, ◌≤◌, ◌≢◌, min, Bool, true, false, not, ◌&&◌, ◌||◌, cond, eqb, List, [], ◌∷◌, length, get_or, take, drop, map, sym, refl, ap, ◌∙◌, arith, subst, ◌⊎◌, ⊎_elim, inl, inr}
+use Rattle.std.proofs.Common.{◌≡◌, ℕ, ◌+◌, ◌-◌, ◌*◌, ◌%◌, ◌^◌, ◌<◌, ◌≤◌, min, Bool, true, false, not, ◌&&◌, ◌||◌, cond, eqb, List, [], ◌∷◌, length, get_or, take, drop, map, sym, refl, ap, ◌∙◌, arith, subst, ◌⊎◌, ⊎_elim, inl, inr}
 use Prim.Native.Nat.{zero, suc}
 use Rattle.std.specs.List.{list_any}
 use Rattle.std.proofs.lemmas.Bool.Decides.{eqb_tells}
@@ -11,6 +11,7 @@ use Rattle.std.proofs.lemmas.Nat.{pow_pos}
 use Rattle.std.proofs.Math.ListN.{set}
 use Rattle.recent_fingerprints.specs.declared.note.Note.{Note}
 use Rattle.recent_fingerprints.specs.declared.note.Place.{Place}
+use Rattle.recent_fingerprints.specs.Halved.{whole}
 use Rattle.recent_fingerprints.specs.Notes.{counts, is_same, is_same_page, is_other}
 use Rattle.recent_fingerprints.specs.Chains.{note_in, first_where, bucket_of, in_bucket, comes_next, AreLinked, begins_in, age_of, age_in, IsHead, AreKept}
 
@@ -79,7 +80,7 @@ other-tests home a b r h =
 -- a note of another page with the fingerprint is in its bucket
 pub other-shares : (f s : ℕ) (lives : List ℕ) (asked : Note) (x : Place) → in_bucket f s (bucket_of f s asked.fingerprint) x ≡ false → is_other lives asked (note_in x) ≡ false
 other-shares f s lives asked x h =
-    other-tests (bucket_of f s) asked.fingerprint x.fingerprint (not (is_same_page (note_in x).page asked.page) && counts lives (note_in x)) h
+    other-tests (bucket_of f s) asked.fingerprint (whole x.fingerprint) (not (is_same_page (note_in x).page asked.page) && counts lives (note_in x)) h
 
 both : (a b : Bool) → (a && b) ≡ true → (a ≡ true) × (b ≡ true)
 both true b h = (refl, h)
@@ -101,11 +102,11 @@ same-fields a b h =
 -- it may follow any note of that bucket that isn't one itself
 pub other-follows : (f s : ℕ) (lives : List ℕ) (asked : Note) (p x : Place) → in_bucket f s (bucket_of f s asked.fingerprint) p ≡ true → is_other lives asked (note_in p) ≡ false → comes_next f s (note_in p) x ≡ false → is_other lives asked (note_in x) ≡ false
 other-follows f s lives asked p x here nope h =
-    let meets : bucket_of f s p.fingerprint ≡ bucket_of f s asked.fingerprint = eqb-true _ _ here in
+    let meets : bucket_of f s (whole p.fingerprint) ≡ bucket_of f s asked.fingerprint = eqb-true _ _ here in
     ⊎_elim
     (λ e. other-shares f s lives asked x (subst (λ b. in_bucket f s b x ≡ false) meets e))
     (λ e. let t = same-fields (note_in p) (note_in x) e in rw (← t.0, ← t.1, ← t.2, ← t.3) nope)
-    (one-of (in_bucket f s (bucket_of f s p.fingerprint) x) (is_same (note_in p) (note_in x)) h)
+    (one-of (in_bucket f s (bucket_of f s (whole p.fingerprint)) x) (is_same (note_in p) (note_in x)) h)
 
 pub next-shares : (f s : ℕ) (note : Note) (x : Place) → in_bucket f s (bucket_of f s note.fingerprint) x ≡ false → comes_next f s note x ≡ false
 next-shares f s note x h = rw h refl
@@ -157,8 +158,8 @@ search-finds f s lives asked ring age p h lt e hit = h.same ∙ ap (list_any (λ
 same-bucket : (f s : ℕ) (lives : List ℕ) (asked : Note) (p : Place) → in_bucket f s (bucket_of f s asked.fingerprint) p ≡ true → (xs : List Place) → BeginsWith (comes_next f s (note_in p)) xs → BeginsWith (in_bucket f s (bucket_of f s asked.fingerprint)) xs
 same-bucket f s lives asked p here [] h = tt
 same-bucket f s lives asked p here (x ∷ xs) h =
-    let meets : bucket_of f s p.fingerprint ≡ bucket_of f s asked.fingerprint = eqb-true _ _ here in
-    let t = both (in_bucket f s (bucket_of f s p.fingerprint) x) (not (is_same (note_in p) (note_in x))) h in
+    let meets : bucket_of f s (whole p.fingerprint) ≡ bucket_of f s asked.fingerprint = eqb-true _ _ here in
+    let t = both (in_bucket f s (bucket_of f s (whole p.fingerprint)) x) (not (is_same (note_in p) (note_in x))) h in
     subst (λ b. in_bucket f s b x ≡ true) meets t.0
 
 step : (f s : ℕ) (lives : List ℕ) (asked : Note) (p : Place) (rest : List Place) → AreLinked f s (p ∷ rest) → in_bucket f s (bucket_of f s asked.fingerprint) p ≡ true → is_other lives asked (note_in p) ≡ false → (list_any (λ p. is_other lives asked (note_in p)) (p ∷ rest) ≡ list_any (λ p. is_other lives asked (note_in p)) (drop p.between rest)) × BeginsWith (in_bucket f s (bucket_of f s asked.fingerprint)) (drop p.between rest)
@@ -302,7 +303,7 @@ head-new f s b p rest number here n = record {
   first = new-first f s b p rest here ∙ sym (new-age f s b p rest here) ∙ ap (age_in f s b (p ∷ rest)) (sym (newest-age number n));
 }
 
-pub kept-more : (ring : List Place) (heads : List ℕ) (f s places newest room bucket : ℕ) (p : Place) → AreKept ring heads f s places newest room → bucket ≡ bucket_of f s p.fingerprint → p.between ≡ first_where (comes_next f s (note_in p)) ring → AreKept (p ∷ take (places - 1) ring) (set heads bucket ((newest + 1) % 2 ^ 32)) f s places ((newest + 1) % 2 ^ 32) room
+pub kept-more : (ring : List Place) (heads : List ℕ) (f s places newest room bucket : ℕ) (p : Place) → AreKept ring heads f s places newest room → bucket ≡ bucket_of f s (whole p.fingerprint) → p.between ≡ first_where (comes_next f s (note_in p)) ring → AreKept (p ∷ take (places - 1) ring) (set heads bucket ((newest + 1) % 2 ^ 32)) f s places ((newest + 1) % 2 ^ 32) room
 kept-more ring heads f s places newest room bucket p h own link =
     let l = length-take (places - 1) ring in
     let some = h.some in
@@ -322,7 +323,7 @@ kept-more ring heads f s places newest room bucket p h own link =
           let inside : b < length heads = omega (arith, lt, sets) in
           ⊎_elim
           (λ e. subst (IsHead f s b (p ∷ take (places - 1) ring) ((newest + 1) % 2 ^ 32)) (sym (ap (λ i. get_or (set heads i ((newest + 1) % 2 ^ 32)) b 0) (sym e.1) ∙ get_or-set_same heads b ((newest + 1) % 2 ^ 32) 0 inside)) (head-new f s b p (take (places - 1) ring) ((newest + 1) % 2 ^ 32) (eq-eqb _ _ (sym own ∙ sym e.1)) number))
-          (λ e. subst (IsHead f s b (p ∷ take (places - 1) ring) ((newest + 1) % 2 ^ 32)) (sym (get_or-set_other heads bucket b ((newest + 1) % 2 ^ 32) 0 e.1)) (head-stays f s b (places - 1) p ring newest (get_or heads b 0) (ne_eqb (bucket_of f s p.fingerprint) b (λ q. e.1 (sym q ∙ sym own))) h.fits (let a = h.few in let c = h.limit in omega (arith, a, c)) (h.headed b inside)))
+          (λ e. subst (IsHead f s b (p ∷ take (places - 1) ring) ((newest + 1) % 2 ^ 32)) (sym (get_or-set_other heads bucket b ((newest + 1) % 2 ^ 32) 0 e.1)) (head-stays f s b (places - 1) p ring newest (get_or heads b 0) (ne_eqb (bucket_of f s (whole p.fingerprint)) b (λ q. e.1 (sym q ∙ sym own))) h.fits (let a = h.few in let c = h.limit in omega (arith, a, c)) (h.headed b inside)))
           (eqb_tells b bucket);
     }
 

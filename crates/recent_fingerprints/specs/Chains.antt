@@ -3,14 +3,12 @@ use Rattle.std.specs.Prelude.{◌≡◌, ℕ, suc, ◌+◌, ◌-◌, ◌*◌, �
 use Rattle.recent_fingerprints.specs.declared.note.Note.{Note}
 use Rattle.recent_fingerprints.specs.declared.note.Place.{Place}
 use Rattle.recent_fingerprints.specs.declared.limits.TheConstants.{MAX_PLACES}
+use Rattle.recent_fingerprints.specs.Halved.{whole}
 use Rattle.recent_fingerprints.specs.Notes.{is_same}
 
--- the note in a place, and a note's place
+-- the note in a place
 abbrev pub note_in : Place → Note
-note_in p = record { fingerprint = p.fingerprint; page = record { client = p.client; number = p.number }; life = p.life }
-
-abbrev pub place_of : Note → ℕ → Place
-place_of note between = record { fingerprint = note.fingerprint; number = note.page.number; life = note.life; client = note.page.client; between = between }
+note_in p = record { fingerprint = whole p.fingerprint; page = record { client = p.client; number = whole p.number }; life = p.life }
 
 -- how many stand before the first that passes the test
 abbrev pub first_where : {X : Type 0} → (X → Bool) → List X → ℕ
@@ -29,7 +27,7 @@ pub record IsBucketCount (places count : ℕ) : Type 0 where
 
 -- whether a note is in a bucket
 abbrev pub in_bucket : ℕ → ℕ → ℕ → Place → Bool
-in_bucket factor shift bucket p = bucket_of factor shift p.fingerprint == bucket
+in_bucket factor shift bucket p = bucket_of factor shift (whole p.fingerprint) == bucket
 
 -- whether a note may follow this one in its chain: it is in the same bucket, and not the same
 abbrev pub comes_next : ℕ → ℕ → Note → Place → Bool
@@ -67,6 +65,6 @@ pub record AreKept (ring : List Place) (heads : List ℕ) (factor shift places n
   pub fits : newest < 2 ^ 32
   pub shifted : shift < 64
   pub all_buckets : length heads * 2 ^ shift ≡ 2 ^ 64
-  pub buckets : IsBucketCount places (length heads)
+  pub buckets : IsBucketCount (places / 2) (length heads)
   pub linked : AreLinked factor shift ring
   pub headed : (b : ℕ) → b < length heads → IsHead factor shift b ring newest (slice_index heads b)

@@ -50,4 +50,4 @@ with_note page fingerprint r = record r { notes = take r.places (note_of r.lives
 
 -- a client has ended: who has its number from now on has another life
 abbrev pub forgotten : ℕ → Recent → Recent
-forgotten client r = record r { lives = slice_set r.lives client ((life_of r.lives client + 1) % 2 ^ 64) }
+forgotten client r = record r { lives = slice_set r.lives client ((life_of r.lives client + 1) % 2 ^ 32) }

@@ -22,7 +22,7 @@ pub(crate) struct Chains<A: Allocator> {
 
 impl<A: Allocator> Chains<A> {
     // Whether another page was noted with the fingerprint of this note, by a client that has not ended since.
-    pub(crate) fn has_other(&self, lives: &[u64], asked: Note) -> bool
+    pub(crate) fn has_other(&self, lives: &[u32], asked: Note) -> bool
         requires { AreKept self.now.ring.items self.now.heads.items self.now.buckets.factor self.now.buckets.shift self.now.places self.now.newest (deque_capacity self.now.ring) }
         ensures { result ≡ list_any (is_other lives.now asked) (map note_in self.now.ring.items) }
     {
@@ -63,7 +63,7 @@ impl<A: Allocator> Chains<A> {
         if age >= self.ring.len() {
             return self.ring.len();
         }
-        if self.buckets.of(self.ring[age].fingerprint) != bucket {
+        if self.buckets.of(self.ring[age].fingerprint.number()) != bucket {
             return self.ring.len();
         }
         age
@@ -106,7 +106,7 @@ fn put_first<A: Allocator>(ring: &mut VecDeque<Place, A>, places: u32, place: Pl
 
 // Whether a note is of another page with the fingerprint of the note asked about, and its client has not ended since.
 #[inline]
-fn is_other(lives: &[u64], asked: Note, note: Note) -> bool
+fn is_other(lives: &[u32], asked: Note, note: Note) -> bool
     ensures { result ≡ is_other lives.now asked note }
 {
     if note.fingerprint != asked.fingerprint {
@@ -119,7 +119,7 @@ fn is_other(lives: &[u64], asked: Note, note: Note) -> bool
 }
 
 // Returns the life number of the client with this number, 0 if none is kept.
-pub(crate) fn life_of(lives: &[u64], client: u32) -> u64
+pub(crate) fn life_of(lives: &[u32], client: u32) -> u32
     ensures { result ≡ life_of lives.now client }
 {
     if client as usize >= lives.len() {

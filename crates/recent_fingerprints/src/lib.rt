@@ -7,6 +7,7 @@
 
 mod buckets;
 mod chain;
+mod halves;
 mod laws;
 mod limits;
 mod note;

@@ -1,6 +1,9 @@
 //! What is noted.
 ghost use Rattle.std.specs.Prelude.{◌≡◌};
-ghost use Rattle.recent_fingerprints.specs.Chains.{note_in, place_of};
+ghost use Rattle.recent_fingerprints.specs.Chains.{note_in};
+
+use crate::halves::Halves;
+use std::mem::size_of;
 
 /// A page, by its client and by a number that the caller gives to each of the client's pages.
 #[derive(Clone, Copy, Debug, PartialEq, Eq)]
@@ -18,29 +21,32 @@ pub struct Note {
     pub fingerprint: u64,
     /// The page.
     pub page: PageName,
-    /// The life of the page's client: how many clients with its number have ended, modulo 2^64.
-    pub life: u64,
+    /// The life of the page's client: how many clients with its number have ended, modulo 2^32.
+    pub life: u32,
 }
 
-// A note in its place, in 32 bytes, and how many notes stand between it and the next older one of its chain. The chain ends if that
+// A note in its place, in 28 bytes, and how many notes stand between it and the next older one of its chain. The chain ends if that
 // one would be beyond the last place.
 #[derive(Clone, Copy)]
 pub(crate) struct Place {
-    pub(crate) fingerprint: u64,
-    pub(crate) number: u64,
-    pub(crate) life: u64,
+    pub(crate) fingerprint: Halves,
+    pub(crate) number: Halves,
+    pub(crate) life: u32,
     pub(crate) client: u32,
     pub(crate) between: u32,
 }
 
+const _: () = prove!(size_of::<Place>() == 28);
+
 impl Place {
     // Puts a note into a place.
     pub(crate) fn of(note: Note, between: u32) -> Place
-        ensures { result ≡ place_of note between }
+        ensures note { note_in result ≡ note }
+        ensures between { result.between ≡ between }
     {
         Place {
-            fingerprint: note.fingerprint,
-            number: note.page.number,
+            fingerprint: Halves::of(note.fingerprint),
+            number: Halves::of(note.page.number),
             life: note.life,
             client: note.page.client,
             between,
@@ -53,10 +59,10 @@ impl Place {
         ensures { result ≡ note_in self }
     {
         Note {
-            fingerprint: self.fingerprint,
+            fingerprint: self.fingerprint.number(),
             page: PageName {
                 client: self.client,
-                number: self.number,
+                number: self.number.number(),
             },
             life: self.life,
         }

@@ -17,7 +17,7 @@ use std::marker::Model;
 #[derive(Drop)]
 pub struct RecentFingerprints<A: Allocator = Global> {
     chains: Chains<A>,
-    lives: Vec<u64, A>,
+    lives: Vec<u32, A>,
 }
 
 impl<A: Allocator> Model for RecentFingerprints<A> {
@@ -36,8 +36,8 @@ impl<A: Allocator> Model for RecentFingerprints<A> {
 impl<A: Allocator + Clone> RecentFingerprints<A> {
     ghost use Rattle.recent_fingerprints.specs.declared.limits.TheConstants.{MAX_PLACES};
 
-    /// Makes an empty list of notes with `places` places, 32 bytes each, and 4 to 8 more for the buckets. Each of the `clients`
-    /// clients takes 8 bytes. The caller draws the seed at random and keeps it secret: knowing it, one can choose fingerprints
+    /// Makes an empty list of notes with `places` places, 28 bytes each, and 2 to 4 more for the buckets. Each of the `clients`
+    /// clients takes 4 bytes. The caller draws the seed at random and keeps it secret: knowing it, one can choose fingerprints
     /// that take long to look up. No result depends on it.
     pub fn new(
         alloc: A,
@@ -50,7 +50,7 @@ impl<A: Allocator + Clone> RecentFingerprints<A> {
         ensures { IfOk result (λ recent. recent ≡ nothing_noted places clients seed) }
     {
         let lives = new_lives(alloc.clone()?, clients)?;
-        let (count, shift) = bucket_count(places);
+        let (count, shift) = bucket_count(places / 2);
         let mut heads = Vec::new(alloc.clone()?);
         heads.resize(count as usize, 0)?;
         let ring = VecDeque::with_capacity(alloc, places as usize)?;
@@ -72,7 +72,7 @@ impl<A: Allocator + Clone> RecentFingerprints<A> {
 }
 
 // Returns the life numbers of `clients` clients, all 0: none has ended.
-fn new_lives<A: Allocator>(alloc: A, clients: u32) -> Result<Vec<u64, A>, AllocError>
+fn new_lives<A: Allocator>(alloc: A, clients: u32) -> Result<Vec<u32, A>, AllocError>
     ensures { IfOk result (λ lives. lives.items ≡ replicate clients 0) }
 {
     let mut lives = Vec::with_capacity(alloc, clients as usize)?;
@@ -83,7 +83,7 @@ fn new_lives<A: Allocator>(alloc: A, clients: u32) -> Result<Vec<u64, A>, AllocE
 }
 
 // Returns the note of a page with its fingerprint.
-fn note_of(lives: &[u64], page: PageName, fingerprint: u64) -> Note
+fn note_of(lives: &[u32], page: PageName, fingerprint: u64) -> Note
     ensures { result ≡ note_of lives.now page fingerprint }
 {
     Note {
@@ -112,8 +112,9 @@ impl<A: Allocator> RecentFingerprints<A> {
         self.chains.has_other(&self.lives, asked)
     }
 
-    /// A client has ended. Its notes are ignored from now on, even after another client gets its number. Nothing changes if the
-    /// number isn't below the `clients` of `new`.
+    /// A client has ended. Its notes are ignored from now on, even after another client gets its number. They would count again
+    /// only where exactly 4,294,967,296 clients with its number, or a multiple of that, have ended since they were noted. Nothing
+    /// changes if the number isn't below the `clients` of `new`.
     pub fn forget(&mut self, client: u32)
         ensures { self.new ≡ forgotten client self.old }
     {

@@ -1,6 +1,6 @@
-use Rattle.std.proofs.Common.{map, take, ◌-◌, ◌∷◌, arith, ap, ◌∙◌}
-use Rattle.recent_fingerprints.specs.declared.note.Place.{Place}
-use Rattle.recent_fingerprints.specs.Chains.{comes_next, note_in, place_of}
+use Rattle.std.proofs.Common.{map, take, ◌∷◌, arith, sym, ap, ◌∙◌}
+use Rattle.recent_fingerprints.specs.declared.note.Note.{Note}
+use Rattle.recent_fingerprints.specs.Chains.{bucket_of, comes_next, first_where, note_in}
 use Rattle.recent_fingerprints.proofs.Linked.{bucket-within, first-le, kept-more, notes-more}
 use Rattle.recent_fingerprints.proofs.chain.Chains.put.Goals as goal
 
@@ -27,9 +27,13 @@ index_mut-requires g c =
 pub returns-clause-kept : goal.returns-clause-kept
 returns-clause-kept g c =
     let s = c.args.self.now in
-    rw (c.put_first.ensures.items, c.put_first.ensures.capacity, c.of.ensures) (kept-more s.ring.items s.heads.items s.buckets.factor s.buckets.shift s.places s.newest _ c.of-bucket.result (place_of c.args.note c.between-between.result) c.requires c.of-bucket.ensures c.between-between.ensures)
+    rw (c.put_first.ensures.items, c.put_first.ensures.capacity)
+    (kept-more s.ring.items s.heads.items s.buckets.factor s.buckets.shift s.places s.newest _ c.of-bucket.result c.of.result c.requires
+    (c.of-bucket.ensures ∙ ap (λ (n : Note). bucket_of s.buckets.factor s.buckets.shift n.fingerprint) (sym c.of.ensures.note))
+    (c.of.ensures.between ∙ c.between-between.ensures ∙ ap (λ (n : Note). first_where (comes_next s.buckets.factor s.buckets.shift n) s.ring.items) (sym c.of.ensures.note)))
 
 pub returns-clause-notes : goal.returns-clause-notes
 returns-clause-notes g c =
     let s = c.args.self.now in
-    ap (map note_in) c.put_first.ensures.items ∙ ap (λ (p : Place). map note_in (p ∷ take (s.places - 1) s.ring.items)) c.of.ensures ∙ notes-more (place_of c.args.note c.between-between.result) s.ring.items s.places c.requires.some
+    ap (map note_in) c.put_first.ensures.items ∙ notes-more c.of.result s.ring.items s.places c.requires.some
+    ∙ ap (λ (n : Note). take s.places (n ∷ map note_in s.ring.items)) c.of.ensures.note
