@@ -11,4 +11,6 @@ mod frames;
 #[cfg(test)]
 mod hashes;
 #[cfg(test)]
+mod lists;
+#[cfg(test)]
 mod tables;
