@@ -1,7 +1,7 @@
 -- Slots of which none is held.
-use Rattle.std.proofs.Common.{◌≡◌, ℕ, zero, suc, ◌+◌, ◌<◌, ◌≤◌, Bool, cond, List, [], ◌∷◌, ◌++◌, ◌⊎◌, inl, inr, length, replicate, Option, Some, None, IsSome, is_some, refl, ap, sym, subst, ◌∙◌, arith}
-use Rattle.std.specs.Prelude.{slice_get, slice_index_or, count_by, nat_lt, ◌==◌}
-use Rattle.std.proofs.lemmas.Bool.{cases_eq, cases_lt, eq-eqb, ne_eqb, lt-ltb, le-ltb}
+use Rattle.std.proofs.Common.{◌≡◌, ℕ, zero, suc, ◌<◌, ◌≤◌, cond, List, [], ◌∷◌, ◌⊎◌, inl, inr, length, replicate, Option, Some, None, IsSome, is_some, refl, ap, sym, subst, ◌∙◌, arith}
+use Rattle.std.specs.Prelude.{slice_get, count_by, nat_lt}
+use Rattle.std.proofs.lemmas.Bool.{cases_lt, lt-ltb, le-ltb}
 use Rattle.std.specs.Option.{option_map}
 use Rattle.std.proofs.lemmas.List.{length-replicate}
 use Rattle.std.proofs.lemmas.List.Folds.{sum_by-replicate}
@@ -15,8 +15,9 @@ use Rattle.merge_core.specs.Shown.{Shown, state_of, FramesOfPages}
 use Rattle.merge_core.specs.Stays.{frame_at}
 use Rattle.lent_slots.specs.declared.holding.Holding.{Holding}
 use Rattle.lent_slots.specs.Fits.{Fits, ListsFree, Counts, Sound, times_free}
-use Rattle.lent_slots.proofs.Sounds.{bit, times, times_push}
+use Rattle.lent_slots.proofs.Tags.{bit, zeros, chain_length, chain_new}
 use Rattle.lent_slots.specs.Slots.{holding, has_frame, sharers}
+use Rattle.lent_slots.specs.Tags.{chain}
 use Rattle.lent_slots.proofs.Moves.{taken_at, not_taken}
 
 -- no slot is held
@@ -33,11 +34,6 @@ none_is n = sum_by-replicate (λ (o : Option Holding). cond (is_some o) 1 0) n N
 
 pub none_used : (n : ℕ) → used (no_frames n) ≡ 0
 none_used n = sum_by-replicate (λ (o : Option (List ℕ)). cond (is_some o) 1 0) n None ∙ omega arith
-
-pub zeros : (n m : ℕ) → let z : ℕ = 0 in slice_index_or (replicate n z) m z ≡ z
-zeros zero m = refl
-zeros (suc n) zero = refl
-zeros (suc n) (suc m) = zeros n m
 
 -- a new core's pages are the slots
 abbrev new_state : ℕ → ℕ → ℕ → State
@@ -86,17 +82,7 @@ sound_new c free total count fits listed frames least most few =
       few = (omega (arith, few, length-replicate {A = Option Holding} count None), omega (arith, size, most));
     }
 
--- the list of the first slots has each of them once
-pub lists_more : (free : List ℕ) (i q : ℕ) → ((k : ℕ) → times k free ≡ bit (nat_lt k i)) → times q (free ++ i ∷ []) ≡ bit (nat_lt q (i + 1))
-lists_more free i q h = times_push q i free ∙ ap (λ (n : ℕ). n + bit (i == q)) (h q) ∙ pick (cases_eq i q) where
-  pick : ((i ≡ q) ⊎ (i ≡ q → ⊥)) → bit (nat_lt q i) + bit (i == q) ≡ bit (nat_lt q (i + 1))
-  pick (inl e) =
-      ap (λ (b : Bool). bit b + bit (i == q)) (le-ltb q i (omega arith)) ∙ ap (λ (b : Bool). 0 + bit b) (eq-eqb i q e) ∙ sym (ap bit (lt-ltb q (i + 1) (omega arith)))
-  pick (inr n) = ap (λ (b : Bool). bit (nat_lt q i) + bit b) (ne_eqb i q n) ∙ less (cases_lt q i) where
-    less : ((q < i) ⊎ (i ≤ q)) → bit (nat_lt q i) + 0 ≡ bit (nat_lt q (i + 1))
-    less (inl l) = ap (λ (b : Bool). bit b + 0) (lt-ltb q i l) ∙ sym (ap bit (lt-ltb q (i + 1) (omega arith)))
-    less (inr l) = ap (λ (b : Bool). bit b + 0) (le-ltb q i l) ∙ sym (ap bit (le-ltb q (i + 1) (omega (arith, l, n))))
-
+-- the free slots are all of them
 free_there : (count q : ℕ) → times_free (slice_get {X = Option Holding} (replicate count None) q) ≡ bit (nat_lt q count)
 free_there count q = pick (cases_lt q count) where
   inside : (n k : ℕ) → k < n → slice_get {X = Option Holding} (replicate n None) k ≡ Some None
@@ -113,8 +99,8 @@ free_there count q = pick (cases_lt q count) where
   pick (inl l) = ap times_free (inside count q l) ∙ sym (ap bit (lt-ltb q count l))
   pick (inr l) = ap times_free (outside count q l) ∙ sym (ap bit (le-ltb q count l))
 
-pub lists_all : (free : List ℕ) (count : ℕ) → ((k : ℕ) → times k free ≡ bit (nat_lt k count)) → length free ≡ count → ListsFree (replicate count None) free
-lists_all free count h size = record {
-  once = λ q. h q ∙ sym (free_there count q);
-  count = omega (arith, size, none_is count, length-replicate {A = Option Holding} count None);
+pub lists_new : (count : ℕ) → ListsFree (replicate count None) (chain (replicate count 0) 0 count)
+lists_new count = record {
+  once = λ q. chain_new count q ∙ sym (free_there count q);
+  count = omega (arith, chain_length (replicate count 0) 0 count, none_is count, length-replicate {A = Option Holding} count None);
 }

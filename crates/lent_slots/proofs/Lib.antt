@@ -1,4 +1,5 @@
 pub mod SlotLists
+pub mod Tags
 pub mod Moves
 pub mod Noted
 pub mod Lent
@@ -6,6 +7,7 @@ pub mod Given
 pub mod Sounds
 pub mod Owned
 pub mod Empty
+pub mod Turns
 pub mod Bytes
 pub mod Refused
 pub mod Lends

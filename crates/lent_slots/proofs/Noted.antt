@@ -1,8 +1,7 @@
 -- What is noted of clients stays so as slots are lent and released.
 use Rattle.std.proofs.Common.{◌≡◌, ℕ, zero, suc, ◌+◌, ◌-◌, ◌<◌, ◌≤◌, Bool, true, false, cond, List, [], ◌∷◌, length, drop, replicate, Option, Some, None, refl, ap, sym, subst, ◌∙◌, ◌⊎◌, inl, inr, arith}
-use Rattle.std.specs.Prelude.{slice_set, slice_index_or, position, count_by, nat_le, nat_lt, ◌==◌}
+use Rattle.std.specs.Prelude.{slice_set, slice_index_or, position, nat_le, nat_lt, ◌==◌}
 use Rattle.std.specs.List.{position_from}
-use Rattle.std.specs.Option.{option_map}
 use Rattle.std.proofs.lemmas.Bool.{cases_eq, cases_lt, eq-eqb, ne_eqb, eqb-true, leb-true, leb-false, ltb-true, false≢true}
 use Rattle.std.proofs.lemmas.Iterator.Adapters.{position_from-zero}
 use Rattle.std.proofs.lemmas.List.{length-set, length-replicate, get_or-set_same, get_or-set_other, get_or-replicate, get_or_past}
@@ -38,15 +37,6 @@ pub few_held : (client most : ℕ) (slots : List (Option Holding)) → length sl
 few_held client most slots few = omega (arith, count_by-le-length (is_of client) slots, few)
 
 module _ (p : Option Holding → Bool) where
-  -- the first element is sought from place i on, in a list that begins there
-  from_later : (i j : ℕ) (xs : List (Option Holding)) → position_from p (i + j) xs ≡ option_map (λ k. i + k) (position_from p j xs)
-  from_later i j [] = refl
-  from_later i j (x ∷ xs) = go (p x) (ap (λ (n : ℕ). position_from p n xs) (omega arith) ∙ from_later i (j + 1) xs) where
-    go : (b : Bool) → position_from p (i + j + 1) xs ≡ option_map (λ k. i + k) (position_from p (j + 1) xs)
-        → cond b (Some (i + j)) (position_from p (i + j + 1) xs) ≡ option_map (λ k. i + k) (cond b (Some j) (position_from p (j + 1) xs))
-    go true rest = refl
-    go false rest = rest
-
   -- elements before place n that don't pass may be left out
   from_place : (i n : ℕ) (xs : List (Option Holding)) → ((k : ℕ) → p (slice_index_or xs k None) ≡ true → n ≤ k) → position_from p i xs ≡ position_from p (i + n) (drop n xs)
   from_place i zero xs later = ap (λ (j : ℕ). position_from p j xs) (omega arith)
@@ -60,11 +50,8 @@ module _ (p : Option Holding → Bool) where
 -- where a client has no slot below a place, its first one is sought from there on
 pub first_is : (client start : ℕ) (slots : List (Option Holding)) → NoneBelow client start slots → position (is_of client) slots ≡ first_from client start slots
 first_is client start slots below =
-    let rest : List (Option Holding) = drop start slots in
-    let place : 0 + start ≡ start + 0 = omega arith in
     position_from-zero (is_of client) slots ∙ from_place (is_of client) 0 start slots below.later
-    ∙ ap (λ (n : ℕ). position_from (is_of client) n rest) place
-    ∙ from_later (is_of client) start 0 rest ∙ ap (option_map (λ k. start + k)) (sym (position_from-zero (is_of client) rest))
+    ∙ ap (λ (n : ℕ). position_from (is_of client) n (drop start slots)) (omega arith)
 
 -- a client that is noted to have no slot has none
 pub none_first : (client : ℕ) (slots : List (Option Holding)) → held_by client slots ≡ 0 → position (is_of client) slots ≡ None
@@ -72,6 +59,9 @@ none_first client slots none = go (position (is_of client) slots) refl where
   go : (o : Option ℕ) → position (is_of client) slots ≡ o → o ≡ None
   go None e = refl
   go (Some n) e = absurd (omega (arith, none, some_held client n slots (position-Some (is_of client) slots n None e).1))
+
+pub found_within : (client ppn : ℕ) (slots : List (Option Holding)) → position (is_of client) slots ≡ Some ppn → ppn < length slots
+found_within client ppn slots e = of_within client ppn slots (position-Some (is_of client) slots ppn None e).1
 
 -- from a client's first slot on
 none_before : (client ppn : ℕ) (slots : List (Option Holding)) → position (is_of client) slots ≡ Some ppn → NoneBelow client ppn slots

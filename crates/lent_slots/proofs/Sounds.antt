@@ -1,9 +1,9 @@
 -- A machine stays sound as pages are lent and released.
-use Rattle.std.proofs.Common.{◌≡◌, ℕ, zero, suc, ◌+◌, ◌-◌, ◌<◌, ◌≤◌, Bool, true, false, cond, List, [], ◌∷◌, ◌++◌, length, Option, Some, None, is_some, refl, ap, sym, subst, ◌∙◌, ◌⊎◌, inl, inr, arith}
+use Rattle.std.proofs.Common.{◌≡◌, ℕ, zero, suc, ◌+◌, ◌-◌, ◌<◌, ◌≤◌, Bool, true, false, cond, List, [], ◌∷◌, length, Option, Some, None, is_some, refl, ap, sym, subst, ◌∙◌, ◌⊎◌, inl, inr, arith}
 use Rattle.std.specs.Prelude.{slice_get, slice_set, slice_index, slice_index_or, count_by, ◌==◌}
 use Rattle.std.proofs.lemmas.Bool.{cases_eq, ne_eqb, eq-eqb}
-use Rattle.std.proofs.lemmas.List.{length-set, length-append, get_or-set_same, get_or-set_other}
-use Rattle.std.proofs.lemmas.List.Sums.{sum_by-set, sum_by_push, count_by-le-length}
+use Rattle.std.proofs.lemmas.List.{length-set, get_or-set_same, get_or-set_other}
+use Rattle.std.proofs.lemmas.List.Sums.{sum_by-set, count_by-le-length}
 use Rattle.page_model.specs.declared.limits.TheConstants.{MAX_PAGES}
 use Rattle.machine_frames.specs.FrameMap.{FrameMap, used}
 use Rattle.merge_core.specs.Shown.{Shown}
@@ -11,10 +11,8 @@ use Rattle.merge_core.proofs.FrameLemmas.{used_set}
 use Rattle.lent_slots.specs.declared.holding.Holding.{Holding}
 use Rattle.lent_slots.specs.Fits.{Fits, ListsFree, Counts, Sound, times_free}
 use Rattle.lent_slots.specs.Slots.{holding, sharers, has_frame, lent_slots, left_free, with_free, IsFull}
+use Rattle.lent_slots.proofs.Tags.{bit, times, times_cons}
 use Rattle.lent_slots.proofs.SlotLists.{held_within, got_within, got_holding, set_same, set_other, sharers_set}
-
-abbrev pub bit : Bool → ℕ
-bit b = cond b 1 0
 
 -- slots after a change of one
 get_same : (slots : List (Option Holding)) (n : ℕ) (x : Option Holding) → n < length slots → slice_get (slice_set slots n x) n ≡ Some x
@@ -34,44 +32,41 @@ got_held [] n h e = cc
 got_held (y ∷ slots) zero h e = ap (λ (o : Option Holding). Some o) e
 got_held (y ∷ slots) (suc n) h e = got_held slots n h e
 
--- how often a slot stands in a list, with one more at its end
-abbrev pub times : ℕ → List ℕ → ℕ
-times q free = count_by (λ p. p == q) free
-
-pub times_push : (q n : ℕ) (free : List ℕ) → times q (free ++ n ∷ []) ≡ times q free + bit (n == q)
-times_push q n free = sum_by_push (λ (p : ℕ). bit (p == q)) free n
-
 once_free : (x : Option (Option Holding)) (n : ℕ) → times_free x ≡ n + 1 → (x ≡ Some None) × (n ≡ 0)
 once_free None n e = absurd (omega arith)
 once_free (Some None) n e = (refl, omega arith)
 once_free (Some (Some h)) n e = absurd (omega arith)
 
--- the last slot of the list of free slots is free, and stands there once
-module _ (slots : List (Option Holding)) (free rest : List ℕ) (ppn : ℕ) (lists : ListsFree slots free) (is : free ≡ rest ++ ppn ∷ []) where
-  last_is : (slice_get slots ppn ≡ Some None) × (times ppn rest ≡ 0)
-  last_is = once_free (slice_get slots ppn) (times ppn rest)
-      (sym (lists.once ppn) ∙ ap (times ppn) is ∙ times_push ppn ppn rest ∙ ap (λ (b : Bool). times ppn rest + bit b) (eq-eqb ppn ppn refl))
+-- the first slot of the list of free slots is free, and stands there once
+module _ (slots : List (Option Holding)) (free rest : List ℕ) (ppn : ℕ) (lists : ListsFree slots free) (is : free ≡ ppn ∷ rest) where
+  first_is : (slice_get slots ppn ≡ Some None) × (times ppn rest ≡ 0)
+  first_is =
+      once_free (slice_get slots ppn) (times ppn rest)
+      (sym (lists.once ppn) ∙ ap (times ppn) is ∙ omega (arith, times_cons ppn ppn rest, ap bit (eq-eqb ppn ppn refl)))
 
-  pub last_free : slice_get slots ppn ≡ Some None
-  last_free = last_is.0
+  pub first_free : slice_get slots ppn ≡ Some None
+  first_free = first_is.0
 
-  last_within : ppn < length slots
-  last_within = got_within slots ppn None last_free
+  pub first_once : times ppn rest ≡ 0
+  first_once = first_is.1
+
+  pub first_within : ppn < length slots
+  first_within = got_within slots ppn None first_free
 
   -- and the rest lists the others
   pub lists_rest : (h : Holding) → ListsFree (slice_set slots ppn (Some h)) rest
   lists_rest h = record { once = λ q. once q (cases_eq q ppn); count = count } where
     once : (q : ℕ) → ((q ≡ ppn) ⊎ (q ≡ ppn → ⊥)) → times q rest ≡ times_free (slice_get (slice_set slots ppn (Some h)) q)
-    once q (inl e) = ap (λ (i : ℕ). times i rest) e ∙ last_is.1 ∙ sym (ap times_free (ap (slice_get (slice_set slots ppn (Some h))) e ∙ get_same slots ppn (Some h) last_within))
+    once q (inl e) = ap (λ (i : ℕ). times i rest) e ∙ first_once ∙ sym (ap times_free (ap (slice_get (slice_set slots ppn (Some h))) e ∙ get_same slots ppn (Some h) first_within))
     once q (inr n) =
-        let same : times q free ≡ times q rest = ap (times q) is ∙ times_push q ppn rest ∙ ap (λ (b : Bool). times q rest + bit b) (ne_eqb ppn q (λ e. n (sym e))) ∙ omega arith in
+        let same : times q free ≡ times q rest = ap (times q) is ∙ times_cons q ppn rest ∙ omega (arith, ap bit (ne_eqb ppn q (λ e. n (sym e)))) in
         sym same ∙ lists.once q ∙ sym (ap times_free (get_other slots ppn q (Some h) n))
 
     count : length rest + count_by is_some (slice_set slots ppn (Some h)) ≡ length (slice_set slots ppn (Some h))
     count =
-        let held : count_by is_some (slice_set slots ppn (Some h)) + bit (is_some (holding slots ppn)) ≡ count_by is_some slots + 1 = sum_by-set (λ (o : Option Holding). bit (is_some o)) slots ppn (Some h) None last_within in
-        let none : bit (is_some (holding slots ppn)) ≡ 0 = ap (λ (o : Option Holding). bit (is_some o)) (got_holding slots ppn None last_free) in
-        let size : length free ≡ length rest + 1 = ap length is ∙ length-append rest (ppn ∷ []) in
+        let held : count_by is_some (slice_set slots ppn (Some h)) + bit (is_some (holding slots ppn)) ≡ count_by is_some slots + 1 = sum_by-set (λ (o : Option Holding). bit (is_some o)) slots ppn (Some h) None first_within in
+        let none : bit (is_some (holding slots ppn)) ≡ 0 = ap (λ (o : Option Holding). bit (is_some o)) (got_holding slots ppn None first_free) in
+        let size : length free ≡ length rest + 1 = ap length is ∙ omega arith in
         omega (arith, held, none, size, lists.count, length-set slots ppn (Some h))
 
 -- where the list is empty, no slot is free
@@ -84,22 +79,23 @@ module _ (slots : List (Option Holding)) (free : List ℕ) (ppn : ℕ) (h : Hold
   is_within : ppn < length slots
   is_within = held_within slots ppn h held
 
-  pub lists_more : ListsFree (slice_set slots ppn None) (free ++ ppn ∷ [])
+  pub not_listed : times ppn free ≡ 0
+  not_listed = lists.once ppn ∙ ap times_free (got_held slots ppn h held)
+
+  pub lists_more : ListsFree (slice_set slots ppn None) (ppn ∷ free)
   lists_more = record { once = λ q. once q (cases_eq q ppn); count = count } where
-    once : (q : ℕ) → ((q ≡ ppn) ⊎ (q ≡ ppn → ⊥)) → times q (free ++ ppn ∷ []) ≡ times_free (slice_get (slice_set slots ppn None) q)
+    once : (q : ℕ) → ((q ≡ ppn) ⊎ (q ≡ ppn → ⊥)) → times q (ppn ∷ free) ≡ times_free (slice_get (slice_set slots ppn None) q)
     once q (inl e) =
-        let before : times q free ≡ 0 = lists.once q ∙ ap times_free (ap (slice_get slots) e ∙ got_held slots ppn h held) in
-        times_push q ppn free ∙ ap (λ (b : Bool). times q free + bit b) (eq-eqb ppn q (sym e)) ∙ omega (arith, before)
+        omega (arith, times_cons q ppn free, ap bit (eq-eqb ppn q (sym e)), ap (λ (i : ℕ). times i free) e, not_listed)
         ∙ sym (ap times_free (ap (slice_get (slice_set slots ppn None)) e ∙ get_same slots ppn None is_within))
     once q (inr n) =
-        times_push q ppn free ∙ ap (λ (b : Bool). times q free + bit b) (ne_eqb ppn q (λ e. n (sym e))) ∙ omega arith ∙ lists.once q
-        ∙ sym (ap times_free (get_other slots ppn q None n))
+        times_cons q ppn free ∙ omega (arith, ap bit (ne_eqb ppn q (λ e. n (sym e)))) ∙ lists.once q ∙ sym (ap times_free (get_other slots ppn q None n))
 
-    count : length (free ++ ppn ∷ []) + count_by is_some (slice_set slots ppn None) ≡ length (slice_set slots ppn None)
+    count : length (ppn ∷ free) + count_by is_some (slice_set slots ppn None) ≡ length (slice_set slots ppn None)
     count =
         let fewer : count_by is_some (slice_set slots ppn None) + bit (is_some (holding slots ppn)) ≡ count_by is_some slots + 0 = sum_by-set (λ (o : Option Holding). bit (is_some o)) slots ppn None None is_within in
         let one : bit (is_some (holding slots ppn)) ≡ 1 = ap (λ (o : Option Holding). bit (is_some o)) held in
-        omega (arith, fewer, one, length-append free (ppn ∷ []), lists.count, length-set slots ppn None)
+        omega (arith, fewer, one, lists.count, length-set slots ppn None)
 
 -- counts after a page was lent
 module _ (slots : List (Option Holding)) (total : ℕ) (counts : List ℕ) (client ppn mpn : ℕ) (right : Counts slots total counts)
@@ -168,11 +164,11 @@ given_within slots total ppn all there n h (inl e) is = absurd (none_some (sym (
 given_within slots total ppn all there n h (inr ne) is = all n h (sym (set_other slots ppn n None ne) ∙ is)
 
 pub lent_sound : (core after : Shown) (slots : List (Option Holding)) (free rest counts : List ℕ) (client ppn mpn : ℕ) (page : List ℕ) → Sound core slots free counts
-    → free ≡ rest ++ ppn ∷ [] → Fits (lent_slots client ppn mpn slots) after → after.frames ≡ slice_set core.frames mpn (Some page) → mpn < length core.frames
+    → free ≡ ppn ∷ rest → Fits (lent_slots client ppn mpn slots) after → after.frames ≡ slice_set core.frames mpn (Some page) → mpn < length core.frames
     → used after.frames < length after.frames → Sound after (lent_slots client ppn mpn slots) rest (slice_set counts mpn (slice_index counts mpn + 1))
 lent_sound core after slots free rest counts client ppn mpn page sound is fits frames within spare =
     let total : length core.frames ≡ length after.frames = sym (ap length frames ∙ length-set core.frames mpn (Some page)) in
-    let was_free : slice_get slots ppn ≡ Some None = last_free slots free rest ppn sound.listed is in
+    let was_free : slice_get slots ppn ≡ Some None = first_free slots free rest ppn sound.listed is in
     let there : ppn < length slots = got_within slots ppn None was_free in
     let right : Counts (lent_slots client ppn mpn slots) (length core.frames) (slice_set counts mpn (slice_index counts mpn + 1)) = counts_more slots (length core.frames) counts client ppn mpn sound.counted within there (got_holding slots ppn None was_free) in
     record {
@@ -194,7 +190,7 @@ with_free_used frames m false h = omega arith
 
 pub given_sound : (core after : Shown) (slots : List (Option Holding)) (free counts : List ℕ) (ppn : ℕ) (h : Holding) → Sound core slots free counts
     → holding slots ppn ≡ Some h → Fits (slice_set slots ppn None) after → after.frames ≡ with_free core.frames (left_free (slice_set slots ppn None) h.frame)
-    → Sound after (slice_set slots ppn None) (free ++ ppn ∷ []) (slice_set counts h.frame (slice_index counts h.frame - 1))
+    → Sound after (slice_set slots ppn None) (ppn ∷ free) (slice_set counts h.frame (slice_index counts h.frame - 1))
 given_sound core after slots free counts ppn h sound held fits frames =
     let within : h.frame < length core.frames = sound.within ppn h held in
     let total : length core.frames ≡ length after.frames = sym (ap length frames ∙ with_free_size core.frames (left_free (slice_set slots ppn None) h.frame)) in

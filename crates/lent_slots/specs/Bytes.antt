@@ -1,5 +1,5 @@
 -- The bytes of slots that stay.
-use Rattle.std.specs.Prelude.{◌≡◌, ℕ, Option, Some}
+use Rattle.std.specs.Prelude.{◌≡◌, ℕ, Some}
 use Rattle.machine_frames.specs.FrameMap.{frame}
 use Rattle.lent_slots.specs.declared.holding.Holding.{Holding}
 use Rattle.lent_slots.specs.Slots.{MachineView, holding}

@@ -3,3 +3,4 @@ pub mod Fits
 pub mod Noted
 pub mod Slots
 pub mod Totals
+pub mod Tags

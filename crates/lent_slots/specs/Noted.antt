@@ -1,7 +1,7 @@
 -- What a machine notes of its clients, so that it finds a client's slots without a look at those before them.
-use Rattle.std.specs.Prelude.{◌≡◌, ℕ, ◌+◌, ◌-◌, ◌<◌, ◌≤◌, ◌==◌, true, if◌then◌else◌, List, length, drop, Option, Some, None, nat_le, nat_lt, position}
+use Rattle.std.specs.Prelude.{◌≡◌, ℕ, ◌+◌, ◌-◌, ◌<◌, ◌≤◌, ◌==◌, true, if◌then◌else◌, List, length, drop, Option, Some, None, nat_le, nat_lt}
 use Rattle.std.specs.Prelude.{slice_set, slice_index_or}
-use Rattle.std.specs.Option.{option_map}
+use Rattle.std.specs.List.{position_from}
 use Rattle.lent_slots.specs.declared.holding.Holding.{Holding}
 use Rattle.lent_slots.specs.declared.holding.ClientSlots.{ClientSlots}
 use Rattle.lent_slots.specs.Slots.{holding, is_of, held_by}
@@ -59,4 +59,4 @@ place_of client clients =
 
 -- the first slot of a client from this one on
 abbrev pub first_from : ℕ → ℕ → List (Option Holding) → Option ℕ
-first_from client start slots = option_map (λ k. start + k) (position (is_of client) (drop start slots))
+first_from client start slots = position_from (is_of client) start (drop start slots)

@@ -1,10 +1,16 @@
 //! What is noted of clients, and their first slots.
-ghost use Rattle.std.specs.Prelude.{◌≡◌, ◌<◌, ◌≤◌, drop, length, position, count_by, IfSome};
+ghost use Rattle.std.specs.Prelude.{◌≡◌, ◌<◌, ◌≤◌, length};
 ghost use Rattle.page_model.specs.declared.limits.TheConstants.{MAX_PAGES};
-ghost use Rattle.lent_slots.specs.Slots.{is_of, held_by};
+ghost use Rattle.lent_slots.specs.Fits.{Fits};
+ghost use Rattle.lent_slots.specs.Slots.{holding, is_of, held_by};
+ghost use Rattle.lent_slots.specs.Tags.{slots_of};
 ghost use Rattle.lent_slots.specs.Noted.{noted_of, start_with, start_without, with_more, with_less, with_start, place_of, first_from};
 
+use crate::core_slots::holding_in;
 use crate::holding::{ClientSlots, Holding};
+use lazy_list::LazyList;
+use merge_core::Core;
+use page_digest::PageHash;
 use std::alloc::Allocator;
 
 /// Whether a slot is this client's.
@@ -17,14 +23,35 @@ pub fn is_of(client: u32, slot: &Option<Holding>) -> bool
     }
 }
 
+/// Whether a slot is this client's: its tag is looked at first.
+fn has_slot<H: PageHash, A: Allocator>(
+    core: &Core<H, A>,
+    tags: &LazyList<u32, A>,
+    client: u32,
+    ppn: u32,
+) -> bool
+    requires fits { Fits (slots_of core.now.pmap tags.now) core.now }
+    requires within { ppn < length tags.now }
+    ensures { result ≡ is_of client (holding (slots_of core.now.pmap tags.now) ppn) }
+{
+    if tags.get(ppn) != client {
+        return false;
+    }
+    is_of(client, &holding_in(core, tags, ppn))
+}
+
 /// Counts the slots that are this client's.
-pub fn count_of(slots: &[Option<Holding>], client: u32) -> u32
-    requires few { length slots.now ≤ MAX_PAGES }
-    ensures count { result ≡ held_by client slots.now }
+pub fn count_of<H: PageHash, A: Allocator>(
+    core: &Core<H, A>,
+    tags: &LazyList<u32, A>,
+    client: u32,
+) -> u32
+    requires fits { Fits (slots_of core.now.pmap tags.now) core.now }
+    ensures count { result ≡ held_by client (slots_of core.now.pmap tags.now) }
 {
     let mut count = 0;
-    for slot in slots {
-        if is_of(client, slot) {
+    for i in 0..tags.len() {
+        if has_slot(core, tags, client, i) {
             count += 1;
         }
     }
@@ -39,27 +66,22 @@ pub fn count_at<A: Allocator>(clients: &Vec<ClientSlots, A>, client: u32) -> u32
     clients[client as usize].count
 }
 
-/// Returns the first of these slots that is the client's.
-fn find_in(slots: &[Option<Holding>], client: u32) -> Option<usize>
-    ensures slot { result ≡ position (is_of client) slots.now }
-    ensures within { IfSome result (λ i. i < length slots.now) }
-{
-    slots.iter().position(|slot| is_of(client, slot))
-}
-
 /// Returns the first slot from `start` on that is the client's.
-pub fn find_from(slots: &[Option<Holding>], client: u32, start: u32) -> Option<u32>
-    requires { length slots.now ≤ MAX_PAGES }
-    ensures { result ≡ first_from client start slots.now }
+pub fn find_from<H: PageHash, A: Allocator>(
+    core: &Core<H, A>,
+    tags: &LazyList<u32, A>,
+    client: u32,
+    start: u32,
+) -> Option<u32>
+    requires fits { Fits (slots_of core.now.pmap tags.now) core.now }
+    ensures { result ≡ first_from client start (slots_of core.now.pmap tags.now) }
 {
-    let first = start as usize;
-    if first >= slots.len() {
-        return None;
+    for i in start..tags.len() {
+        if has_slot(core, tags, client, i) {
+            return Some(i);
+        }
     }
-    match find_in(&slots[first..], client) {
-        None => None,
-        Some(i) => Some((first + i) as u32),
-    }
+    None
 }
 
 /// Returns where a client's first slot is sought from, `None` if it is noted that it has none.

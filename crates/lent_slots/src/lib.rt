@@ -10,6 +10,7 @@ mod core_slots;
 mod count;
 mod fault;
 mod holding;
+mod links;
 mod machine;
 mod make;
 

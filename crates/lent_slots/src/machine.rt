@@ -7,11 +7,13 @@ ghost use Rattle.lent_slots.specs.Bytes.{BytesStayIn};
 ghost use Rattle.lent_slots.specs.Slots.{holding, is_of, held_by, LendsPage, RefusesPage, released, freed, left_free, without};
 
 use crate::clients::{count_at, count_of, find_from, note_less, note_more, note_start, place_of};
-use crate::core_slots::{hold, take};
+use crate::core_slots::{hold, holding_in, take};
 use crate::count::{add_sharer, count_shared, drop_sharer};
 use crate::fault::SlotFault;
 use crate::holding::{ClientSlots, Holding, PageLoan};
-use crate::make::{new_clients, new_core, new_counts, new_free, new_slots};
+use crate::links::{link_to, next_free};
+use crate::make::{new_clients, new_core};
+use lazy_list::LazyList;
 use machine_frames::Frames;
 use merge_core::{Core, SaltedHash};
 use page_digest::PageHash;
@@ -19,28 +21,30 @@ use page_model::Page;
 use std::alloc::{AllocError, Allocator, Global};
 use std::marker::Model;
 
-/// Slots and their frames: the core that has the frames, what each slot holds, and the slots that are free. Then how many slots
-/// have each frame, and each client's slots in brief.
+/// Slots and their frames: the core that has the frames, and each slot's tag. That is its client where it is held, and a link to the
+/// next free slot where it is free. Then the first free slot and how many there are, how many slots have each frame, and each
+/// client's slots in brief.
 #[derive(Drop)]
 pub struct LentSlots<H: PageHash, A: Allocator = Global> {
     core: Core<H, A>,
-    slots: Vec<Option<Holding>, A>,
-    free: Vec<u32, A>,
-    counts: Vec<u32, A>,
+    tags: LazyList<u32, A>,
+    first_free: u32,
+    free: u32,
+    counts: LazyList<u32, A>,
     clients: Vec<ClientSlots, A>,
 }
 
 impl<H: PageHash, A: Allocator> Model for LentSlots<H, A> {
-    ghost use Rattle.std.specs.Prelude.{length, ◌≤◌, vec_capacity};
     ghost use Rattle.lent_slots.specs.Slots.{MachineView};
+    ghost use Rattle.lent_slots.specs.Tags.{slots_of, chain};
     ghost use Rattle.lent_slots.specs.Fits.{Sound};
     ghost use Rattle.lent_slots.specs.Noted.{AreNoted};
 
     ghost Value = { MachineView };
 
-    ghost view = { λ m. record { slots = m.slots.items; frames = m.core.frames } };
+    ghost view = { λ m. record { slots = slots_of m.core.pmap m.tags; frames = m.core.frames } };
 
-    ghost invariant = { λ m. Sound m.core m.slots.items m.free.items m.counts.items × (length m.slots.items ≤ vec_capacity m.free) × AreNoted m.slots.items m.clients.items };
+    ghost invariant = { λ m. Sound m.core (slots_of m.core.pmap m.tags) (chain m.tags m.first_free m.free) m.counts × AreNoted (slots_of m.core.pmap m.tags) m.clients.items };
 }
 
 impl<H: PageHash + Drop, A: Allocator + Clone> LentSlots<H, A> {
@@ -61,15 +65,15 @@ impl<H: PageHash + Drop, A: Allocator + Clone> LentSlots<H, A> {
         requires frames { (2 ≤ length frames) × (length frames ≤ MAX_FRAMES) × (frames ≡ no_frames (length frames)) }
         ensures { IfOk result (λ slots. slots ≡ empty_machine count (length frames)) }
     {
-        let counts = new_counts(alloc.clone()?, frames.total())?;
+        let counts = LazyList::new(alloc.clone()?, frames.total(), 0)?;
         let noted = new_clients(alloc.clone()?, clients)?;
-        let free = new_free(alloc.clone()?, count)?;
-        let slots = new_slots(alloc.clone()?, count)?;
+        let tags = LazyList::new(alloc.clone()?, count, 0)?;
         let core = new_core(alloc, count, salt, hash, frames)?;
         Ok(LentSlots {
             core,
-            slots,
-            free,
+            tags,
+            first_free: 0,
+            free: count,
             counts,
             clients: noted,
         })
@@ -95,23 +99,24 @@ impl<H: PageHash, A: Allocator> LentSlots<H, A> {
         ensures bytes { IfOk result (λ _. BytesStayIn self.old self.new) }
     {
         self.frames();
-        match self.free.pop() {
-            None => Err(SlotFault::NoSlot),
-            Some(ppn) => match hold(&mut self.core, &mut self.slots, client, ppn, page, known) {
-                None => {
-                    self.free.push_reserved(ppn);
-                    Err(SlotFault::NoFrame)
-                }
-                Some(frame) => {
-                    let sharers = add_sharer(&mut self.counts, frame);
-                    note_more(&mut self.clients, client, ppn);
-                    Ok(PageLoan {
-                        ppn,
-                        frame,
-                        sharers,
-                    })
-                }
-            },
+        if self.free == 0 {
+            return Err(SlotFault::NoSlot);
+        }
+        let ppn = self.first_free;
+        match hold(&mut self.core, &self.tags, ppn, page, known) {
+            None => Err(SlotFault::NoFrame),
+            Some(frame) => {
+                self.first_free = next_free(ppn, self.tags.get(ppn));
+                self.tags.set(ppn, client);
+                self.free -= 1;
+                let sharers = add_sharer(&mut self.counts, frame);
+                note_more(&mut self.clients, client, ppn);
+                Ok(PageLoan {
+                    ppn,
+                    frame,
+                    sharers,
+                })
+            }
         }
     }
 
@@ -119,10 +124,10 @@ impl<H: PageHash, A: Allocator> LentSlots<H, A> {
     pub fn holding(&self, ppn: u32) -> Option<Holding>
         ensures { result ≡ holding self.now.slots ppn }
     {
-        if ppn as usize >= self.slots.len() {
+        if ppn >= self.tags.len() {
             return None;
         }
-        self.slots[ppn as usize]
+        holding_in(&self.core, &self.tags, ppn)
     }
 
     /// Releases a slot, and returns the frame that is free since: that of the slot, unless other slots have it, too. A slot that is
@@ -145,9 +150,11 @@ impl<H: PageHash, A: Allocator> LentSlots<H, A> {
         ensures freed { result ≡ left_free (slice_set self.old.slots ppn None) held.frame }
         ensures now { self.new ≡ without self.old ppn held.frame }
     {
-        take(&mut self.core, &self.slots, ppn, held);
-        self.slots[ppn as usize] = None;
-        self.free.push_reserved(ppn);
+        take(&mut self.core, &self.tags, ppn, held);
+        let link = link_to(self.first_free, self.free);
+        self.tags.set(ppn, link);
+        self.first_free = ppn;
+        self.free += 1;
         let sharers = drop_sharer(&mut self.counts, held.frame);
         note_less(&mut self.clients, held.client, ppn);
         if sharers == 0 { Some(held.frame) } else { None }
@@ -162,7 +169,7 @@ impl<H: PageHash, A: Allocator> LentSlots<H, A> {
     {
         match place_of(&self.clients, client) {
             None => None,
-            Some(start) => match find_from(&self.slots, client, start) {
+            Some(start) => match find_from(&self.core, &self.tags, client, start) {
                 None => None,
                 Some(ppn) => {
                     note_start(&mut self.clients, client, ppn);
@@ -178,7 +185,7 @@ impl<H: PageHash, A: Allocator> LentSlots<H, A> {
         ensures few { result ≤ MAX_PAGES }
     {
         if client as usize >= self.clients.len() {
-            return count_of(&self.slots, client);
+            return count_of(&self.core, &self.tags, client);
         }
         count_at(&self.clients, client)
     }
@@ -191,11 +198,12 @@ impl<H: PageHash, A: Allocator> LentSlots<H, A> {
         self.core.frames()
     }
 
-    /// Returns what the slots hold.
-    pub fn slots(&self) -> &[Option<Holding>]
-        ensures { result.now ≡ self.now.slots }
+    /// Returns how many slots there are, free ones included.
+    pub fn slot_count(&self) -> u32
+        ensures count { result ≡ length self.now.slots }
+        ensures few { result ≤ MAX_PAGES }
     {
-        &self.slots
+        self.tags.len()
     }
 
     /// Returns how many slots are held.
@@ -203,7 +211,7 @@ impl<H: PageHash, A: Allocator> LentSlots<H, A> {
         ensures count { result ≡ held_slots self.now }
         ensures few { result ≤ MAX_PAGES }
     {
-        (self.slots.len() - self.free.len()) as u32
+        self.slot_count() - self.free
     }
 
     /// Returns how many frames are in use.
@@ -219,6 +227,6 @@ impl<H: PageHash, A: Allocator> LentSlots<H, A> {
         ensures count { result ≡ shared_slots self.now }
         ensures few { result ≤ MAX_PAGES }
     {
-        count_shared(&self.slots, &self.counts)
+        count_shared(&self.core, &self.tags, &self.counts)
     }
 }

@@ -1,5 +1,5 @@
 -- Where a page goes that is lent beside a frame.
-use Rattle.std.proofs.Common.{◌≡◌, ℕ, ◌+◌, ◌<◌, Bool, true, false, cond, List, [], ◌∷◌, length, Option, Some, None, refl, sym, ap, ◌∙◌, arith, suc, ◌⊎◌, inl, inr}
+use Rattle.std.proofs.Common.{◌≡◌, ℕ, ◌+◌, ◌<◌, Bool, true, false, cond, List, [], ◌∷◌, length, Option, Some, None, refl, sym, ap, subst, ◌∙◌, arith, zero, suc, ◌⊎◌, inl, inr}
 use Rattle.std.specs.Prelude.{◌&&◌, nat_lt, count_by, is_some}
 use Rattle.std.proofs.lemmas.Bool.{false≢true, ltb-true, lt-ltb, le-ltb, cases_eq}
 use Rattle.std.specs.List.{position_or_len}
@@ -9,8 +9,9 @@ use Rattle.lent_slots.specs.declared.holding.Holding.{Holding}
 use Rattle.lent_slots.specs.declared.fault.SlotFault.TheVariants.{NoSlot, NoFrame}
 use Rattle.lent_slots.specs.Slots.{MachineView, IsFull}
 use Rattle.lent_slots.specs.Totals.{held_slots, frames_in_use}
+use Rattle.share_domain.specs.declared.fault.LendFault.TheVariants as fault
 use Rattle.share_domain.specs.Domains.{machine_at, no_machine}
-use Rattle.share_domain.specs.Beside.{is_open, first_open, OpenRefusesNone}
+use Rattle.share_domain.specs.Beside.{is_open, first_open, OpenRefusesNone, OpenRefusesNothing}
 
 abbrev held : List (Option Holding) → ℕ
 held [] = 0
@@ -64,3 +65,32 @@ none_is machines m all none =
     let at : position_or_len is_open machines ≡ m = position_or_len_is is_open machines m no_machine (omega (arith, all)) none.before (λ l. absurd (omega (arith, l, all))) in
     let past : nat_lt (position_or_len is_open machines) (length machines) ≡ false = le-ltb (position_or_len is_open machines) (length machines) (omega (arith, at, all)) in
     sym (ap (λ (b : Bool). cond b (position_or_len is_open machines) 0) past)
+
+-- the first machine that is open, where one is
+record FirstOpen (machines : List MachineView) : Type 0 where
+  m : ℕ
+  within : m < length machines
+  none : NoneOpen machines m
+  is : is_open (machine_at machines m) ≡ true
+
+least : (machines : List MachineView) (m k n : ℕ) → m < length machines → is_open (machine_at machines m) ≡ true → k + n ≡ m → NoneOpen machines k → FirstOpen machines
+least machines m k zero within is at none =
+    let same : k ≡ m = omega (arith, at) in
+    record { m = m; within = within; none = subst (λ (i : ℕ). NoneOpen machines i) same none; is = is }
+least machines m k (suc n) within is at none =
+    pick (is_open (machine_at machines k)) refl (λ shut. least machines m (k + 1) n within is (omega (arith, at)) (one_more machines k none shut)) where
+      pick : (b : Bool) → is_open (machine_at machines k) ≡ b → (is_open (machine_at machines k) ≡ false → FirstOpen machines) → FirstOpen machines
+      pick true e later = record { m = k; within = omega (arith, within, at); none = none; is = e }
+      pick false e later = later e
+
+first_is_open : (machines : List MachineView) (m : ℕ) → m < length machines → is_open (machine_at machines m) ≡ true → is_open (machine_at machines (first_open machines)) ≡ true
+first_is_open machines m within is =
+    let f = least machines m 0 m within is (omega arith) (none_open_yet machines) in
+    ap (λ (i : ℕ). is_open (machine_at machines i)) (sym (first_is machines f.m f.within f.none f.is)) ∙ f.is
+
+pub open_refuses_nothing : OpenRefusesNothing
+open_refuses_nothing d m client fault.NoClient within is here refused = refused here
+open_refuses_nothing d m client fault.NoSlot within is here refused =
+    open_refuses_none (machine_at d.machines (first_open d.machines)) NoSlot (first_is_open d.machines m within is) refused.1
+open_refuses_nothing d m client fault.NoFrame within is here refused =
+    open_refuses_none (machine_at d.machines (first_open d.machines)) NoFrame (first_is_open d.machines m within is) (refused.1, refused.2)

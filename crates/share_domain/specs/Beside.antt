@@ -1,11 +1,11 @@
 -- Where a page goes that is lent beside a frame.
-use Rattle.std.specs.Prelude.{◌≡◌, ℕ, ◌+◌, ◌/◌, ◌⊎◌, Bool, true, nat_lt, ◌&&◌, if◌then◌else◌, List, length, Option, Some, None}
+use Rattle.std.specs.Prelude.{◌≡◌, ℕ, ◌+◌, ◌/◌, ◌<◌, ◌⊎◌, Bool, true, nat_lt, ◌&&◌, if◌then◌else◌, List, length, Option, Some, None}
 use Rattle.std.specs.List.{position_or_len}
 use Rattle.lent_slots.specs.declared.fault.SlotFault.{SlotFault}
 use Rattle.lent_slots.specs.Slots.{MachineView, RefusesPage}
 use Rattle.lent_slots.specs.Totals.{held_slots, frames_in_use}
 use Rattle.share_domain.specs.declared.fault.LendFault.{LendFault}
-use Rattle.share_domain.specs.Domains.{DomainView, RefusesIn}
+use Rattle.share_domain.specs.Domains.{DomainView, IsIn, RefusesIn, machine_at}
 
 -- the machine has a free slot, and a free frame besides the spare one
 abbrev pub is_open : MachineView → Bool
@@ -38,3 +38,9 @@ GoesBeside frame client d m = IsBeside frame d m ⊎ (IsRefusedBeside frame clie
 -- A machine that is open refuses no page.
 abbrev pub OpenRefusesNone : Type 0
 OpenRefusesNone = (m : MachineView) (fault : SlotFault) → is_open m ≡ true → RefusesPage fault m → ⊥
+
+-- While a machine is open, no page of a client that is in is refused by the first one that is open. So `lend_beside` refuses nothing then.
+abbrev pub OpenRefusesNothing : Type 0
+OpenRefusesNothing =
+    (d : DomainView) (m client : ℕ) (fault : LendFault) → m < length d.machines → is_open (machine_at d.machines m) ≡ true → IsIn d client
+    → RefusesIn (first_open d.machines) client fault d → ⊥

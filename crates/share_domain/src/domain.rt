@@ -17,7 +17,7 @@ use crate::config::{DomainConfig, limit_fault};
 use crate::fault::{DomainFault, LendFault, NoSuchSlot};
 use crate::holding::{Loan, Slot};
 use crate::leave::find_slot;
-use crate::lend::{first_open, holding_at, lend_at, machine_of, release_at};
+use crate::lend::{first_open, holding_at, lend_to, machine_of, release_at};
 use crate::make::{new_clients, new_frames, new_machines};
 use crate::number::frame_number;
 use crate::report::{DomainReport, count_slots, report};
@@ -294,7 +294,7 @@ impl<H: PageHash, A: Allocator> Domain<H, A> {
             (λ fault. RefusesIn m client fault self.old × (self.new ≡ self.old)) }
         ensures bytes { IfOk result (λ _. BytesStay self.old self.new) }
     {
-        match lend_at(&mut self.machines, m, client, page, known) {
+        match lend_to(&mut self.machines, m, client, page, known) {
             Err(SlotFault::NoSlot) => Err(LendFault::NoSlot),
             Err(SlotFault::NoFrame) => Err(LendFault::NoFrame),
             Ok(lent) => Ok(Loan {

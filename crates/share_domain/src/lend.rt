@@ -25,9 +25,8 @@ pub(crate) fn machine_of(machines: usize, hash: u64) -> usize
 fn is_open<H: PageHash, A: Allocator>(machine: &LentSlots<H, A>) -> bool
     ensures { result ≡ is_open machine.now }
 {
-    let slots = machine.slots().len();
     let frames = machine.frames().total();
-    (machine.held() as usize) < slots && machine.frames_in_use() + 1 < frames
+    machine.held() < machine.slot_count() && machine.frames_in_use() + 1 < frames
 }
 
 /// Returns the first machine that is open, and machine 0 if none is.
@@ -45,7 +44,7 @@ pub(crate) fn first_open<H: PageHash, A: Allocator>(machines: &Vec<LentSlots<H, 
 }
 
 /// Lends a client's page at a machine.
-pub(crate) fn lend_at<H: PageHash, A: Allocator>(
+pub(crate) fn lend_to<H: PageHash, A: Allocator>(
     machines: &mut Vec<LentSlots<H, A>, A>,
     m: usize,
     client: u32,

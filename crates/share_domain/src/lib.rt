@@ -26,7 +26,7 @@ pub use domain::Domain;
 pub use fault::{DomainFault, LendFault, NoSuchSlot};
 pub use given::GivenFrames;
 pub use holding::{Loan, Slot};
-pub use laws::{bytes_law, limits_law, open_law};
+pub use laws::{bytes_law, limits_law, open_law, open_refuses_nothing_law};
 pub use lent_slots::Holding;
 pub use make::new_frames;
 pub use number::{NO_FRAME, SLOTS_APART, frame_number, slot_by, slot_number, slots_law};

@@ -117,18 +117,18 @@ const LINES: [Line; 19] = [
         Seen::Refused(LendFault::NoSlot),
         [2, 5, 2, 4],
     ),
-    // Slot 4 was the first one, and is client 0's.
-    (Ask::Release(1, 4), Seen::NotItsOwn, [2, 5, 2, 4]),
+    // Slot 0 was the first one, and is client 0's.
+    (Ask::Release(1, 0), Seen::NotItsOwn, [2, 5, 2, 4]),
     (Ask::Release(1, 9), Seen::NotItsOwn, [2, 5, 2, 4]),
-    (Ask::Release(1, 3), Seen::Released(false), [2, 4, 2, 3]),
-    // Client 0's slots are 0, 1, 2 and 4, of which 2 has the page of sixes.
-    (Ask::Leave(0), Seen::Left(2, 0), [2, 2, 2, 0]),
+    (Ask::Release(1, 1), Seen::Released(false), [2, 4, 2, 3]),
+    // Client 0's slots are 0, 2, 3 and 4, of which 2 has the page of sixes.
+    (Ask::Leave(0), Seen::Left(2, 1), [2, 2, 1, 2]),
     (
         Ask::Lend(0, 5),
         Seen::Refused(LendFault::NoClient),
-        [2, 2, 2, 0],
+        [2, 2, 1, 2],
     ),
-    (Ask::Leave(0), Seen::Left(2, 2), [2, 0, 0, 0]),
+    (Ask::Leave(0), Seen::Left(2, 1), [2, 0, 0, 0]),
     (Ask::Leave(0), Seen::Left(0, 0), [1, 0, 0, 0]),
     (Ask::Enter, Seen::Client(0), [2, 0, 0, 0]),
 ];

@@ -54,13 +54,15 @@ fn lend_three(rt: &impl Abort, domain: &mut Domain<FoldHash>) {
     }
 }
 
-/// Looks at the last slot, and at how many slots each client has.
+/// Looks at the first slot and the last, and at how many slots each client has.
 fn look_at_three(rt: &impl Abort, domain: &Domain<FoldHash>) {
+    let first = Slot { machine: 0, ppn: 0 };
+    holds(rt, domain.holding(first).is_some());
     let last = Slot {
         machine: 0,
         ppn: 1_048_575,
     };
-    holds(rt, domain.holding(last).is_some());
+    holds(rt, domain.holding(last).is_none());
     holds(rt, domain.held_by(0) == 1);
     holds(rt, domain.held_by(1) == 2);
 }
@@ -76,7 +78,7 @@ fn leave_both(rt: &impl Abort, domain: &mut Domain<FoldHash>) {
     holds(rt, freed[0] != NO_FRAME);
 }
 
-/// As many slots and frames as a machine may have. The last slot is lent first.
+/// As many slots and frames as a machine may have. The first slot is lent first.
 #[test]
 fn a_million_slots(rt: HostRuntime) {
     let config = DomainConfig {

@@ -21,7 +21,7 @@ fn hashed(rt: &impl Abort, alloc: Global, bytes: &[u8]) -> u32 {
     for byte in bytes {
         holds(rt, domain.lend(0, &[*byte; 4096]).is_ok());
     }
-    let slot = Slot { machine: 0, ppn: 7 };
+    let slot = Slot { machine: 0, ppn: 0 };
     holds(rt, domain.release(0, slot).is_ok());
     calls.load(Ordering::SeqCst)
 }

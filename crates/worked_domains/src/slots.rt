@@ -88,9 +88,9 @@ const LINES: [Line; 12] = [
     (Ask::Lend(2, 6), Seen::Lent(2), [5, 2, 5]),
     (Ask::Lend(2, 6), Seen::NoSlot, [5, 2, 5]),
     (Ask::Release(9), Seen::Released(false), [5, 2, 5]),
-    (Ask::Release(1), Seen::Released(false), [4, 2, 3]),
-    (Ask::Release(0), Seen::Released(true), [3, 1, 3]),
-    (Ask::Release(0), Seen::Released(false), [3, 1, 3]),
+    (Ask::Release(3), Seen::Released(false), [4, 2, 3]),
+    (Ask::Release(4), Seen::Released(true), [3, 1, 3]),
+    (Ask::Release(4), Seen::Released(false), [3, 1, 3]),
     (Ask::Lend(0, 7), Seen::Lent(1), [4, 2, 3]),
 ];
 
@@ -109,7 +109,7 @@ fn lend_known(rt: &impl Abort, slots: &mut LentSlots<Counted<'_>>) {
         };
         holds(rt, slots.lend(0, &[byte; 4096], known).is_ok());
     }
-    holds(rt, slots.release(4).is_none());
+    holds(rt, slots.release(0).is_none());
 }
 
 /// Lends a page whose hash is known under another salt. No frame is left for it.
@@ -184,10 +184,10 @@ const STEPS: [Step; 14] = [
     Step::Release(3),
     Step::FirstOf(1, None),
     Step::HeldBy(1, 0),
-    Step::FirstOf(0, Some(4)),
+    Step::FirstOf(0, Some(0)),
 ];
 
-/// Clients 0 and 1 are counted, and client 7 is not. The last slot is lent first.
+/// Clients 0 and 1 are counted, and client 7 is not. The first slot is lent first.
 #[test]
 fn slots_are_found_by_their_client(rt: HostRuntime) {
     let mut slots = slots_of(&rt, rt.alloc(), 5, 3);

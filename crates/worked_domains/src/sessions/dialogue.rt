@@ -192,7 +192,7 @@ fn end(host: &mut Host<FoldHash>, number: u32) -> usize {
 }
 
 /// A release of one slot, without its last byte.
-const CUT_RELEASE: [u8; 15] = [4, 0, 0, 0, 1, 0, 0, 0, 4, 0, 0, 0, 0, 0, 0];
+const CUT_RELEASE: [u8; 15] = [4, 0, 0, 0, 1, 0, 0, 0, 0, 0, 0, 0, 0, 0, 0];
 
 /// Takes a step, and returns whether that was seen which was to be.
 fn is_seen(host: &mut Host<FoldHash>, step: Step) -> bool {
@@ -249,13 +249,13 @@ const CLIENTS_LEND: [Step; 25] = [
     Step::Says(0, Said::Lend(2), Got::Lent(2, 1)),
     Step::Says(1, Said::Lend(1), Got::Lent(1, 3)),
     Step::Frames(1),
-    // Slots are given from the last one on: 4 and 3 are the first session's, and 2 is the other's.
-    Step::Says(1, Said::Release(4), Got::Freed(0, 1)),
+    // Slots are given from the first one on: 0 and 1 are the first session's, and 2 is the other's.
+    Step::Says(1, Said::Release(0), Got::Freed(0, 1)),
     Step::HasSlots(0, 2),
     Step::HasSlots(1, 1),
     Step::Slots(3),
-    Step::Says(0, Said::Release(4), Got::Freed(0, 1)),
-    Step::Says(0, Said::Release(3), Got::Freed(0, 1)),
+    Step::Says(0, Said::Release(0), Got::Freed(0, 1)),
+    Step::Says(0, Said::Release(1), Got::Freed(0, 1)),
     Step::HasSlots(0, 0),
     Step::Says(1, Said::Release(2), Got::Freed(1, 1)),
     Step::Frames(0),
@@ -279,7 +279,7 @@ const FAULTS: [Step; 19] = [
     Step::Says(0, Said::Hello, Got::Welcome(11)),
     Step::Says(0, Said::Lend(1), Got::Lent(1, 1)),
     Step::SendsCutRelease(0, Got::Fault(SHORT)),
-    Step::Says(0, Said::Release(4), Got::Nothing),
+    Step::Says(0, Said::Release(0), Got::Nothing),
     Step::HasLink(0, Some(Link::Broken(SHORT))),
     Step::Disconnects(0, true),
     // A session that sent a packet at fault isn't taken up.
@@ -307,15 +307,15 @@ const TAKEN_UP: [Step; 20] = [
     Step::Disconnects(0, true),
     Step::HasLink(0, Some(Link::Gone)),
     Step::Slots(2),
-    Step::Says(0, Said::Release(4), Got::Nothing),
+    Step::Says(0, Said::Release(0), Got::Nothing),
     Step::Connects(C, Some(2)),
     Step::Connects(D, None),
     Step::Says(2, Said::HelloAs(A, 1), Got::Resumed(10, 0, 0)),
     Step::IsFree(0),
     Step::HasSlots(2, 2),
     Step::HasSlots(1, 0),
-    Step::Says(1, Said::Release(4), Got::Freed(0, 1)),
-    Step::Says(2, Said::Release(4), Got::Freed(0, 1)),
+    Step::Says(1, Said::Release(0), Got::Freed(0, 1)),
+    Step::Says(2, Said::Release(0), Got::Freed(0, 1)),
     Step::Ends(2, 1),
     Step::Slots(0),
     Step::Clients(1),
