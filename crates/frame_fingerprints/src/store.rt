@@ -1,12 +1,12 @@
 //! The fingerprints of the frames in use, as callers see them.
 ghost use Rattle.std.specs.Prelude.{◌≡◌, ◌≤◌, IfOk, None, Some, is_some, replicate, slice_index_or, slice_set};
-ghost use Rattle.frame_fingerprints.specs.Chained.{no_node};
 ghost use Rattle.frame_fingerprints.specs.declared.node.TheConstants.{NOWHERE};
 ghost use Rattle.frame_fingerprints.specs.Held.{Finds, is_held, none_held, with_held};
 ghost use Rattle.frame_fingerprints.specs.declared.limits.TheConstants.{MAX_FRAMES};
 
 use crate::chains::Chains;
 use crate::node::{NOWHERE, Node};
+use lazy_list::LazyList;
 use recent_fingerprints::{Buckets, bucket_count};
 use std::alloc::{AllocError, Allocator, Global};
 use std::marker::Model;
@@ -26,22 +26,29 @@ impl<A: Allocator> Model for FrameFingerprints<A> {
 
     ghost Value = { Fingerprints };
 
-    ghost view = { λ f. record { factor = f.chains.buckets.factor; held = map fingerprint_in f.chains.nodes.items } };
+    ghost view = { λ f. record { factor = f.chains.buckets.factor; held = map fingerprint_in f.chains.nodes } };
 
-    ghost invariant = { λ f. AreKept f.chains.nodes.items f.chains.heads.items f.chains.buckets.factor f.chains.buckets.shift };
+    ghost invariant = { λ f. AreKept f.chains.nodes f.chains.heads.items f.chains.buckets.factor f.chains.buckets.shift };
 }
 
 impl<A: Allocator + Clone> FrameFingerprints<A> {
-    /// Makes an empty store for the fingerprints of `frames` frames: 16 bytes for each, and at most 4 more for the buckets. The
-    /// caller draws the seed at random and keeps it secret: knowing it, one can choose fingerprints that take long to look up. No
-    /// result depends on it.
+    /// Makes an empty store for the fingerprints of `frames` frames: 16 bytes for each, and at most 4 more for the buckets. It takes
+    /// all memory, but a frame's 16 bytes are first touched when that frame or a later one is put.
+    ///
+    /// The caller draws the seed at random and keeps it secret: knowing it, one can choose fingerprints that take long to look up.
+    /// No result depends on it.
     pub fn new(alloc: A, frames: u32, seed: u64) -> Result<FrameFingerprints<A>, AllocError>
         requires limit { frames ≤ MAX_FRAMES }
         ensures { IfOk result (λ fingerprints. fingerprints ≡ none_held frames seed) }
     {
         let (count, shift) = bucket_count(frames / 2);
         let heads = new_heads(alloc.clone()?, count)?;
-        let nodes = new_nodes(alloc, frames)?;
+        let free = Node {
+            fingerprint: 0,
+            next: NOWHERE,
+            before: NOWHERE,
+        };
+        let nodes = LazyList::new(alloc, frames, free)?;
         Ok(FrameFingerprints {
             chains: Chains {
                 nodes,
@@ -64,21 +71,6 @@ fn new_heads<A: Allocator>(alloc: A, count: u32) -> Result<Vec<u32, A>, AllocErr
         heads.push_reserved(NOWHERE);
     }
     Ok(heads)
-}
-
-// Returns the nodes of `count` frames without fingerprints.
-fn new_nodes<A: Allocator>(alloc: A, frames: u32) -> Result<Vec<Node, A>, AllocError>
-    ensures { IfOk result (λ nodes. nodes.items ≡ replicate frames no_node) }
-{
-    let mut nodes = Vec::with_capacity(alloc, frames as usize)?;
-    for _ in 0..frames {
-        nodes.push_reserved(Node {
-            fingerprint: 0,
-            next: NOWHERE,
-            before: NOWHERE,
-        });
-    }
-    Ok(nodes)
 }
 
 impl<A: Allocator> FrameFingerprints<A> {
@@ -108,7 +100,7 @@ impl<A: Allocator> FrameFingerprints<A> {
         ensures { self.new ≡ with_held (slice_set self.old.held frame (Some fingerprint)) self.old }
     {
         self.remove(frame);
-        if (frame as usize) < self.chains.nodes.len() {
+        if frame < self.chains.nodes.len() {
             self.chains.put(frame, fingerprint);
         }
     }

@@ -2,6 +2,7 @@ use Rattle.std.proofs.Common.{◌<◌, ◌≤◌, ◌∙◌, sym, ap, length, ar
 use Rattle.std.specs.Prelude.{slice_index}
 use Rattle.std.proofs.lemmas.Bool.{eq-eqb, ne_eqb}
 use Rattle.std.proofs.lemmas.List.{get_or_read}
+use Rattle.std.proofs.lemmas.Option.{get_or_from_slice_get}
 use Rattle.recent_fingerprints.specs.Chains.{bucket_of}
 use Rattle.frame_fingerprints.specs.Chained.{no_node}
 use Rattle.frame_fingerprints.proofs.Nodes.{bucket_below, link_head}
@@ -19,30 +20,30 @@ loop-init g c =
     let s = c.args.self.now in
     let below = bucket_below (length s.heads.items) s.buckets.factor s.buckets.shift c.args.fingerprint c.requires.all_buckets in
     let read = get_or_read s.heads.items c.of.result c.index-at.result.now (omega (arith, below, c.of.ensures)) c.index-at.ensures 0 in
-    search_begins s.nodes.items s.heads.items (bucket_of s.buckets.factor s.buckets.shift) (length s.heads.items) c.args.fingerprint c.index-at.result.now below c.requires.chained
-    (read ∙ ap (slice_index s.heads.items) c.of.ensures ∙ sym (link_head s.nodes.items s.heads.items (bucket_of s.buckets.factor s.buckets.shift c.args.fingerprint)))
+    search_begins s.nodes s.heads.items (bucket_of s.buckets.factor s.buckets.shift) (length s.heads.items) c.args.fingerprint c.index-at.result.now below c.requires.chained
+    (read ∙ ap (slice_index s.heads.items) c.of.ensures ∙ sym (link_head s.nodes s.heads.items (bucket_of s.buckets.factor s.buckets.shift c.args.fingerprint)))
 
 pub returns-then-at-len : goal.returns-then-at-len
 returns-then-at-len g c =
     let s = c.args.self.now in
-    let past : length s.nodes.items ≤ c.loop.at = omega (arith, c.len.ensures, s.nodes.ok.0) in
-    search_ends s.nodes.items s.heads.items c.args.fingerprint c.loop.at c.loop.counter c.loop.invariant past
+    let past : length s.nodes ≤ c.loop.at = omega (arith, c.len.ensures) in
+    search_ends s.nodes s.heads.items c.args.fingerprint c.loop.at c.loop.counter c.loop.invariant past
 
 pub returns-then-node-fingerprint : goal.returns-then-node-fingerprint
 returns-then-node-fingerprint g c =
     let s = c.args.self.now in
-    let within : c.loop.at < length s.nodes.items = omega (arith, c.len.ensures, s.nodes.ok.0) in
-    let read = get_or_read s.nodes.items c.loop.at c.index-node.result.now within c.index-node.ensures no_node in
-    search_finds s.nodes.items s.heads.items c.args.fingerprint c.loop.at c.loop.counter c.loop.invariant within (rw (← read) (eq-eqb _ _ c.if-node-fingerprint.true))
+    let within : c.loop.at < length s.nodes = omega (arith, c.len.ensures) in
+    let read = sym (get_or_from_slice_get s.nodes c.loop.at c.get-node.result no_node c.get-node.ensures) in
+    search_finds s.nodes s.heads.items c.args.fingerprint c.loop.at c.loop.counter c.loop.invariant within (rw (← read) (eq-eqb _ _ c.if-node-fingerprint.true))
 
 pub loop-preserved : goal.loop-preserved
 loop-preserved g c =
     let s = c.args.self.now in
-    let within : c.loop.at < length s.nodes.items = omega (arith, c.len.ensures, s.nodes.ok.0) in
-    let read = get_or_read s.nodes.items c.loop.at c.index-node.result.now within c.index-node.ensures no_node in
-    rw read (search_steps s.nodes.items s.heads.items c.args.fingerprint c.loop.at c.loop.counter c.loop.invariant within (rw (← read) (ne_eqb _ _ c.if-node-fingerprint.false)))
+    let within : c.loop.at < length s.nodes = omega (arith, c.len.ensures) in
+    let read = sym (get_or_from_slice_get s.nodes c.loop.at c.get-node.result no_node c.get-node.ensures) in
+    rw read (search_steps s.nodes s.heads.items c.args.fingerprint c.loop.at c.loop.counter c.loop.invariant within (rw (← read) (ne_eqb _ _ c.if-node-fingerprint.false)))
 
 pub returns : goal.returns
 returns g c =
     let s = c.args.self.now in
-    search_gone s.nodes.items s.heads.items c.args.fingerprint c.loop.at c.loop.counter c.loop.invariant (omega (arith, c.len-end.ensures, s.nodes.ok.0, c.loop-test.false))
+    search_gone s.nodes s.heads.items c.args.fingerprint c.loop.at c.loop.counter c.loop.invariant (omega (arith, c.len-end.ensures, c.loop-test.false))

@@ -12,8 +12,8 @@ index-next-requires g c =
     let below = bucket_below (length s.heads.items) s.buckets.factor s.buckets.shift c.args.fingerprint c.requires.kept.all_buckets in
     omega (arith, below, c.of-bucket.ensures, s.heads.ok.0)
 
-pub overflow_cast-before-2 : goal.overflow_cast-before-2
-overflow_cast-before-2 g c =
+pub overflow_cast-before : goal.overflow_cast-before
+overflow_cast-before g c =
     let s = c.args.self.now in
     let below = bucket_below (length s.heads.items) s.buckets.factor s.buckets.shift c.args.fingerprint c.requires.kept.all_buckets in
     let few = c.requires.kept.few in
@@ -25,10 +25,10 @@ overflow_add-before g c =
     let below = bucket_below (length s.heads.items) s.buckets.factor s.buckets.shift c.args.fingerprint c.requires.kept.all_buckets in
     let few = c.requires.kept.few in
     let limit = c.requires.kept.limit in
-    omega (arith, below, c.of-bucket.ensures, few, limit, c.len.ensures, s.nodes.ok.0)
+    omega (arith, below, c.of-bucket.ensures, few, limit, c.len.ensures)
 
-pub index_mut-requires-2 : goal.index_mut-requires-2
-index_mut-requires-2 g c =
+pub index_mut-requires : goal.index_mut-requires
+index_mut-requires g c =
     let s = c.args.self.now in
     let below = bucket_below (length s.heads.items) s.buckets.factor s.buckets.shift c.args.fingerprint c.requires.kept.all_buckets in
     omega (arith, below, c.of-bucket.ensures, s.heads.ok.0)
@@ -39,9 +39,8 @@ returns-clause-kept g c =
     let below = bucket_below (length s.heads.items) s.buckets.factor s.buckets.shift c.args.fingerprint c.requires.kept.all_buckets in
     let read = get_or_read s.heads.items c.of-bucket.result c.index-next.result.now (omega (arith, below, c.of-bucket.ensures)) c.index-next.ensures 0 in
     let next : c.index-next.result.now ≡ slice_index s.heads.items (bucket_of s.buckets.factor s.buckets.shift c.args.fingerprint) = read ∙ ap (slice_index s.heads.items) c.of-bucket.ensures in
-    let len : c.len.result ≡ length s.nodes.items = c.len.ensures ∙ s.nodes.ok.0 in
-    rw (c.set_before.ensures, next, c.of-bucket.ensures, len)
-    (put_kept s.nodes.items s.heads.items s.buckets.factor s.buckets.shift c.args.frame c.args.fingerprint c.requires.kept c.requires.within c.requires.free)
+    rw (c.set_before.ensures, c.set.ensures, next, c.of-bucket.ensures, c.len.ensures)
+    (put_kept s.nodes s.heads.items s.buckets.factor s.buckets.shift c.args.frame c.args.fingerprint c.requires.kept c.requires.within c.requires.free)
 
 pub returns-clause-held : goal.returns-clause-held
 returns-clause-held g c =
@@ -49,6 +48,5 @@ returns-clause-held g c =
     let below = bucket_below (length s.heads.items) s.buckets.factor s.buckets.shift c.args.fingerprint c.requires.kept.all_buckets in
     let read = get_or_read s.heads.items c.of-bucket.result c.index-next.result.now (omega (arith, below, c.of-bucket.ensures)) c.index-next.ensures 0 in
     let next : c.index-next.result.now ≡ slice_index s.heads.items (bucket_of s.buckets.factor s.buckets.shift c.args.fingerprint) = read ∙ ap (slice_index s.heads.items) c.of-bucket.ensures in
-    let len : c.len.result ≡ length s.nodes.items = c.len.ensures ∙ s.nodes.ok.0 in
-    rw (c.set_before.ensures, next, c.of-bucket.ensures, len)
-    (put_held s.nodes.items s.heads.items s.buckets.factor s.buckets.shift c.args.frame c.args.fingerprint c.requires.kept c.requires.within c.requires.free)
+    rw (c.set_before.ensures, c.set.ensures, next, c.of-bucket.ensures, c.len.ensures)
+    (put_held s.nodes s.heads.items s.buckets.factor s.buckets.shift c.args.frame c.args.fingerprint c.requires.kept c.requires.within c.requires.free)

@@ -4,5 +4,5 @@ use Rattle.frame_fingerprints.proofs.store.FrameFingerprints.remove.Goals as goa
 
 pub returns-else-is_used : goal.returns-else-is_used
 returns-else-is_used g c =
-    let stays = none_stays c.self.inside.chains.nodes.items c.args.frame (sym c.is_used.ensures.used ∙ c.if-is_used.false) in
+    let stays = none_stays c.self.inside.chains.nodes c.args.frame (sym c.is_used.ensures.used ∙ c.if-is_used.false) in
     rw (← c.self.view_is, stays) refl
