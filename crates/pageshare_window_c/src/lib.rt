@@ -1,19 +1,37 @@
-//! What the thread that lends a monitor's pages decides, for the C that makes its system calls: how much processor time it may use.
+//! What the thread that lends a monitor's pages decides, for the C that makes its system calls: what is done next with a page, how many
+//! mappings may be made, and how much processor time it may use.
 //!
-//! C keeps the numbers of a budget and passes their address to each call. No call has a condition on its arguments except that its
-//! references are valid. `host/preload/pageshare_window.h` declares the same functions in C, and says what the caller owes.
+//! C keeps the numbers of a budget and of each page, and passes their address to each call. No call has a condition on its arguments
+//! except that its references are valid. `window/pageshare_window.h` declares the same functions in C, and says what the caller owes.
 #![tactic(auto)]
 
-ghost use Rattle.std.specs.Prelude.{◌≡◌};
+ghost use Rattle.std.specs.Prelude.{◌≡◌, not, true, false};
 ghost use Rattle.work_budget.specs.Budgets.{begun, credited, paced, settled, wait_of};
+ghost use Rattle.mapping_room.specs.Rooms.{has_room, most_of};
+ghost use Rattle.page_lender.specs.Decisions.{is_busy, may_go_on, must_own};
+ghost use Rattle.page_lender.specs.Events.{IsFree, ShowsNone};
+ghost use Rattle.page_lender.specs.declared.order.Notice.TheVariants as Notice;
+ghost use Rattle.page_lender.specs.declared.order.Outcome.TheVariants as Outcome;
+ghost use Rattle.window_lender.specs.Runs.{IsChosen, IsDone, IsHeard, IsOrdered, is_free, order_due};
+ghost use Rattle.window_lender.specs.Huge.{order_of, part_then};
 ghost use Rattle.pageshare_window_c.specs.Budgets.{ledger_of, rates};
+ghost use Rattle.pageshare_window_c.specs.Pages.{bars_of, belief_of, chosen_as, lender_of, no_bars, number_of, takes};
+ghost use Rattle.pageshare_window_c.specs.Parts.{config_of, look_of, part_number, part_of};
 
 mod budget;
 mod laws;
+mod page;
+mod part;
 
 pub use budget::{CREDIT_NS, OWED_NS, SAVED_NS, WindowBudget};
 use budget::{budget_of, config_by, put};
 pub use laws::limits_law;
+use mapping_room::MappingRoom;
+use page::{choose, hear, may_go_on, next, number_of, take, take_back};
+pub use page::{WindowBars, WindowPage};
+use page_lender::{Notice, Outcome};
+use part::next_of_part;
+pub use part::{WindowPart, WindowPartConfig, WindowPartLook};
 use work_budget::Budget;
 
 /// Begins a budget at these readings of the clocks: the time, and the processor time that the thread has used. A share is 1 to 100
@@ -61,4 +79,130 @@ pub extern "C" fn pageshare_window_settle(budget: &mut WindowBudget, now: u64, s
     let wait = settled.settle(now, spent);
     put(budget, &settled);
     wait
+}
+
+/// Returns how many mappings windows may take in all, of so many that the system lets the process have.
+#[unsafe(no_mangle)]
+pub extern "C" fn pageshare_window_mappings_most(limit: u64) -> u64
+    ensures { result ≡ most_of limit }
+{
+    MappingRoom::new(limit).most()
+}
+
+/// Chooses a page to be lent, or its memory to be given back if it is zeros. Returns whether it can be: it is private, and nothing keeps
+/// it from being lent.
+#[unsafe(no_mangle)]
+pub extern "C" fn pageshare_window_choose(
+    page: &mut WindowPage,
+    bars: &WindowBars,
+    is_zeros: bool,
+) -> bool
+    ensures chosen { result ≡ is_free (lender_of (bars_of bars.now) page.old) }
+    ensures page { IsChosen (chosen_as is_zeros) (lender_of (bars_of bars.now) page.old) (lender_of (bars_of bars.now) page.new) }
+{
+    choose(page, bars, is_zeros)
+}
+
+/// Returns the number of what is to be done next with a page, which is an order from then on: 0 if there is nothing to do.
+#[unsafe(no_mangle)]
+pub extern "C" fn pageshare_window_next(page: &mut WindowPage, bars: &WindowBars) -> u8
+    ensures order { result ≡ number_of (order_due (lender_of (bars_of bars.now) page.old)) }
+    ensures page { IsOrdered (order_due (lender_of (bars_of bars.now) page.old)) (lender_of (bars_of bars.now) page.old) (lender_of (bars_of bars.now) page.new) }
+{
+    number_of(next(page, bars))
+}
+
+/// Takes back the order of a page with which nobody began.
+#[unsafe(no_mangle)]
+pub extern "C" fn pageshare_window_withdraw(page: &mut WindowPage)
+    ensures { page.new ≡ record page.old { ordered = false } }
+{
+    take_back(page);
+}
+
+/// Learns that a page's order was done. Returns false, and learns nothing, if no order is open that could be.
+#[unsafe(no_mangle)]
+pub extern "C" fn pageshare_window_done(page: &mut WindowPage) -> bool
+    ensures takes { result ≡ takes Outcome.Done page.old }
+    ensures done { result ≡ true → IsDone Outcome.Done (lender_of no_bars page.old) (lender_of no_bars page.new) }
+    ensures same { result ≡ false → page.new ≡ page.old }
+{
+    take(page, Outcome::Done)
+}
+
+/// Learns that a page's order wasn't done, and that nothing changed. Returns false, and learns nothing, if no order is open.
+#[unsafe(no_mangle)]
+pub extern "C" fn pageshare_window_refused(page: &mut WindowPage) -> bool
+    ensures takes { result ≡ takes Outcome.Refused page.old }
+    ensures done { result ≡ true → IsDone Outcome.Refused (lender_of no_bars page.old) (lender_of no_bars page.new) }
+    ensures same { result ≡ false → page.new ≡ page.old }
+{
+    take(page, Outcome::Refused)
+}
+
+/// Learns that it isn't known whether a page's order was done. Returns false, and learns nothing, if no order is open of which that may
+/// be so.
+#[unsafe(no_mangle)]
+pub extern "C" fn pageshare_window_unknown(page: &mut WindowPage) -> bool
+    ensures takes { result ≡ takes Outcome.Unknown page.old }
+    ensures done { result ≡ true → IsDone Outcome.Unknown (lender_of no_bars page.old) (lender_of no_bars page.new) }
+    ensures same { result ≡ false → page.new ≡ page.old }
+{
+    take(page, Outcome::Unknown)
+}
+
+/// Learns that the host gave this slot with this frame for a page. Returns false, and learns nothing, if it wasn't asked for a loan.
+#[unsafe(no_mangle)]
+pub extern "C" fn pageshare_window_lent(page: &mut WindowPage, slot: u32, frame: u32) -> bool
+    ensures takes { result ≡ takes (Outcome.Lent slot frame) page.old }
+    ensures done { result ≡ true → IsDone (Outcome.Lent slot frame) (lender_of no_bars page.old) (lender_of no_bars page.new) }
+    ensures same { result ≡ false → page.new ≡ page.old }
+{
+    take(page, Outcome::Lent(slot, frame))
+}
+
+/// Hears that a copy over a page's frame was found, or that it has memory of its own now. Returns false, and hears nothing, while an order
+/// is open that touches the page.
+#[unsafe(no_mangle)]
+pub extern "C" fn pageshare_window_written(page: &mut WindowPage) -> bool
+    ensures hears { result ≡ not (is_busy (lender_of no_bars page.old)) }
+    ensures heard { result ≡ true → IsHeard Notice.Written (lender_of no_bars page.old) (lender_of no_bars page.new) }
+    ensures same { result ≡ false → page.new ≡ page.old }
+{
+    hear(page, Notice::Written)
+}
+
+/// Hears that a page was given up. Returns false, and hears nothing, while an order is open that touches the page.
+#[unsafe(no_mangle)]
+pub extern "C" fn pageshare_window_discarded(page: &mut WindowPage) -> bool
+    ensures hears { result ≡ not (is_busy (lender_of no_bars page.old)) }
+    ensures heard { result ≡ true → IsHeard Notice.Discarded (lender_of no_bars page.old) (lender_of no_bars page.new) }
+    ensures same { result ≡ false → page.new ≡ page.old }
+{
+    hear(page, Notice::Discarded)
+}
+
+/// Returns whether a call of the monitor may go on that these bars are for: no write to the page waits, and a page that must have memory
+/// of its own shows no frame.
+#[unsafe(no_mangle)]
+pub extern "C" fn pageshare_window_may_go_on(page: &WindowPage, bars: &WindowBars) -> bool
+    ensures goes_on { result ≡ may_go_on (lender_of (bars_of bars.now) page.now) }
+    ensures free { result ≡ true → IsFree (belief_of page.now) }
+    ensures own { result ≡ true → must_own (bars_of bars.now) ≡ true → ShowsNone (belief_of page.now) }
+{
+    may_go_on(page, bars)
+}
+
+/// Returns the number of what is to be done with a part of a window after a look: 0 nothing, 1 it is split, 2 it is made whole. The caller
+/// then writes to `whole` whether it was done.
+#[unsafe(no_mangle)]
+pub extern "C" fn pageshare_window_next_of_part(
+    part: &mut WindowPart,
+    config: &WindowPartConfig,
+    look: &WindowPartLook,
+) -> u8
+    ensures order { result ≡ part_number (order_of (config_of config.now) (part_of part.old) (look_of look.now) look.now.is_loose look.now.is_movable) }
+    ensures part { part_of part.new ≡ part_then (config_of config.now) (part_of part.old) (look_of look.now) (order_of (config_of config.now) (part_of part.old) (look_of look.now) look.now.is_loose look.now.is_movable) }
+{
+    next_of_part(part, config, look)
 }

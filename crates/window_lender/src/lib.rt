@@ -12,4 +12,6 @@ mod settle;
 
 pub use huge::{PART_PAGES, Part, PartConfig, PartLook, PartOrder};
 pub use lender::WindowLender;
+pub use packed::{Kind, belief_of, frame_of, kind_of, slot_of};
+pub use parts::next_of;
 pub use run::{Loan, Run, Work};

@@ -6,9 +6,10 @@ use page_lender::{Bars, Belief, PageLender};
 use std::marker::Model;
 use std::mem::size_of;
 
-// A belief without its slot and frame.
+/// A belief without its slot and frame.
 #[derive(Clone, Copy, Debug, PartialEq, Eq)]
-pub(crate) enum Kind {
+pub enum Kind {
+    /// [`Belief::Private`], and so on.
     Private,
     Chosen,
     Copied,
@@ -18,7 +19,9 @@ pub(crate) enum Kind {
     Equal,
     LettingGo,
     Shown,
+    /// [`Belief::Homing`], to a copy where the page is.
     HomingInPlace,
+    /// [`Belief::Homing`], perhaps to other memory.
     Homing,
     Leaving,
     Unreleased,
@@ -71,9 +74,10 @@ impl PackedPage {
     }
 }
 
-// Returns which belief it is.
-fn kind_of(belief: Belief) -> Kind
-    ensures { result ≡ kind_of belief }
+/// Returns which belief it is.
+pub fn kind_of(belief: Belief) -> Kind
+    ensures value { result ≡ kind_of belief }
+    ensures back { belief_in result (slot_in belief) (frame_in belief) ≡ belief }
 {
     match belief {
         Belief::Private => Kind::Private,
@@ -96,8 +100,8 @@ fn kind_of(belief: Belief) -> Kind
     }
 }
 
-// Returns the slot of a belief, or 0.
-fn slot_of(belief: Belief) -> u32
+/// Returns the slot of a belief, or 0 if it has none.
+pub fn slot_of(belief: Belief) -> u32
     ensures { result ≡ slot_in belief }
 {
     match belief {
@@ -120,8 +124,8 @@ fn slot_of(belief: Belief) -> u32
     }
 }
 
-// Returns the frame of a belief, or 0.
-fn frame_of(belief: Belief) -> u32
+/// Returns the frame of a belief, or 0 if it has none.
+pub fn frame_of(belief: Belief) -> u32
     ensures { result ≡ frame_in belief }
 {
     match belief {
@@ -144,8 +148,8 @@ fn frame_of(belief: Belief) -> u32
     }
 }
 
-// Returns the belief of this kind.
-fn belief_of(kind: Kind, slot: u32, frame: u32) -> Belief
+/// Returns the belief of this kind with this slot and this frame, as far as it has them.
+pub fn belief_of(kind: Kind, slot: u32, frame: u32) -> Belief
     ensures { result ≡ belief_in kind slot frame }
 {
     match kind {

@@ -90,8 +90,8 @@ pub(crate) fn take_back<A: Allocator>(pages: &mut Pages<A>, from: u32, to: u32, 
     }
 }
 
-// Returns a page's next order.
-fn next_of(page: &mut PageLender) -> Order
+/// Gives a page's next order.
+pub fn next_of(page: &mut PageLender) -> Order
     ensures { IsOrdered result page.old page.new }
 {
     page.next()

@@ -105,9 +105,9 @@ impl Part {
         }
     }
 
-    // Returns what is to be done with the part after a look. `is_loose`: none of its pages is held. `is_movable`: nor does anything keep one
-    // from being lent.
-    pub(crate) fn next(
+    /// Returns what is to be done with the part after a look. `is_loose`: none of its pages is held. `is_movable`: nor does anything keep one
+    /// from being lent.
+    pub fn next(
         &mut self,
         config: &PartConfig,
         look: &PartLook,
