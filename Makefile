@@ -130,12 +130,12 @@ embed: out/$(FOLDER)libpageshare.a
 
 # Windows, through which guests' idle pages are lent (docs/MONITOR.md), by programs of threads, each stress for SECONDS
 # (10) at most. What this computer has no userfaultfd, sanitizer or right for is skipped, and reported.
-windows: out/libpageshare.a out/window_trace
+windows: out/libpageshare.a out/libpageshare_window.a out/window_trace
 	checks/windows.py out/libpageshare.a $(or $(SECONDS),10)
 
 # Guests under KVM whose memory the library shares (docs/MONITOR.md), for SECONDS (30) each, with KSM=1 under the
 # kernel's KSM as well, and with KERNEL=bzImage Linux as well. What this computer has no KVM or userfaultfd for is skipped, and reported.
-guests: out/libpageshare.a out/pageshare out/window_trace
+guests: out/libpageshare.a out/libpageshare_window.a out/pageshare out/window_trace
 	checks/guests.py out/libpageshare.a $(or $(SECONDS),30)
 
 # The library, static and shared: what is proved, and lib/src/library.c.

@@ -30,7 +30,7 @@ import sys
 from collections.abc import Sequence
 from typing import Any
 
-from common.c_programs import CC, FLAGS, LENDER, WINDOW, can_open, compile_c, needs_windows, passes, play, run
+from common.c_programs import CC, FLAGS, LENDER, WINDOW, WINDOW_LIBRARY, can_open, compile_c, needs_windows, passes, play, run
 from harness import OUT as BUILT
 from harness import TOP, LeftOut, StrPath, Tally, leave, needs
 
@@ -50,7 +50,7 @@ Figures = dict[str, Any]
 def build(name: str, library: StrPath, more: Sequence[str] = (), suffix: str = "") -> pathlib.Path:
     """Builds a program, and returns its path."""
     sources = [SOURCES / f"{part}.c" for part in [name, *PROGRAMS[name]]]
-    return compile_c([*FLAGS, *more, f"-I{TOP / 'lib/include'}", *sources, *LENDER, *WINDOW, library], OUT / (name + suffix))
+    return compile_c([*FLAGS, *more, f"-I{TOP / 'lib/include'}", *sources, *LENDER, *WINDOW, library, WINDOW_LIBRARY], OUT / (name + suffix))
 
 
 def build_guest() -> pathlib.Path:

@@ -16,7 +16,7 @@ import sys
 
 from harness import TOP, Tally
 
-HEADERS = ["lib/include/pageshare.h", "lib/include/pageshare_host.h", "host/preload/pageshare_window.h"]
+HEADERS = ["lib/include/pageshare.h", "lib/include/pageshare_host.h", "window/pageshare_window.h"]
 FOLDERS = {
     "crates/c_surface/src": "rt", "crates/pageshare_c/src": "rt", "crates/pageshare_host_c/src": "rt", "crates/pageshare_window_c/src": "rt",
     "lib/rust/src": "rs",
@@ -32,11 +32,13 @@ STRUCTS = {
     "DomainTotals": "pageshare_domain_totals pageshare_host_totals", "HostShape": "pageshare_host_shape",
     "KnownSession": "pageshare_host_session", "ReceivedPacket": "pageshare_host_received",
     "ServedPacket": "pageshare_host_served", "PacketHead": "pageshare_host_packet", "WindowBudget": "pageshare_window_budget",
+    "WindowPage": "pageshare_window_page", "WindowBars": "pageshare_window_bars", "WindowPart": "pageshare_window_part",
+    "WindowPartConfig": "pageshare_window_part_config", "WindowPartLook": "pageshare_window_part_look",
 }
 # A handle has a pointer and a flag; what is in it is private, and so are its names.
 HANDLES = {"Machine", "Slot", "DomainHandle", "DomainSlot", "HostHandle", "HostSlot", "Handle"}
 # What stands for a type of C. Each other one is a pointer, but for PhantomData, which takes no place.
-TYPES = {"u8": "uint8_t", "u32": "uint32_t", "u64": "uint64_t", "usize": "size_t"}
+TYPES = {"bool": "bool", "u8": "uint8_t", "u32": "uint32_t", "u64": "uint64_t", "usize": "size_t"}
 STRUCT = re.compile(r"#\[repr\(C\)\]\n(?:[ #/][^\n]*\n)*(?:pub(?:\(crate\))? )?struct (\w+)[^{\n]*\{\n((?:[^}\n][^\n]*\n)*)\}")
 STATUS = re.compile(r"^pub const (\w+): u32 = (\d+);$", re.M)
 ENUMERATOR = re.compile(r"^\s*(PAGESHARE_\w+) = (\d+)\b", re.M)

@@ -23,9 +23,10 @@ import pathlib
 import shutil
 import subprocess
 import sys
+import typing
 from collections.abc import Sequence
 
-from common.c_programs import CC, FLAGS, LENDER, WINDOW, compile_c, needs_windows, passes, play, run
+from common.c_programs import CC, FLAGS, LENDER, WINDOW, WINDOW_LIBRARY, compile_c, needs_windows, passes, play, run
 from harness import OUT as BUILT
 from harness import TOP, LeftOut, StrPath, Tally
 
@@ -44,26 +45,48 @@ CASES = {"pages": 120, "leaves": 120, "parts": 120, "guards": 120, "full": 120, 
 SANITIZED = {"address,undefined": ("pages", "leaves", "parts"), "thread": ("parts",)}
 STRESS_MORE = 120
 HUGE = ["--huge", "64", "--pages", "1500"]
+# A stress that looks for a wrong body, and the file of its record.
+LONG = ["--seconds", "20", "--writes", "40000000", "--trace"]
 WAYS: list[list[str]] = [
     [], ["--move", "0"], ["--scan", "0"], ["--pins", "1", "--rest", "7"], HUGE, [*HUGE, "--move", "0", "--rest", "7"], [*HUGE, "--pins", "1"],
 ]
 
-# Wrong bodies: file, a line's part that stands there once, what stands there instead, the test that finds it, and words for that.
-EQUAL = "are_equal(page, windows->frames_at + bytes_of(target))"
-ZEROED = "int cause = map_pages(window, first, count, ZEROS, protection);"
-DROPPED = "int cause = madvise(address_of(window, first), bytes_of(count), MADV_DONTNEED);"
-HELD = "hold->moves = false, memset(hold->held, 1, hold->count); return;"
-PINNED = ["--pins", "1", "--move", "0"]
-LONG = ["--seconds", "20", "--writes", "40000000", "--trace"]
+
+class Body(typing.NamedTuple):
+    """A wrong body: the file, a part of a line that stands there once, what stands there instead, and the test that finds it with its words."""
+
+    file: str
+    part: str
+    instead: str
+    test: list[str]
+
+
+ZEROED = "map_pages(window, first, count, ZEROS, PROT_READ | PROT_WRITE) != 0"
+DROPPED = "madvise(address_of(window, first), bytes_of(count), MADV_DONTNEED) != 0"
 GUARDED = "return cause == 0 ? pagemap_are_guarded(&windows->pagemap, at, PART) : cause;"
-BODIES: dict[str, tuple[str, str, str, list[str] | None]] = {
-    "lends without a comparison": ("lend.c", EQUAL, "true", []),
-    "holds nothing": ("lend.c", "if (!hold->moves && !is_over && may_pin(windows)) return;", HELD, []),
-    "takes what is shown for copies": ("kernel.c", "(ENTRY_FILE | ENTRY_GUARDED)", "ENTRY_GUARDED", ["--scan", "0"]),
-    "discards over a frame": ("home.c", ZEROED, DROPPED, []),
-    "guards what may be pinned": ("windows.c", "windows->pins = config->pins", "windows->pins = WINDOWS_PINS_NEVER", PINNED),
-    "copies a part unguarded": ("parts.c", GUARDED, "return faults_end_watch(&windows->faults, at, PART);", None),
-    "copies what may be pinned": ("parts.c", "if (cause == 0 && may_pin(windows)) cause = EBUSY;", "", None),
+PINNED = ".pinned = is_pinned(window, number) || (may_be_copy && may_pin(windows)),"
+REFUSED = "void note_refused(struct window *window, size_t number) {"
+DISCARDED = "    pageshare_window_discarded(&page);"
+ENDED = "        if (ends_with_watch(hold, i)) outcome(hold, i, !is_stuck(windows, hold->first + i));"
+BODIES = {
+    "lends without a comparison": Body("lend.c", "hold->equal[i] = are_equal(page, windows->frames_at + bytes_of(frame));",
+                                       "hold->equal[i] = true;", ["stress"]),
+    "holds nothing": Body("lend.c", "if (!hold->moves && !is_over && may_pin(windows)) return false;",
+                          "hold->moves = false, memset(hold->held, 1, hold->count); return true;", ["stress"]),
+    "takes what is shown for copies": Body("kernel.c", "(ENTRY_FILE | ENTRY_GUARDED)", "ENTRY_GUARDED", ["stress", "--scan", "0"]),
+    "discards over a frame": Body("home.c", ZEROED, DROPPED, ["stress"]),
+    "guards what may be pinned": Body("windows.c", "windows->pins = config->pins", "windows->pins = WINDOWS_PINS_NEVER",
+                                      ["stress", "--pins", "1", "--move", "0"]),
+    "copies a part unguarded": Body("parts.c", GUARDED, "return faults_end_watch(&windows->faults, at, PART);", ["parts"]),
+    "copies what may be pinned": Body("parts.c", "if (cause == 0 && may_pin(windows)) cause = EBUSY;", "", ["parts"]),
+    "lends what a child may have": Body("belief.c", ".inherited = !window->advice.dont_fork,", ".inherited = false,", ["pages"]),
+    "lends what a device may have": Body("belief.c", PINNED, ".pinned = may_be_copy && may_pin(windows),", ["parts"]),
+    "lends what is locked": Body("belief.c", ".locked = windows->is_locked,", ".locked = false,", ["pages"]),
+    "lends what has left": Body("belief.c", ".left = page->out == 1,", ".left = false,", ["parts"]),
+    "lends after the end": Body("belief.c", ".ended = window->ends || windows->is_over};", ".ended = false};", ["leaves"]),
+    "hears no discard": Body("belief.c", DISCARDED, "", ["pages"]),
+    "counts a refused release as done": Body("belief.c", REFUSED, f"{REFUSED} note_done(window, number); return;", ["pages"]),
+    "never says that a watch ended": Body("lend.c", ENDED, "", ["guards"]),
 }
 
 
@@ -71,7 +94,7 @@ def build(name: str, library: StrPath, more: Sequence[str] = (), suffix: str = "
     """Builds a test, and returns its path."""
     wraps = [f"-Wl,--wrap={call}" for call in WRAPS.get(name, [])]
     sources = [TESTS / f"{part}.c" for part in [name, *MORE[name]]]
-    return compile_c([*FLAGS, *more, *wraps, f"-I{TOP / 'lib/include'}", *sources, *WINDOW, *LENDER, library], OUT / (name + suffix))
+    return compile_c([*FLAGS, *more, *wraps, f"-I{TOP / 'lib/include'}", *sources, *WINDOW, *LENDER, library, WINDOW_LIBRARY], OUT / (name + suffix))
 
 
 def has_sanitizer(name: str) -> bool:
@@ -103,37 +126,38 @@ def record(tally: Tally, library: StrPath, seconds: str) -> None:
             tally.part(play, trace)
 
 
-def with_body(name: str, file: str, part: str, instead: str) -> pathlib.Path:
+def with_body(name: str, body: Body) -> pathlib.Path:
     """The folder of a copy of the sources with a wrong body."""
     folder = OUT / "wrong"
     shutil.rmtree(folder, ignore_errors=True)
     for part_of in ["window", "lib/include"]:
         shutil.copytree(TOP / part_of, folder / part_of)
-    text = (folder / "window" / file).read_text()
-    if text.count(part) != 1:
-        sys.exit(f"{name}: its line stands {text.count(part)} times in {file}")
-    (folder / "window" / file).write_text(text.replace(part, instead))
+    path = folder / "window" / body.file
+    text = path.read_text()
+    if text.count(body.part) != 1:
+        sys.exit(f"{name}: its line stands {text.count(body.part)} times in {body.file}")
+    path.write_text(text.replace(body.part, body.instead))
     return folder
 
 
-def is_found(folder: pathlib.Path, library: StrPath, more: Sequence[str] | None) -> bool:
-    """Whether the stress fails with these sources and words, or its record does; without words what becomes of parts."""
-    name = "parts" if more is None else "stress"
+def is_found(folder: pathlib.Path, library: StrPath, words: Sequence[str]) -> bool:
+    """Whether a test fails with these sources and words; of a stress, whether its record does."""
+    name = words[0]
     sources = [folder / source.relative_to(TOP) for source in [*(TESTS / f"{it}.c" for it in [name, *MORE[name]]), *WINDOW, *LENDER]]
     flags = [flag for flag in FLAGS if flag != "-Werror"] + ["-w", "-DWINDOW_TRACE", f"-I{folder / 'lib/include'}"]
     wraps = [f"-Wl,--wrap={call}" for call in WRAPS.get(name, [])]
-    test = compile_c([*flags, *wraps, *sources, library], OUT / f"{name}_wrong")
+    test = compile_c([*flags, *wraps, *sources, library, WINDOW_LIBRARY], OUT / f"{name}_wrong")
     trace, program = OUT / "wrong.trace", BUILT / "window_trace"
-    words: list[StrPath] = [test] if more is None else [test, *LONG, trace, *more]
-    if run(words, capture_output=True).returncode != 0:
+    more: list[StrPath] = [*LONG, trace] if name == "stress" else []
+    if run([test, *more, *words[1:]], capture_output=True).returncode != 0:
         return True
-    return more is not None and program.exists() and run([program, trace]).returncode == 1
+    return name == "stress" and program.exists() and run([program, trace]).returncode == 1
 
 
 def wrong_bodies(tally: Tally, library: StrPath) -> None:
     """Each wrong body must be found."""
-    for name, (file, part, instead, more) in BODIES.items():
-        tally.holds(name, is_found(with_body(name, file, part, instead), library, more), "a wrong body that wasn't found")
+    for name, body in BODIES.items():
+        tally.holds(name, is_found(with_body(name, body), library, body.test), "a wrong body that wasn't found")
 
 
 def all_tests(tally: Tally, library: StrPath, seconds: str) -> None:

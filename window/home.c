@@ -25,7 +25,8 @@ static void clear(struct window *window, size_t first, size_t count) {
 static void note_given_up(struct window *window, size_t first, size_t count, bool is_cleared) {
     struct windows *windows = window->windows;
     for (size_t page = first; page < first + count; page++) {
-        stop_showing(window, page);
+        hear_discarded(window, page);
+        stop_showing_past(window, page);
         note_zero(window, page, false);
         forget_content(window, page);
         if (is_cleared) trace_copy(windows->trace, window->base + (uint32_t)page, address_of(window, page));
@@ -83,7 +84,7 @@ struct window_result for_parts(struct window *window, size_t first, size_t count
 }
 
 static struct window_result discard_part(struct window *window, size_t first, size_t count) {
-    struct window_result result = result_of(WINDOW_OK, 0);
+    struct window_result result = may_give_up(window, first, count) ? result_of(WINDOW_OK, 0) : result_of(WINDOW_STUCK, EBUSY);
     for (size_t done = 0, run = 0; done < count && result.status == WINDOW_OK; done += run) {
         run = alike(window, first + done, count - done);
         if (!is_here(window, first + done)) continue;
@@ -111,9 +112,33 @@ size_t window_run(struct window *window, size_t first, size_t most, bool *is_its
 struct home {
     struct window *window;
     size_t first, count;
-    uint8_t *at;           /* the memory elsewhere */
-    bool stays[HOME_MOST]; /* a device may have pinned its copy */
+    uint8_t *at;                                   /* the memory elsewhere */
+    bool stays[HOME_MOST];                         /* a device may have pinned its copy */
+    struct pageshare_window_page pages[HOME_MOST]; /* what is believed of them */
 };
+
+/* Orders that pages that show their frames get memory of their own; `why`: what keeps them from being lent, beside what does so already. */
+static void order_home(struct window *window, size_t first, size_t count, struct pageshare_window_bars why,
+                       struct pageshare_window_page *pages) {
+    for (size_t i = 0; i < count; i++) {
+        const struct pageshare_window_bars bars = bars_with(window, first + i, why);
+        pages[i] = believed(&window->pages[first + i]);
+        if (is_lent(&window->pages[first + i])) pageshare_window_next(&pages[i], &bars);
+    }
+}
+
+/* Whether a page was ordered to get memory of its own. */
+static bool is_homing(const struct pageshare_window_page *page) {
+    return page->belief == PAGESHARE_WINDOW_HOMING || page->belief == PAGESHARE_WINDOW_HOMING_IN_PLACE;
+}
+
+/* What came of that. */
+static void note_homing(struct window *window, size_t number, struct pageshare_window_page *page, bool is_done) {
+    if (!is_homing(page)) return;
+    if (is_done) pageshare_window_done(page);
+    else pageshare_window_refused(page);
+    believe(window, number, page);
+}
 
 /* Takes memory for pages, and guards them. Returns 0 or an errno; if it isn't 0, nothing is guarded. */
 static int begin_home(struct home *home) {
@@ -131,7 +156,7 @@ static int begin_home(struct home *home) {
 
 /*
  * Finds which pages have to stay. They are guarded, so a copy that isn't pinned by now won't be: a device that pins a page to write to
- * it waits as other writers do. Where nobody pins pages all can go; else only those that show their frame.
+ * it waits as other writers do. Where nobody pins pages all can go; else only those that show their frame, and may get other memory.
  */
 static int find_staying(struct home *home) {
     struct windows *windows = home->window->windows;
@@ -139,7 +164,8 @@ static int find_staying(struct home *home) {
     find_pins(windows);
     int cause = pagemap_find_copies(&windows->pagemap, address_of(home->window, home->first), home->count, own);
     for (size_t i = 0; i < home->count && cause == 0; i++)
-        home->stays[i] = own[i] && (may_pin(windows) || is_pinned(home->window, home->first + i));
+        home->stays[i] = home->pages[i].belief == PAGESHARE_WINDOW_HOMING_IN_PLACE ||
+                         (own[i] && (may_pin(windows) || is_pinned(home->window, home->first + i)));
     return cause;
 }
 
@@ -151,6 +177,7 @@ static int bring(struct home *home, size_t from, size_t count) {
     if (mremap(copies, bytes_of(count), bytes_of(count), MREMAP_MAYMOVE | MREMAP_FIXED, to) == MAP_FAILED) return errno;
     note_moved(window, home->first + from, count);
     for (size_t i = from; i < from + count; i++) {
+        note_homing(window, home->first + i, &home->pages[i], true);
         forget_content(window, home->first + i);
         trace_copy(window->windows->trace, window->base + (uint32_t)(home->first + i), to + bytes_of(i - from));
     }
@@ -175,16 +202,20 @@ static int bring_home(struct home *home) {
     return kept != 0 ? kept : cause;
 }
 
-/* Gives pages over frames a copy of their own, where they are. Returns 0 or an errno. */
+/* Gives pages over frames, at most PART, a copy of their own, where they are. Returns 0 or an errno. */
 static int copy_in_place(struct window *window, size_t first, size_t count) {
-    if (madvise(address_of(window, first), bytes_of(count), MADV_POPULATE_WRITE) < 0) return errno;
-    for (size_t page = first; page < first + count; page++) {
-        if (window->pages[page].shows == 0) continue;
-        stop_showing(window, page);
-        trace_copy(window->windows->trace, window->base + (uint32_t)page, address_of(window, page));
+    struct pageshare_window_page pages[PART];
+    order_home(window, first, count, (struct pageshare_window_bars){.pinned = true}, pages);
+    int cause = madvise(address_of(window, first), bytes_of(count), MADV_POPULATE_WRITE) < 0 ? errno : 0;
+    for (size_t i = 0; i < count; i++) {
+        bool is_copied = cause == 0 && (is_homing(&pages[i]) || shows_past(&window->pages[first + i]));
+        note_homing(window, first + i, &pages[i], cause == 0);
+        if (!is_copied) continue;
+        stop_showing_past(window, first + i);
+        trace_copy(window->windows->trace, window->base + (uint32_t)(first + i), address_of(window, first + i));
         window->windows->counts.taken_home++;
     }
-    return 0;
+    return cause;
 }
 
 /* What is over frames still gets a copy of its own there. */
@@ -199,18 +230,24 @@ static struct window_result settle_home(struct window *window, size_t first, siz
 }
 
 struct window_result take_home(struct window *window, size_t first, size_t count) {
+    return take_home_for(window, first, count, (struct pageshare_window_bars){.called = false});
+}
+
+struct window_result take_home_for(struct window *window, size_t first, size_t count, struct pageshare_window_bars why) {
     struct windows *windows = window->windows;
     for (size_t done = 0, run = 0; done < count; done += run) {
         run = least(alike(window, first + done, count - done), HOME_MOST);
         const struct page *page = &window->pages[first + done];
         if (page->over == 0 || page->out == 1) continue;
         struct home home = {.window = window, .first = first + done, .count = run};
+        order_home(window, home.first, run, why, home.pages);
         int cause = bring_home(&home);
+        for (size_t i = 0; i < run; i++) note_homing(window, home.first + i, &home.pages[i], false);
         if (windows->stuck_count > 0) return result_of(WINDOW_STUCK, cause);
         struct window_result result = settle_home(window, first + done, run);
         if (result.status != WINDOW_OK) return result;
     }
-    return result_of(WINDOW_OK, 0);
+    return may_go_on(window, first, count, why) ? result_of(WINDOW_OK, 0) : result_of(WINDOW_STUCK, EBUSY);
 }
 
 void take_all_home(struct windows *windows) {
@@ -243,7 +280,7 @@ void end_advice(struct window *window, size_t first, size_t count) {
 }
 
 static struct window_result cut_part(struct window *window, size_t first, size_t count) {
-    struct window_result result = take_home(window, first, count);
+    struct window_result result = take_home_for(window, first, count, (struct pageshare_window_bars){.left = true});
     if (result.status != WINDOW_OK) return result;
     end_advice(window, first, count);
     for (size_t page = first; page < first + count; page++) {
@@ -270,7 +307,8 @@ void window_forget(struct window *window, size_t first, size_t count) {
     windows->counts.mappings -= mappings_of(window, first, count);
     for (size_t page = first; page < first + count; page++) {
         if (is_here(window, page)) trace_discard(windows->trace, window->base + (uint32_t)page);
-        stop_showing(window, page);
+        hear_discarded(window, page);
+        stop_showing_past(window, page);
         forget_content(window, page);
         note_zero(window, page, false);
         window->pages[page].over = window->pages[page].past = 0;
@@ -281,7 +319,9 @@ void window_forget(struct window *window, size_t first, size_t count) {
 }
 
 static struct window_result pin_part(struct window *window, size_t first, size_t count) {
-    return settle_home(window, first, count);
+    struct window_result result = settle_home(window, first, count);
+    bool waits = result.status == WINDOW_OK && !may_go_on(window, first, count, (struct pageshare_window_bars){.pinned = true});
+    return waits ? result_of(WINDOW_STUCK, EBUSY) : result;
 }
 
 /* Changes the pages' counts by one, if all can be. Takes the lock. */

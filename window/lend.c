@@ -14,13 +14,28 @@ static const uint64_t turn_ns = 1000000;
 struct hold {
     struct window *window;
     size_t first, count;
-    uint64_t begun_ns; /* since then somebody may have to wait for them */
-    size_t left;       /* how many of them are held still */
-    bool moves;        /* they are taken out of their place; otherwise writes are guarded */
-    size_t scratch;    /* where they are then, in the scratch area */
-    uint32_t targets[HOLD_MOST];
+    uint64_t begun_ns;                             /* since then somebody may have to wait for them */
+    size_t left;                                   /* how many of them are held still */
+    bool moves;                                    /* they are taken out of their place; otherwise writes are guarded */
+    size_t scratch;                                /* where they are then, in the scratch area */
+    struct pageshare_window_page pages[HOLD_MOST]; /* what is believed of them */
     bool held[HOLD_MOST], equal[HOLD_MOST], shown[HOLD_MOST];
+    enum pageshare_window_order ordered[HOLD_MOST]; /* what is done with them just now */
 };
+
+/* What is to be done with a page next. */
+static enum pageshare_window_order next_order(struct hold *hold, size_t i) {
+    if (hold->ordered[i] != PAGESHARE_WINDOW_WAIT) return hold->ordered[i];
+    hold->ordered[i] = order_of(hold->window, hold->first + i, &hold->pages[i]);
+    return hold->ordered[i];
+}
+
+/* What came of it. */
+static void outcome(struct hold *hold, size_t i, bool is_done) {
+    if (is_done) pageshare_window_done(&hold->pages[i]);
+    else pageshare_window_refused(&hold->pages[i]);
+    hold->ordered[i] = PAGESHARE_WINDOW_WAIT;
+}
 
 static uint8_t *place_of(const struct hold *hold, size_t i) {
     if (hold->moves) return hold->window->windows->scratch + bytes_of(hold->scratch + i);
@@ -45,13 +60,13 @@ static void guard(struct hold *hold) {
     for (size_t i = 0; i < hold->count && cause == 0; i++) hold->held[i] = !own[i];
 }
 
-/* The pages are held that can be, and none if the system refuses. */
-static void take(struct hold *hold) {
+/* Takes out or guards what can be; nothing if the system refuses. Returns whether writes to any of the pages may wait since. */
+static bool begin_hold(struct hold *hold) {
     struct windows *windows = hold->window->windows;
     void *at = address_of(hold->window, hold->first);
     bool is_over = hold->window->pages[hold->first].over == 1;
     hold->moves = windows->faults.moves && !is_over;
-    if (!hold->moves && !is_over && may_pin(windows)) return;
+    if (!hold->moves && !is_over && may_pin(windows)) return false;
     if (!hold->moves) {
         /* (the kernel's KSM lifts a guard; and what is left of a huge page takes all its memory until it is split) */
         madvise(at, bytes_of(hold->count), MADV_UNMERGEABLE);
@@ -61,7 +76,7 @@ static void take(struct hold *hold) {
     if (cause == 0) cause = faults_watch(&windows->faults, at, hold->count, hold->moves ? FAULTS_OF_MISSING : FAULTS_OF_WRITES);
     if (cause != 0) {
         note_failure(windows, WINDOW_NO_MAPPING, cause);
-        return;
+        return false;
     }
     hold->begun_ns = clock_now_ns();
     if (hold->moves) {
@@ -70,6 +85,16 @@ static void take(struct hold *hold) {
         faults_move(&windows->faults, place_of(hold, 0), at, hold->count, hold->held);
     } else {
         guard(hold);
+    }
+    return true;
+}
+
+/* The pages are held that can be. (Writes to one that isn't may wait all the same, until the watch ends.) */
+static void take(struct hold *hold) {
+    bool is_begun = begin_hold(hold);
+    for (size_t i = 0; i < hold->count; i++) {
+        if (is_begun && !hold->held[i]) pageshare_window_unknown(&hold->pages[i]);
+        else outcome(hold, i, hold->held[i]);
     }
 }
 
@@ -80,19 +105,22 @@ static void compare(struct hold *hold) {
         if (!hold->held[i]) continue;
         hold->left++;
         const uint8_t *page = place_of(hold, i);
-        uint32_t target = hold->targets[i];
-        hold->equal[i] = target == ZEROS ? is_zero(page) : are_equal(page, windows->frames_at + bytes_of(target));
+        uint32_t frame = hold->pages[i].frame;
+        enum pageshare_window_order order = next_order(hold, i);
+        if (order == PAGESHARE_WINDOW_COMPARE_ZEROS) hold->equal[i] = is_zero(page);
+        if (order == PAGESHARE_WINDOW_COMPARE) hold->equal[i] = are_equal(page, windows->frames_at + bytes_of(frame));
         trace_content(windows->trace, number_of(hold, i), page);
         trace_guard(windows->trace, number_of(hold, i));
-        if (hold->equal[i] && target != ZEROS) trace_lend(windows->trace, number_of(hold, i), target);
+        if (hold->equal[i] && order == PAGESHARE_WINDOW_COMPARE) trace_lend(windows->trace, number_of(hold, i), frame);
+        if (order == PAGESHARE_WINDOW_COMPARE || order == PAGESHARE_WINDOW_COMPARE_ZEROS) outcome(hold, i, hold->equal[i]);
     }
 }
 
-/* How many pages from the i-th on can be mapped by one call. */
+/* How many pages from the i-th on, which is to be mapped or given back, can be so by one call. */
 static size_t run_of(const struct hold *hold, size_t i) {
     size_t end = i + 1;
-    for (; end < hold->count && hold->equal[end]; end++)
-        if (hold->targets[i] == ZEROS ? hold->targets[end] != ZEROS : hold->targets[end] != hold->targets[end - 1] + 1) break;
+    for (; end < hold->count && hold->ordered[end] == hold->ordered[i]; end++)
+        if (hold->ordered[i] == PAGESHARE_WINDOW_MAP && hold->pages[end].frame != hold->pages[end - 1].frame + 1) break;
     return end - i;
 }
 
@@ -119,25 +147,36 @@ static void note_held(struct hold *hold, size_t count) {
     note_hold(hold->window->windows, hold->begun_ns, count);
 }
 
-/* Maps what is to be shown, and lets the threads go on that wait for it. */
-static void map(struct hold *hold) {
+/* Maps frames in a row, or zeros, and lets the threads go on that wait for them. */
+static void map_run(struct hold *hold, size_t i, size_t count) {
     struct windows *windows = hold->window->windows;
+    bool is_frame = hold->ordered[i] == PAGESHARE_WINDOW_MAP;
+    /* (where a page was taken out of anonymous memory zeros are left) */
+    bool is_mapped = is_frame || !hold->moves;
+    const int protection = PROT_READ | PROT_WRITE;
+    uint32_t target = is_frame ? hold->pages[i].frame : ZEROS;
+    int cause = is_mapped ? map_pages(hold->window, hold->first + i, count, target, protection) : 0;
+    if (cause != 0) {
+        note_crowded(windows, count);
+        note_failure(windows, WINDOW_NO_MAPPING, cause);
+    }
+    for (size_t place = i; place < i + count; place++) {
+        hold->shown[place] = cause == 0;
+        if (is_mapped) outcome(hold, place, cause == 0);
+    }
+    /* (if nobody is woken here the end of the watch does it; a page that was taken out is given back only then) */
+    if (cause == 0 && is_mapped && faults_wake(&windows->faults, address_of(hold->window, hold->first + i), count) == 0)
+        note_held(hold, count);
+}
+
+/* Shows what is to be shown. */
+static void map(struct hold *hold) {
+    for (size_t i = 0; i < hold->count; i++)
+        if (hold->equal[i]) next_order(hold, i);
     for (size_t i = 0, count = 1; i < hold->count; i += count) {
-        count = hold->equal[i] ? run_of(hold, i) : 1;
-        if (!hold->equal[i]) continue;
-        /* (where a page was taken out of anonymous memory zeros are left) */
-        bool is_mapped = hold->targets[i] != ZEROS || !hold->moves;
-        const int protection = PROT_READ | PROT_WRITE;
-        int cause = is_mapped ? map_pages(hold->window, hold->first + i, count, hold->targets[i], protection) : 0;
-        if (cause != 0) {
-            note_crowded(windows, count);
-            note_failure(windows, WINDOW_NO_MAPPING, cause);
-            continue;
-        }
-        memset(hold->shown + i, true, count * sizeof hold->shown[0]);
-        /* (if nobody is woken here the end of the watch does it) */
-        if (is_mapped && faults_wake(&windows->faults, address_of(hold->window, hold->first + i), count) == 0)
-            note_held(hold, count);
+        bool is_ordered = hold->ordered[i] == PAGESHARE_WINDOW_MAP || hold->ordered[i] == PAGESHARE_WINDOW_GIVE_BACK;
+        count = is_ordered ? run_of(hold, i) : 1;
+        if (is_ordered) map_run(hold, i, count);
     }
 }
 
@@ -159,14 +198,14 @@ static void end_watch(struct hold *hold) {
 }
 
 /* Puts back what was taken out and isn't shown. */
-static void let_go(struct hold *hold) {
+static void put_back(struct hold *hold, bool *any_remapped) {
     struct windows *windows = hold->window->windows;
-    bool remapped = false, any_remapped = false;
+    bool remapped = false;
     for (size_t i = 0; i < hold->count && hold->moves; i++) {
         if (!hold->held[i] || hold->shown[i]) continue;
         int cause = faults_put(&windows->faults, address_of(hold->window, hold->first + i), place_of(hold, i), &remapped);
         if (cause == 0 && remapped) {
-            any_remapped = true;
+            *any_remapped = true;
             note_moved(hold->window, hold->first + i, 1);
         }
         if (cause == 0) continue;
@@ -174,7 +213,29 @@ static void let_go(struct hold *hold) {
         windows->stuck[windows->stuck_count++] =
             (struct stuck){.window = hold->window, .page = (uint32_t)(hold->first + i), .scratch = (uint32_t)(hold->scratch + i)};
     }
+}
+
+/* Whether a page isn't to be shown, and writes to it may wait still. */
+static bool is_to_go(const struct hold *hold, size_t i) {
+    uint8_t belief = hold->pages[i].belief;
+    return belief == PAGESHARE_WINDOW_LETTING_GO || belief == PAGESHARE_WINDOW_PUTTING_BACK;
+}
+
+/* Whether what came of a page's order is known once the watch has ended. */
+static bool ends_with_watch(const struct hold *hold, size_t i) {
+    return is_to_go(hold, i) || hold->ordered[i] == PAGESHARE_WINDOW_GIVE_BACK;
+}
+
+/* Lets all go that isn't shown. What is stuck is let go later. */
+static void let_go(struct hold *hold) {
+    struct windows *windows = hold->window->windows;
+    bool any_remapped = false;
+    for (size_t i = 0; i < hold->count; i++)
+        if (is_to_go(hold, i)) next_order(hold, i);
+    put_back(hold, &any_remapped);
     end_watch(hold);
+    for (size_t i = 0; i < hold->count; i++)
+        if (ends_with_watch(hold, i)) outcome(hold, i, !is_stuck(windows, hold->first + i));
     if (windows->stuck_count > 0 || !hold->moves) return;
     int cause = any_remapped ? make_scratch(windows) : 0;
     if (cause != 0) note_failure(windows, WINDOW_NO_MAPPING, cause);
@@ -185,22 +246,19 @@ static void note_page(const struct hold *hold, size_t i) {
     struct windows *windows = hold->window->windows;
     size_t number = hold->first + i;
     struct page *page = &hold->window->pages[number];
-    bool is_lent = hold->shown[i] && hold->targets[i] != ZEROS;
+    bool is_lent = hold->pages[i].belief == PAGESHARE_WINDOW_SHOWN;
+    believe(hold->window, number, &hold->pages[i]);
     page->looks = hold->held[i] ? 0 : 1;
     page->asks = hold->held[i] ? 0 : ASKS_APART_MOST; /* (what is pinned is tried again later) */
     if (!hold->held[i]) windows->counts.pinned++;
     else if (!hold->equal[i]) windows->counts.changed++;
     if (is_lent) {
-        page->shows = 1;
-        part_of(hold->window, number)->releases--;
         windows->counts.lends++;
-        windows->counts.lent++;
         trace_map(windows->trace, number_of(hold, i));
     } else if (hold->shown[i]) {
-        page->shows = 0;
         note_zero(hold->window, number, true);
         windows->counts.zeros++;
-        trace_discard(windows->trace, number_of(hold, i));
+        if (!is_stuck(windows, number)) trace_discard(windows->trace, number_of(hold, i));
     } else if (hold->held[i] && !is_stuck(windows, number)) {
         trace_unguard(windows->trace, number_of(hold, i));
     }
@@ -212,7 +270,8 @@ static void keep_from_children(const struct hold *hold) {
     int cause = advice_say(address_of(hold->window, hold->first), hold->count, MADV_DONTFORK);
     if (cause == 0) return;
     windows->advice_cause = cause;
-    struct window_result result = take_home(hold->window, hold->first, hold->count);
+    const struct pageshare_window_bars why = {.inherited = true};
+    struct window_result result = take_home_for(hold->window, hold->first, hold->count, why);
     if (result.status != WINDOW_OK) note_failure(windows, result.status, result.cause);
 }
 
@@ -228,7 +287,7 @@ static void settle(struct hold *hold) {
     let_go(hold);
     note_held(hold, hold->left);
     for (size_t i = 0; i < hold->count; i++) {
-        any_file = any_file || (hold->shown[i] && hold->targets[i] != ZEROS);
+        any_file = any_file || hold->pages[i].belief == PAGESHARE_WINDOW_SHOWN;
         note_page(hold, i);
     }
     if (any_file) say_again(hold->window, hold->first, hold->count, true);
@@ -236,26 +295,15 @@ static void settle(struct hold *hold) {
     windows->counts.map_ns += clock_spent_ns() - spent;
 }
 
-/* Whether a page could be lent if its part were split. With the lock. */
-static bool could_lend(const struct window *window, size_t number) {
-    const struct page *page = &window->pages[number];
-    if (!can_lend(window) || page->out == 1 || is_pinned(window, number)) return false;
-    if (page->over == 1 && page->shows == 0 && may_pin(window->windows)) return false;
-    return page->shows == 0 || page->past == 1;
-}
-
-/* Whether a page may be held. It is asked when it is found idle, and again when it is held, since all of it may have changed. With the lock. */
-static bool can_settle(const struct window *window, size_t number) {
-    return could_lend(window, number) && !part_of(window, number)->whole && !window->windows->is_locked;
-}
-
 /*
  * Whether a page equals what it is to show, although it may still be written: otherwise it isn't held at all. The comparison that
  * counts comes later, and finds both in the processor's cache.
  */
-static bool seems_equal(const struct window *window, size_t number, uint32_t target) {
+static bool seems_equal(const struct window *window, size_t number, const struct pageshare_window_page *believed) {
+    const struct windows *windows = window->windows;
     const uint8_t *page = address_of(window, number);
-    return target == ZEROS ? is_zero(page) : are_equal(page, window->windows->frames_at + bytes_of(target));
+    if (believed->belief == PAGESHARE_WINDOW_ZEROS) return is_zero(page);
+    return believed->frame < windows->lender.frame_count && are_equal(page, windows->frames_at + bytes_of(believed->frame));
 }
 
 /* A page that was written since its bytes were copied stays private. */
@@ -276,43 +324,58 @@ void begin_turn(struct turn *turn) {
     turn->counted_ns = now;
 }
 
-/* Settles pages of the batch from the i-th on that are in a row. Returns how many. Takes the lock. */
-static size_t settle_run(struct windows *windows, const struct batch *batch, size_t i, const uint32_t *targets) {
+/* What a page of a batch is to become. */
+enum wish { TO_BE_SHOWN, TO_BE_GIVEN_BACK };
+
+/*
+ * Orders a page to be held, if it is equal to what it is to show. All of it may have changed since it was found idle. Otherwise its loan,
+ * if it has one, is to be released. With the lock.
+ */
+static bool order_hold(struct window *window, size_t number, enum wish wish, struct pageshare_window_page *page) {
+    const struct pageshare_window_bars bars = bars_of(window, number);
+    bool is_zeros = wish == TO_BE_GIVEN_BACK;
+    *page = believed(&window->pages[number]);
+    if (is_zeros && !pageshare_window_choose(page, &bars, true)) return false;
+    enum pageshare_window_order order = order_of(window, number, page);
+    bool is_ordered = order == (is_zeros ? PAGESHARE_WINDOW_HOLD_ZEROS : PAGESHARE_WINDOW_HOLD);
+    bool is_equal = is_ordered && seems_equal(window, number, page);
+    if (is_equal && !part_of(window, number)->whole) return true;
+    if (is_ordered) pageshare_window_refused(page);
+    else pageshare_window_withdraw(page);
+    believe(window, number, page);
+    if (is_ordered && !is_equal) note_changed(window, number);
+    return false;
+}
+
+/* Settles pages of the batch from the i-th on that are in a row. Returns how many are settled, or stay as they are. Takes the lock. */
+static size_t settle_run(struct windows *windows, const struct batch *batch, size_t i, enum wish wish) {
     struct window *window = batch->window;
     struct hold hold = {.window = window, .first = batch->pages[i]};
+    size_t passed = 0;
     begin_turn(&windows->turn);
     lock_for_look(windows);
     while (hold.count < HOLD_MOST && i + hold.count < batch->count) {
         size_t page = batch->pages[i + hold.count];
-        uint32_t target = targets[i + hold.count];
-        if (page != hold.first + hold.count || target == WINDOW_NO_FRAME || windows->stuck_count > 0) break;
-        if (!can_settle(window, page) || window->pages[page].over != window->pages[hold.first].over) break;
-        if ((target == ZEROS) == (window->pages[page].holds == 1))
-            break; /* (its loan was given up meanwhile, or is another one) */
-        if (!seems_equal(window, page, target)) {
-            if (hold.count == 0) note_changed(window, page);
-            break;
-        }
-        hold.targets[hold.count++] = target;
+        if (page != hold.first + hold.count || windows->stuck_count > 0) break;
+        if (window->pages[page].over != window->pages[hold.first].over) break;
+        passed = order_hold(window, page, wish, &hold.pages[hold.count]) ? 0 : 1;
+        if (passed > 0) break;
+        hold.count++;
     }
     if (hold.count > 0) settle(&hold);
     unlock_set(windows);
-    return hold.count > 0 ? hold.count : 1;
+    return hold.count + passed > 0 ? hold.count + passed : 1;
 }
 
-static void settle_all(struct windows *windows, struct batch *batch, const uint32_t *targets) {
+static void settle_all(struct windows *windows, struct batch *batch, enum wish wish) {
     for (size_t i = 0; i < batch->count;) {
-        i += settle_run(windows, batch, i, targets);
+        i += settle_run(windows, batch, i, wish);
         keep_pace(windows);
     }
     batch->count = 0;
 }
 
-void give_zeros_back(struct windows *windows, struct batch *batch) {
-    uint32_t targets[WINDOW_BATCH];
-    for (size_t i = 0; i < batch->count; i++) targets[i] = ZEROS;
-    settle_all(windows, batch, targets);
-}
+void give_zeros_back(struct windows *windows, struct batch *batch) { settle_all(windows, batch, TO_BE_GIVEN_BACK); }
 
 void lender_failed(struct windows *windows, int cause) {
     windows->lender_waits = cause == ENOTCONN || cause == EPIPE || cause == ECONNRESET || cause == ETIMEDOUT;
@@ -404,7 +467,7 @@ static void keep_lendable(struct windows *windows, struct batch *batch) {
     lock_for_look(windows);
     for (size_t i = 0; i < batch->count; i++) {
         uint32_t number = batch->pages[i];
-        if (!could_lend(batch->window, number) || batch->window->pages[number].holds == 1) continue;
+        if (!is_free(batch->window, number)) continue;
         if (!part_of(batch->window, number)->whole && !has_mappings(batch->window, number, &(size_t){0})) continue;
         batch->fingerprints[kept] = batch->fingerprints[i];
         batch->pages[kept++] = number;
@@ -413,52 +476,66 @@ static void keep_lendable(struct windows *windows, struct batch *batch) {
     batch->count = kept;
 }
 
-/* Leaves those pages of the batch that can be lent still, and copies them to the lender's buffer, with nothing guarded. */
+/* Copies a page to a place in the lender's buffer, with nothing guarded. Returns whether a loan of that is to be asked for. With the lock. */
+static bool copy_one(struct window *window, size_t number, unsigned char *to, uint64_t fingerprint) {
+    struct pageshare_window_page page = believed(&window->pages[number]);
+    const struct pageshare_window_bars bars = bars_of(window, number);
+    if (part_of(window, number)->whole || !pageshare_window_choose(&page, &bars, false)) return false;
+    if (order_of(window, number, &page) != PAGESHARE_WINDOW_COPY) return false;
+    copy_page(to, address_of(window, number));
+    /* (its fingerprint may be that of an earlier look) */
+    bool is_same = fingerprint_of(window->windows->lender.salt, to) == fingerprint;
+    if (!is_same) note_changed(window, number);
+    if (!is_same || is_zero(to)) return false;
+    pageshare_window_done(&page);
+    bool asks = order_of(window, number, &page) == PAGESHARE_WINDOW_LEND;
+    if (asks) believe(window, number, &page);
+    return asks;
+}
+
+/* Leaves those pages of the batch that can be lent still, and copies them to the lender's buffer. */
 static void copy(struct windows *windows, struct batch *batch) {
     size_t kept = 0;
     lock_for_look(windows);
+    for (size_t i = 0; i < batch->count; i++)
+        if (copy_one(batch->window, batch->pages[i], windows->lender.pages[kept], batch->fingerprints[i]))
+            batch->pages[kept++] = batch->pages[i];
+    unlock_set(windows);
+    batch->count = kept;
+}
+
+/* Takes a loan, so that its slot is released if its page doesn't come to show the frame. With the lock. */
+static void take_loan(struct window *window, size_t number, const struct window_loan *loan) {
+    struct windows *windows = window->windows;
+    struct pageshare_window_page page = believed(&window->pages[number]);
+    bool is_lent = loan->frame != WINDOW_NO_FRAME, is_named = is_lent && window_is_slot(loan->slot);
+    bool is_good = is_named && loan->frame < windows->lender.frame_count;
+    if (is_named) pageshare_window_lent(&page, slot_name(loan->slot), loan->frame);
+    else pageshare_window_refused(&page);
+    believe(window, number, &page);
+    if (is_named) window->pages[number].looks = 0;
+    else window->pages[number].asks = ASKS_APART_MOST;
+    windows->counts.no_frame += is_lent ? 0 : 1;
+    if (is_lent && !is_good) note_failure(windows, WINDOW_LENDER_FAILED, EPROTO);
+    if (is_good) trace_frame(windows->trace, loan->frame, windows->frames_at + bytes_of(loan->frame));
+}
+
+/* Takes the loans of a batch, or that none was got. Leaves the pages that have one. Takes the lock. */
+static void take_loans(struct windows *windows, struct batch *batch, const struct window_loan *loans, bool are_got) {
+    size_t kept = 0;
+    lock_for_look(windows);
     for (size_t i = 0; i < batch->count; i++) {
-        uint32_t page = batch->pages[i];
-        if (!can_settle(batch->window, page)) continue;
-        copy_page(windows->lender.pages[kept], address_of(batch->window, page));
-        /* (its fingerprint may be that of an earlier look) */
-        uint64_t fingerprint = fingerprint_of(windows->lender.salt, windows->lender.pages[kept]);
-        if (fingerprint != batch->fingerprints[i]) note_changed(batch->window, page);
-        else if (!is_zero(windows->lender.pages[kept])) batch->pages[kept++] = page;
+        uint32_t number = batch->pages[i];
+        if (are_got) take_loan(batch->window, number, &loans[i]);
+        else note_refused(batch->window, number);
+        if (batch->window->pages[number].rest == REST_LOANED) batch->pages[kept++] = number;
     }
     unlock_set(windows);
     batch->count = kept;
 }
 
-/* Takes the loans of a batch, so that each slot is released if its page doesn't come to show the frame. */
-static void take_loans(struct windows *windows, const struct batch *batch, const struct window_loan *loans, uint32_t *targets) {
-    lock_for_look(windows);
-    for (size_t i = 0; i < batch->count; i++) {
-        uint32_t number = batch->pages[i];
-        struct page *page = &batch->window->pages[number];
-        targets[i] = WINDOW_NO_FRAME;
-        if (loans[i].frame == WINDOW_NO_FRAME) {
-            windows->counts.no_frame++;
-            page->asks = ASKS_APART_MOST;
-            continue;
-        }
-        /* (nothing but this thread gives a page a slot, so it has none) */
-        page->kept = loans[i].slot;
-        page->looks = 0;
-        page->holds = 1;
-        part_of(batch->window, number)->releases++;
-        if (loans[i].frame >= windows->lender.frame_count) {
-            note_failure(windows, WINDOW_LENDER_FAILED, EPROTO);
-            continue;
-        }
-        targets[i] = loans[i].frame;
-        trace_frame(windows->trace, loans[i].frame, windows->frames_at + bytes_of(loans[i].frame));
-    }
-    unlock_set(windows);
-}
-
 void share(struct windows *windows, struct batch *batch) {
-    uint32_t numbers[WINDOW_BATCH], targets[WINDOW_BATCH];
+    uint32_t numbers[WINDOW_BATCH];
     struct window_loan loans[WINDOW_BATCH];
     bool can_ask = windows->has_lender && !windows->lender_waits && batch->count > 0;
     if (can_ask) keep_lendable(windows, batch);
@@ -470,11 +547,7 @@ void share(struct windows *windows, struct batch *batch) {
     uint64_t begun = clock_spent_ns();
     int cause = windows->lender.lend(windows->lender.opaque, numbers, batch->count, loans);
     windows->counts.lend_ns += clock_spent_ns() - begun;
-    if (cause != 0) {
-        lender_failed(windows, cause);
-        batch->count = 0;
-        return;
-    }
-    take_loans(windows, batch, loans, targets);
-    settle_all(windows, batch, targets);
+    if (cause != 0) lender_failed(windows, cause);
+    take_loans(windows, batch, loans, cause == 0);
+    settle_all(windows, batch, TO_BE_SHOWN);
 }

@@ -21,11 +21,20 @@
 /* One more than the greatest number of a frame. */
 #define WINDOW_FRAMES_MOST (1u << 26)
 
-/* What became of a page that was to be lent. The slot names the page to the lender, and means nothing to a window. */
+/* One more than the greatest of a slot's upper 32 bits, and of its lower ones. */
+#define WINDOW_SLOT_TOPS 64u
+#define WINDOW_SLOT_RESTS (1u << 26)
+
+/*
+ * What became of a page that was to be lent. The slot names the page to the lender, and means nothing to a window. If it isn't one
+ * (window_is_slot), that is a failure of the lender (EPROTO), and it is never released.
+ */
 struct window_loan {
     uint32_t frame;
     uint64_t slot;
 };
+
+static inline bool window_is_slot(uint64_t slot) { return slot >> 32 < WINDOW_SLOT_TOPS && (uint32_t)slot < WINDOW_SLOT_RESTS; }
 
 /*
  * The calls are made by the thread that calls windows_look, windows_attach and windows_detach, and by no other. No lock is held and

@@ -42,7 +42,8 @@ static void find_copy(struct window *window, size_t number) {
     if (!pagemap_is_own(&windows->pagemap, address_of(window, number))) return;
     windows->counts.copied++;
     trace_copy(windows->trace, window->base + (uint32_t)number, address_of(window, number));
-    stop_showing(window, number);
+    hear_written(window, number);
+    stop_showing_past(window, number);
 }
 
 /* Of so many looks one asks again about an idle page that nobody else had. One of a whole part comes more seldom: next to none can be lent. */
@@ -140,21 +141,22 @@ static enum finding take_fingerprint(struct window *window, size_t number, uint6
 /* Whether a look may read a page: it is the window's, and can be lent. */
 static bool may_read(const struct window *window, size_t number) {
     const struct page *page = &window->pages[number];
-    return page->out == 0 && page->holds == 0 && can_lend(window) && number < window->ready && !is_pinned(window, number);
+    return page->out == 0 && page->rest == REST_PRIVATE && can_lend(window) && number < window->ready &&
+           !is_pinned(window, number);
 }
 
 static enum finding look_at(struct window *window, size_t number, uint8_t found, uint64_t *fingerprint) {
     struct windows *windows = window->windows;
     struct page *page = &window->pages[number];
-    bool is_past = page->past == 1 && page->shows == 1;
+    bool is_past = shows_past(page);
     if (page->out == 1) return FOUND_NOTHING;
-    if (found != PAGE_NONE && page->zero == 1) note_zero(window, number, false);
-    if (page->shows == 1 && found != PAGE_NONE) {
+    if (found != PAGE_NONE) note_zero(window, number, false);
+    if ((is_lent(page) || is_past) && found != PAGE_NONE) {
         find_copy(window, number);
         return FOUND_NOTHING;
     }
     if (!may_read(window, number) || (found != PAGE_PRESENT && !is_past)) return FOUND_NOTHING;
-    if (page->over == 1 && page->shows == 0 && may_pin(windows)) return FOUND_NOTHING;
+    if (page->over == 1 && !is_past && may_pin(windows)) return FOUND_NOTHING;
     return take_fingerprint(window, number, fingerprint);
 }
 
@@ -164,7 +166,7 @@ static void trace_part(struct window *window, size_t first, size_t count) {
     enum { EACH = 16 };
     unsigned char bytes[WINDOW_PAGE_BYTES] __attribute__((aligned(8)));
     for (size_t page = first + window->windows->counts.looks % EACH; page < first + count; page += EACH) {
-        if (window->pages[page].shows == 0) continue;
+        if (!is_lent(&window->pages[page]) && !shows_past(&window->pages[page])) continue;
         copy_page(bytes, address_of(window, page));
         if (!pagemap_is_own(&window->windows->pagemap, address_of(window, page)))
             trace_shows(window->windows->trace, window->base + (uint32_t)page, bytes);
@@ -427,14 +429,16 @@ static void collect_part(struct slots *slots, struct window *window, size_t firs
     size_t end = first + rest_of_part(window, first);
     for (size_t page = first; page < end && slots->count < WINDOW_BATCH; page++) {
         const struct page *its = &window->pages[page];
-        if (its->holds == 0 || (its->shows == 1 && its->past == 0)) continue;
+        if (!has_slot(its) || is_lent(its) || its->rest == REST_RELEASED) continue;
         if (is_in_transfer(window, page)) continue; /* (a device may be reading the frame, as the page showed it when it began) */
-        slots->slots[slots->count] = window->pages[page].kept;
+        if (!order_release(window, page)) continue;
+        slots->slots[slots->count] = slot_number(believed(its).slot);
         slots->windows[slots->count] = window;
         slots->pages[slots->count++] = (uint32_t)page;
     }
 }
 
+/* Orders pages to be released whose slots are to be, and collects these. Takes the lock. */
 static void collect(struct windows *windows, struct slots *slots) {
     slots->count = 0;
     lock_for_look(windows);
@@ -444,23 +448,28 @@ static void collect(struct windows *windows, struct slots *slots) {
     unlock_set(windows);
 }
 
+/* Notes whether the slots were released. Takes the lock. */
+static void note_releases(struct windows *windows, const struct slots *slots, bool are_released) {
+    lock_for_look(windows);
+    for (size_t i = 0; i < slots->count; i++) {
+        if (!are_released) note_refused(slots->windows[i], slots->pages[i]);
+        if (!are_released) continue;
+        note_done(slots->windows[i], slots->pages[i]);
+        trace_release(windows->trace, slots->windows[i]->base + slots->pages[i]);
+    }
+    unlock_set(windows);
+}
+
 void release_slots(struct windows *windows) {
     struct slots slots;
     while (windows->has_lender && !windows->lender_waits) {
         collect(windows, &slots);
         if (slots.count == 0) return;
         int cause = windows->lender.release(windows->lender.opaque, slots.slots, slots.count);
-        if (cause != 0) {
-            lender_failed(windows, cause);
-            return;
-        }
-        lock_for_look(windows);
-        for (size_t i = 0; i < slots.count; i++) {
-            slots.windows[i]->pages[slots.pages[i]].holds = 0;
-            part_of(slots.windows[i], slots.pages[i])->releases--;
-            trace_release(windows->trace, slots.windows[i]->base + slots.pages[i]);
-        }
-        unlock_set(windows);
+        note_releases(windows, &slots, cause == 0);
+        if (cause == 0) continue;
+        lender_failed(windows, cause);
+        return;
     }
 }
 
@@ -510,7 +519,10 @@ static void look_for_locks(struct windows *windows) {
     uint64_t begun = clock_now_ns();
     if (kib == windows->locked_kib || (kib > 0 && begun < windows->locks_after_ns)) return;
     windows->locked_kib = kib;
-    windows->is_locked = kib > 0 && locked_any(has_page_between, windows);
+    bool is_locked = kib > 0 && locked_any(has_page_between, windows);
+    lock_for_look(windows);
+    windows->is_locked = is_locked;
+    unlock_set(windows);
     windows->locks_after_ns = begun + TIMES * (clock_now_ns() - begun);
     if (windows->is_locked) {
         take_all_home(windows);

@@ -52,18 +52,19 @@ bool is_one_mapping(const struct window *window, size_t number) {
     return is_moved_alike && part_of(window, number - 1)->whole == part_of(window, number)->whole;
 }
 
-/* Notes what lies at the place of pages in a row since now: frames, or memory of their own. What they showed before they don't show. */
+/* Notes what lies at the place of pages in a row since now: frames, or memory of their own. */
 static void note_memory(struct window *window, size_t first, size_t count, uint32_t frame, bool is_moved) {
     struct windows *windows = window->windows;
     bool is_file = frame != ZEROS;
     windows->counts.mappings -= mappings_of(window, first, count);
     for (size_t i = 0; i < count; i++) {
         struct page *page = &window->pages[first + i];
-        stop_showing(window, first + i);
+        stop_showing_past(window, first + i);
+        note_zero(window, first + i, false);
         /* (what a glance has found holds on where memory of its own was moved) */
         if (is_file || page->over == 1) page->frame = is_file ? (frame + (uint32_t)i) & (WINDOW_FRAMES_MOST - 1) : 0;
         page->over = is_file ? 1 : 0;
-        page->past = 0;
+        page->past = page->same = 0;
         page->moved = is_moved ? 1 : 0;
         page->begins = is_moved && i == 0 ? 1 : 0;
     }
@@ -95,18 +96,12 @@ void forget_content(struct window *window, size_t number) {
     note_seen(window, number, false);
 }
 
-void stop_showing(struct window *window, size_t number) {
+void stop_showing_past(struct window *window, size_t number) {
     struct page *page = &window->pages[number];
-    if (page->shows == 0) return;
-    page->shows = 0;
+    if (!shows_past(page)) return;
+    page->same = 0;
     forget_content(window, number);
-    if (page->past == 1) {
-        /* (a slot that it holds is another lender's, and is to be released already) */
-        window->windows->past--;
-        return;
-    }
-    window->windows->counts.lent--;
-    part_of(window, number)->releases++;
+    window->windows->past--;
 }
 
 /* Whether what is put in the place of pages can be a copy of a mapping that is there already, with all that was said of it. */
@@ -169,6 +164,15 @@ int let_waiters_go(struct window *window, size_t first, size_t count) {
     return cause;
 }
 
+/* Writes to a page that was stuck wait no longer. */
+static void note_let_go(struct window *window, size_t number) {
+    struct pageshare_window_page page = believed(&window->pages[number]);
+    if (page.belief != PAGESHARE_WINDOW_LETTING_GO && page.belief != PAGESHARE_WINDOW_PUTTING_BACK) return;
+    order_of(window, number, &page);
+    pageshare_window_done(&page);
+    believe(window, number, &page);
+}
+
 int free_stuck(struct windows *windows) {
     size_t left = 0;
     int cause = 0;
@@ -185,6 +189,7 @@ int free_stuck(struct windows *windows) {
         }
         if (failed == 0) failed = faults_end_watch(&windows->faults, at, 1);
         if (failed == 0) {
+            note_let_go(stuck.window, stuck.page);
             trace_unguard(windows->trace, stuck.window->base + stuck.page);
             continue;
         }

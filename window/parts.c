@@ -85,19 +85,6 @@ static void set_whole(struct window *window, size_t first, bool is_whole) {
 
 /* ---- whole parts are split ---- */
 
-/*
- * Whether so much of a whole part could be shared that it is worth a huge page. What isn't one loses nothing. A part whose pages might find
- * no mappings stays whole.
- */
-static bool is_to_split(struct window *window, const struct part *part, bool is_huge) {
-    struct windows *windows = window->windows;
-    unsigned from = is_huge ? windows->tuning.huge_from : 1;
-    if (part->shareable == 0 || part->shareable < from || !can_lend(window)) return false;
-    bool is_crowded = windows->counts.mappings + PART > windows->mappings_most;
-    if (is_crowded) note_crowded(windows, part->shareable);
-    return !is_crowded;
-}
-
 static void split(struct window *window, size_t first, bool is_huge) {
     int cause = 0;
     /* (what has left the window is the monitor's) */
@@ -137,15 +124,6 @@ static uint8_t *make_room(const struct window *window) {
     return NULL;
 }
 
-/* Whether pages of a part may be copied to other memory, for all that is known before they are guarded. */
-static bool can_copy(const struct window *window, size_t first) {
-    const struct windows *windows = window->windows;
-    if (!windows->pagemap.scans || may_pin(windows) || !can_lend(window) || first + PART > window->ready) return false;
-    for (size_t page = first; page < first + PART; page++)
-        if (window->pages[page].out == 1 || is_pinned(window, page)) return false;
-    return true;
-}
-
 /*
  * Guards a part's pages against writes, all of them: a page without memory couldn't be guarded, so there is none when that begins. Devices
  * are looked for only then, since pinning a page from now on, to write to it, waits. Returns 0 or an errno.
@@ -168,6 +146,7 @@ static void note_one_memory(struct window *window, size_t first) {
     for (size_t i = 0; i < PART; i++) was_over[i] = window->pages[first + i].over == 1;
     note_moved(window, first, PART);
     for (size_t i = 0; i < PART; i++) {
+        hear_written(window, first + i);
         note_zero(window, first + i, false);
         if (!was_over[i]) continue;
         window->windows->counts.taken_home++;
@@ -196,31 +175,79 @@ static bool exchange(struct window *window, size_t first, uint8_t *room) {
 }
 
 static void make_whole(struct window *window, size_t first) {
-    uint8_t *room = can_copy(window, first) ? make_room(window) : NULL;
+    uint8_t *room = make_room(window);
     bool is_whole = room != NULL && exchange(window, first, room);
     if (is_whole) set_whole(window, first, true);
     else window->windows->counts.not_made_whole++;
     if (!is_whole && room != NULL) munmap(room, bytes_of(PART));
 }
 
-/* Whether next to nothing of a split part is shared, at this look and at some before it. */
-static bool is_alone(const struct window *window, struct part *part, size_t own) {
-    unsigned from = window->windows->tuning.huge_from;
-    bool is_now = from > ALONE_PART && (PART - own) * ALONE_PART < (from > PART ? PART : from);
-    part->alone = is_now ? (uint8_t)(part->alone + 1) : 0;
-    return part->alone >= (window->windows->never_wait ? 1 : ALONE_LOOKS);
+/* ---- which of that is done ---- */
+
+/* What a look has found of a part, as if none of its pages were held or kept from being lent, and the system had mappings for all. */
+static struct pageshare_window_part_look found_of(const struct window *window, size_t first, size_t own, bool is_huge) {
+    const struct windows *windows = window->windows;
+    bool may_be_huge = window->keeps_huge && windows->pagemap.scans && first + PART <= window->ready;
+    return (struct pageshare_window_part_look){.own = (uint32_t)own,
+                                               .shareable = part_of(window, first)->shareable,
+                                               .is_huge = is_huge,
+                                               .may_be_huge = may_be_huge,
+                                               .may_lend = can_lend(window),
+                                               .has_mappings = true,
+                                               .may_pin = may_pin(windows),
+                                               .is_loose = true,
+                                               .is_movable = true};
+}
+
+/* Finds out whether that is so. */
+static void find_facts(const struct window *window, size_t first, struct pageshare_window_part_look *look) {
+    const struct windows *windows = window->windows;
+    look->has_mappings = windows->counts.mappings + PART <= windows->mappings_most;
+    for (size_t page = first; page < first + PART; page++) {
+        unsigned rest = window->pages[page].rest;
+        const struct pageshare_window_bars bars = bars_of(window, page);
+        if (rest == REST_LETTING_GO || rest == REST_PUTTING_BACK) look->is_loose = false;
+        if (bars.pinned || bars.inherited || bars.locked || bars.left || bars.ended) look->is_movable = false;
+    }
+    look->is_movable = look->is_movable && look->is_loose;
+}
+
+/* The numbers by which parts change. */
+static struct pageshare_window_part_config config_of(const struct windows *windows) {
+    return (struct pageshare_window_part_config){.huge_from = windows->tuning.huge_from,
+                                                 .alone_part = ALONE_PART,
+                                                 .alone = windows->never_wait ? 1 : ALONE_LOOKS,
+                                                 .pause = windows->never_wait ? 0 : PAUSE_LOOKS};
+}
+
+/* What is to be done with a part: the proved library says so. Its pages are looked at only if something may be. */
+static enum pageshare_window_part_order next_of_part(struct window *window, size_t first, size_t own, bool is_huge) {
+    struct windows *windows = window->windows;
+    struct part *part = part_of(window, first);
+    const struct pageshare_window_part_config config = config_of(windows);
+    struct pageshare_window_part_look look = found_of(window, first, own, is_huge);
+    struct pageshare_window_part its = {.whole = part->whole, .pause = part->pause, .alone = part->alone}, wanted = its;
+    unsigned order = pageshare_window_next_of_part(&wanted, &config, &look);
+    if (order != PAGESHARE_WINDOW_STAY) {
+        find_facts(window, first, &look);
+        if (order == PAGESHARE_WINDOW_SPLIT && !look.has_mappings) note_crowded(windows, part->shareable);
+        order = pageshare_window_next_of_part(&its, &config, &look);
+    } else {
+        its = wanted;
+    }
+    bool is_due = part->alone < config.alone && its.alone >= config.alone;
+    if (is_due && order == PAGESHARE_WINDOW_STAY) windows->counts.not_made_whole++;
+    part->pause = its.pause;
+    part->alone = its.alone;
+    return order;
 }
 
 void settle_part(struct window *window, size_t first, size_t own, bool is_huge) {
     struct part *part = part_of(window, first);
     if (rest_of_part(window, first) < PART || window->ends || (!part->whole && !window->keeps_huge)) return;
-    if (part->pause > 0 && !window->windows->never_wait) {
-        part->pause--;
-        return;
-    }
-    if (part->whole ? !is_to_split(window, part, is_huge) : !is_alone(window, part, own)) return;
-    part->pause = PAUSE_LOOKS;
-    part->alone = part->rest = part->left = 0;
-    if (part->whole) split(window, first, is_huge);
+    enum pageshare_window_part_order order = next_of_part(window, first, own, is_huge);
+    if (order == PAGESHARE_WINDOW_STAY) return;
+    part->rest = part->left = 0;
+    if (order == PAGESHARE_WINDOW_SPLIT) split(window, first, is_huge);
     else make_whole(window, first);
 }

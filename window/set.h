@@ -3,6 +3,7 @@
 #define PAGESHARE_WINDOW_SET_H
 
 #include "kernel.h"
+#include "pageshare_window.h"
 #include "trace.h"
 #include "window.h"
 #include <pthread.h>
@@ -24,29 +25,52 @@ enum {
 static const uint32_t ZEROS = WINDOW_NO_FRAME - 1;
 
 /*
- * A page. It is lent if it shows a frame that is not of the past. A slot that it holds otherwise is to be released: the page was copied
- * or given up, or shows a frame of the past still.
+ * What is believed of a page between two steps of a look, as the proved library has it (pageshare_window.h). From REST_LOANED on the host
+ * counts a slot for it.
+ */
+enum rest {
+    REST_PRIVATE,
+    REST_ASKED,        /* its bytes are in the lender's buffer, and a loan was asked for */
+    REST_PUTTING_BACK, /* it was to be given back as zeros, and is held still */
+    REST_LOANED,
+    REST_LETTING_GO, /* it was to show its frame, and is held still */
+    REST_SHOWN,
+    REST_LEAVING,  /* its slot is to be released */
+    REST_RELEASED, /* a release was sent, and isn't answered yet */
+    RESTS
+};
+
+/*
+ * A page. What is believed of it is written by `believe` alone, which has it from the library.
  *
  * A page that has left its window is the caller's alone, unless a frame is mapped at its place still. Then its own copy, which a device
  * may have pinned, stays where it is. Nothing is lent of it any more, but a discard must not uncover the frame.
  */
 struct __attribute__((packed)) page {
-    uint64_t kept;       /* the slot, if it holds one; otherwise its fingerprint when it was read last, if it was */
+    uint64_t kept;       /* its slot and its loan's frame, if it has a slot; otherwise its fingerprint at its last read, if any */
     uint32_t frame : 26; /* that is mapped at its place; if none is, what the last glance at it found, if `looks` isn't 0 */
     uint32_t over : 1;   /* a frame is mapped at its place; the page is that frame or a private copy */
-    uint32_t shows : 1;  /* as far as is known it is the frame */
-    uint32_t holds : 1;  /* the lender counts the slot */
     uint32_t past : 1;   /* the frame is of a lender that is gone */
     uint32_t out : 1;    /* it has left the window */
-    uint32_t zero : 1;   /* it was given back as zeros, and has no memory since */
+    uint32_t same : 1;   /* nobody has written to it since it was given back as zeros, or since the lender of its frame is gone */
+    uint32_t seen : 1;   /* it counts among its part's `shareable` */
+    uint32_t moved : 1;  /* its memory was moved to its place, and so is in no mapping with what is beside it */
     uint8_t
         looks : 2;    /* looks that found it the same, at most STILL. The first only glanced at it, unless it lies over a frame */
     uint8_t asks : 2; /* how often it was asked about in vain; or, if it isn't idle, changed again. At most ASKS_APART_MOST */
-    uint8_t seen : 1; /* it counts among its part's `shareable` */
-    uint8_t moved : 1;  /* its memory was moved to its place, and so is in no mapping with what is beside it */
     uint8_t begins : 1; /* it is the first page of what was moved */
+    uint8_t rest : 3;   /* enum rest */
 };
 _Static_assert(sizeof(struct page) == 13, "a page takes 13 bytes of tables");
+_Static_assert(RESTS <= 8, "what is believed of a page takes 3 bits");
+
+/* Whether a page shows its frame, as far as is known. */
+static inline bool is_lent(const struct page *page) { return page->rest == REST_SHOWN; }
+/* Whether the host counts a slot for it. */
+static inline bool has_slot(const struct page *page) { return page->rest >= REST_LOANED; }
+/* Whether it shows a frame of a lender that is gone, as far as is known; or was given back as zeros, and has no memory since. */
+static inline bool shows_past(const struct page *page) { return page->over == 1 && page->same == 1; }
+static inline bool is_given_back(const struct page *page) { return page->over == 0 && page->same == 1; }
 
 /*
  * PART pages of a window that one huge page could hold; at the ends of a window fewer. A whole part is left to the system's huge pages:
@@ -204,10 +228,10 @@ bool is_one_mapping(const struct window *window, size_t page);
 /* How many mappings begin at these pages, or at the one behind them. */
 size_t mappings_of(const struct window *window, size_t first, size_t count);
 
-/* Notes that a page was given back as zeros, or that it has memory again. */
+/* Notes that a page was given back as zeros, or that it has memory again. No frame lies there. */
 static inline void note_zero(struct window *window, size_t page, bool is_zero) {
-    window->windows->counts.zeros_now += (is_zero ? 1u : 0u) - (size_t)window->pages[page].zero;
-    window->pages[page].zero = is_zero ? 1 : 0;
+    window->windows->counts.zeros_now += (is_zero ? 1u : 0u) - (size_t)is_given_back(&window->pages[page]);
+    if (window->pages[page].over == 0) window->pages[page].same = is_zero ? 1 : 0;
 }
 
 /* What is known of a page's content counts no more. */
@@ -215,8 +239,39 @@ void forget_content(struct window *window, size_t page);
 /* Notes whether a page of a whole part could be shared. */
 void note_seen(struct window *window, size_t page, bool is_seen);
 
-/* Marks a page as no longer showing its frame; its slot, if any, will be released. */
-void stop_showing(struct window *window, size_t page);
+/* Notes that a page shows no frame of a lender that is gone. */
+void stop_showing_past(struct window *window, size_t page);
+
+/* ---- what is believed of pages: belief.c. All with the lock ---- */
+
+/* What is believed of a page, and what keeps it from being lent. */
+struct pageshare_window_page believed(const struct page *page);
+struct pageshare_window_bars bars_of(const struct window *window, size_t page);
+struct pageshare_window_bars bars_with(const struct window *window, size_t page, struct pageshare_window_bars why);
+/* Notes what is believed of a page from now on. */
+void believe(struct window *window, size_t page, const struct pageshare_window_page *believed);
+/* Whether a page could be lent, or given back, if its part were split. */
+bool is_free(const struct window *window, size_t page);
+/* The next order of a page. What is believed changes with it, and isn't noted yet. */
+enum pageshare_window_order order_of(struct window *window, size_t page, struct pageshare_window_page *believed);
+/* Orders a page to be released. Returns false if there is nothing to release. */
+bool order_release(struct window *window, size_t page);
+/* Whether a call of the monitor may go on by each of these pages, after which they must have memory of their own; `why`: what bars them from
+ * now on, beside what does so already. */
+bool may_go_on(const struct window *window, size_t first, size_t count, struct pageshare_window_bars why);
+/* Whether one may that gives them up: no write to any of them waits. */
+bool may_give_up(const struct window *window, size_t first, size_t count);
+/* What came of the order of a page that is open. */
+void note_done(struct window *window, size_t page);
+void note_refused(struct window *window, size_t page);
+/* A page was written to or got memory of its own, or was given up, by another's call. */
+void hear_written(struct window *window, size_t page);
+void hear_discarded(struct window *window, size_t page);
+/* A slot's number of a lender in 32 bits, and back. */
+uint32_t slot_name(uint64_t slot);
+uint64_t slot_number(uint32_t name);
+/* No slot of the lender counts any more. */
+void forget_loan(struct window *window, size_t page);
 
 /* Makes the scratch area, or makes it anew. Returns 0 or an errno. */
 int make_scratch(struct windows *windows);
@@ -271,9 +326,10 @@ size_t alike(const struct window *window, size_t first, size_t most);
 
 /*
  * Gives pages, at most PART, memory of their own in place of frames and of copies of frames. A copy that a device may have pinned stays
- * where it is, over its frame. With the lock.
+ * where it is, over its frame. `why`: what keeps them from being lent from now on, beside what does so already. With the lock.
  */
 struct window_result take_home(struct window *window, size_t first, size_t count);
+struct window_result take_home_for(struct window *window, size_t first, size_t count, struct pageshare_window_bars why);
 /* Says of pages in the window, but for those over frames, what was said of them before. What the system refuses the next look reports. */
 void end_advice(struct window *window, size_t first, size_t count);
 /* Takes everything home, in parts, since the windows' memory is locked. Takes the lock. */

@@ -184,9 +184,9 @@ enum window_page window_page_is(struct window *window, size_t page) {
     enum window_page is = WINDOW_PAGE_OUT;
     lock_set(window->windows);
     if (page < window->count && window->pages[page].out == 0)
-        is = window->pages[page].shows == 1  ? WINDOW_PAGE_LENT
-             : window->pages[page].zero == 1 ? WINDOW_PAGE_ZERO
-                                             : WINDOW_PAGE_PRIVATE;
+        is = is_lent(&window->pages[page]) || shows_past(&window->pages[page]) ? WINDOW_PAGE_LENT
+             : is_given_back(&window->pages[page])                             ? WINDOW_PAGE_ZERO
+                                                                               : WINDOW_PAGE_PRIVATE;
     unlock_set(window->windows);
     return is;
 }

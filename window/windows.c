@@ -9,9 +9,6 @@
 #include <sys/stat.h>
 #include <unistd.h>
 
-/* Mappings that are left to the rest of the process: a part of the system's limit, and at least so many. */
-enum { MAPPINGS_SPARE_PART = 10, MAPPINGS_SPARE_LEAST = 4000 };
-
 const char *window_status_words(enum window_status status) {
     static const char *const words[] = {
         [WINDOW_OK] = "done",
@@ -76,9 +73,7 @@ static struct window_result open_parts(struct windows *windows, const struct win
 
 void follow_limit(struct windows *windows) {
     if (!windows->follows_limit) return;
-    size_t limit = mappings_limit(), spare = limit / MAPPINGS_SPARE_PART;
-    if (spare < MAPPINGS_SPARE_LEAST) spare = MAPPINGS_SPARE_LEAST;
-    windows->mappings_most = windows->counts.mappings_most = limit > spare ? limit - spare : 0;
+    windows->mappings_most = windows->counts.mappings_most = (size_t)pageshare_window_mappings_most(mappings_limit());
 }
 
 struct window_result windows_make(struct windows **made, const struct windows_config *config) {
@@ -179,12 +174,13 @@ static void detach_window(struct window *window) {
     struct windows *windows = window->windows;
     for (size_t i = 0; i < window->count; i++) {
         struct page *page = &window->pages[i];
-        bool is_lent = page->shows == 1 && page->past == 0;
-        if (is_lent) windows->past++;
-        if (is_lent) windows->counts.lent--;
-        if (page->over == 1) page->past = 1;
-        page->holds = 0;
+        bool shows = is_lent(page) || shows_past(page);
+        if (is_lent(page)) windows->past++;
+        forget_loan(window, i);
         forget_content(window, i);
+        if (page->over == 0) continue;
+        page->past = 1;
+        page->same = shows ? 1 : 0;
     }
     for (size_t i = 0; i < parts_in(window); i++)
         window->parts[i] = (struct part){.whole = window->parts[i].whole, .is_huge = window->parts[i].is_huge};
@@ -206,8 +202,8 @@ int windows_each_slot(struct windows *windows, int (*each)(void *opaque, uint32_
     for (struct window *window = windows->first; window != NULL && stopped == 0; window = window->next)
         for (size_t i = 0; i < window->count && stopped == 0; i++) {
             const struct page *page = &window->pages[i];
-            bool is_lent = page->shows == 1 && page->past == 0;
-            if (page->holds == 1) stopped = each(opaque, window->base + (uint32_t)i, page->kept, is_lent);
+            if (!has_slot(page)) continue;
+            stopped = each(opaque, window->base + (uint32_t)i, slot_number(believed(page).slot), is_lent(page));
         }
     unlock_set(windows);
     return stopped;

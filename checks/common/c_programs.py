@@ -14,12 +14,16 @@ FLAGS = "-std=c11 -O2 -g -Wall -Wextra -Wconversion -Werror -pthread".split() + 
 # Of windows, through which idle pages are lent: their own sources, and a lender of a domain in the same process.
 WINDOW = sorted((TOP / "window").glob("*.c"))
 LENDER = sorted((TOP / "window/lender").glob("*.c"))
+# What decides for windows: the proved library, which they are linked with.
+WINDOW_LIBRARY = os.environ.get("WINDOW_LIBRARY", str(TOP / "out/libpageshare_window.a"))
 SECONDS = 600
 
 
 def needs_windows() -> None:
-    """Leaves all out where there is no C compiler or no userfaultfd."""
+    """Leaves all out where there is no C compiler, no userfaultfd or no proved library for windows."""
     needs("all windows", CC)
+    if not os.path.exists(WINDOW_LIBRARY):
+        raise LeftOut(f"all windows, since there is no {WINDOW_LIBRARY} (make host)")
     if not can_open("/dev/userfaultfd"):
         raise LeftOut("all windows, since there is no /dev/userfaultfd for this user")
 

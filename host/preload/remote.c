@@ -76,9 +76,11 @@ static int lend(void *opaque, const uint32_t *pages, size_t count, struct window
     int cause = say(remote, &message, sizeof message);
     size_t bytes = offsetof(struct pageshare_host_loans, loans) + count * sizeof *answer.loans;
     if (cause == 0) cause = hear(remote, &answer, bytes, PAGESHARE_HOST_LOANS, count);
-    for (size_t i = 0; cause == 0 && i < count; i++)
-        if (answer.loans[i].frame != PAGESHARE_HOST_NO_FRAME && answer.loans[i].frame >= remote->frame_count)
+    for (size_t i = 0; cause == 0 && i < count; i++) {
+        bool is_lent = answer.loans[i].frame != PAGESHARE_HOST_NO_FRAME;
+        if (is_lent && (answer.loans[i].frame >= remote->frame_count || !window_is_slot(answer.loans[i].slot)))
             cause = broken(remote, EPROTO);
+    }
     for (size_t i = 0; cause == 0 && i < count; i++)
         loans[i] = (struct window_loan){.frame = answer.loans[i].frame, .slot = answer.loans[i].slot};
     remote->loans += cause == 0; /* (slots of a reply that isn't counted are released when the session is taken up) */

@@ -60,6 +60,14 @@ static inline struct windows_counts counts_of(const struct fixture *fixture) {
     return counts;
 }
 
+/* How many slots the lender has. */
+static inline uint32_t slots_of(const struct fixture *fixture) {
+    struct pageshare_domain_totals totals;
+    struct lender_counts counts;
+    lender_count(fixture->lender, &totals, &counts);
+    return totals.slots;
+}
+
 /* Looks until so many pages are lent, at most 40 times. Returns how many are. */
 static inline size_t look_until(struct fixture *fixture, size_t lent) {
     for (int i = 0; i < 40 && counts_of(fixture).lent != lent; i++) windows_look(fixture->windows);

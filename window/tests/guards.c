@@ -108,6 +108,28 @@ static void release_fails(bool never_move) {
     fixture_free(&fixture);
 }
 
+/* The same for pages of zeros, whose memory is given back: a write to one waits until a later look, and isn't lost. */
+static void release_of_zeros_fails(bool never_move) {
+    const struct windows_config config = {.pins = WINDOWS_PINS_NEVER, .never_move = never_move};
+    struct fixture fixture = fixture_make(&config, PAGES);
+    uint8_t *at = memory(PAGES);
+    struct window *window = window_over(&fixture, at, PAGES);
+    struct write write;
+    memset(at, 0, PAGES * PAGE);
+    planned.releases = 1;
+    struct window_result result = {0};
+    for (int i = 0; i < 20 && result.status != WINDOW_STUCK; i++) result = windows_look(fixture.windows);
+    check(result.status == WINDOW_STUCK && result.cause == EINVAL, "the look reports so of zeros");
+    start(&write, at + 5 * PAGE);
+    look_often(&fixture, 1);
+    check(is_done_in_time(&write), "a write to zeros goes on");
+    pthread_join(write.thread, NULL);
+    check(at[5 * PAGE] == 200 && at[5 * PAGE + 1] == 0 && at[6 * PAGE] == 0, "zeros stay, and what was written");
+    check(counts_of(&fixture).zeros >= PAGES - 1 && counts_of(&fixture).lent == 0, "zeros are given back");
+    must(window_free(window, WINDOW_DROP), "window_free");
+    fixture_free(&fixture);
+}
+
 /* A page can't get memory: the call says so, once, and nothing has changed. */
 static void populate_fails(void) {
     const struct windows_config config = {.pins = WINDOWS_PINS_NEVER};
@@ -120,6 +142,8 @@ static void populate_fails(void) {
     struct window_result result = window_pin(window, 3, 1);
     check(result.status == WINDOW_NO_MAPPING && result.cause == EINVAL, "window_pin returns what the system said");
     check(window_unpin(window, 3, 1).status == WINDOW_BAD_RANGE, "the page isn't pinned");
+    look_often(&fixture, 1);
+    check(window_page_is(window, 3) == WINDOW_PAGE_LENT && slots_of(&fixture) == PAGES, "and its slot isn't released");
     must(window_pin(window, 3, 1), "window_pin");
     must(window_unpin(window, 3, 1), "window_unpin");
     must(window_free(window, WINDOW_DROP), "window_free");
@@ -152,6 +176,8 @@ int main(void) {
     put_fails();
     release_fails(false);
     release_fails(true);
+    release_of_zeros_fails(false);
+    release_of_zeros_fails(true);
     populate_fails();
     punch_fails();
     puts(check_count() == 0 ? "guards: ok" : "guards: WRONG");

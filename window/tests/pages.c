@@ -510,6 +510,51 @@ static void changes(void) {
     fixture_free(&fixture);
 }
 
+/* A lender that refuses to release slots for some calls, and whose slots for some are none. */
+static struct {
+    const struct window_lender *own;
+    int refusals, strange;
+} odd;
+
+static int refuse_release(void *opaque, const uint64_t *slots, size_t count) {
+    if (odd.refusals > 0) return odd.refusals--, EIO;
+    return odd.own->release(opaque, slots, count);
+}
+
+static int lend_strangely(void *opaque, const uint32_t *numbers, size_t count, struct window_loan *loans) {
+    int cause = odd.own->lend(opaque, numbers, count, loans);
+    for (size_t i = 0; i < count && odd.strange > 0; i++, odd.strange--) {
+        odd.own->release(opaque, &loans[i].slot, 1);
+        loans[i].slot = odd.strange % 2 == 0 ? (uint64_t)WINDOW_SLOT_TOPS << 32 : WINDOW_SLOT_RESTS;
+    }
+    return cause;
+}
+
+/* Slots that a lender doesn't release at once are released later. A slot that is none is a failure, and its page stays private. */
+static void odd_lenders(void) {
+    struct fixture fixture = fixture_make(&never_pinned, PAGES);
+    uint8_t *at = memory(PAGES);
+    struct window *window = window_over(&fixture, at, PAGES);
+    struct window_lender lender = *lender_interface(fixture.lender);
+    fill(at, PAGES, 2);
+    odd.own = lender_interface(fixture.lender);
+    odd.refusals = 3, odd.strange = 2;
+    lender.release = refuse_release, lender.lend = lend_strangely;
+    windows_detach(fixture.windows);
+    must(windows_attach(fixture.windows, &lender), "windows_attach");
+    struct window_result result = {0};
+    for (int i = 0; i < 40 && result.status == WINDOW_OK; i++) result = windows_look(fixture.windows);
+    check(result.status == WINDOW_LENDER_FAILED && result.cause == EPROTO, "slots that are none are reported");
+    check(look_until(&fixture, PAGES) == PAGES && slots_of(&fixture) == PAGES, "their pages are lent later");
+    memset(at, 9, PAGE);
+    must(window_discard(window, 1, 1), "window_discard");
+    for (int i = 0; i < 4; i++) result = windows_look(fixture.windows);
+    check(odd.refusals == 0 && slots_of(&fixture) == PAGES - 2, "slots whose release was refused are released later");
+    must(window_free(window, WINDOW_DROP), "window_free");
+    fixture_free(&fixture);
+    munmap(at, PAGES * PAGE);
+}
+
 /* A set whose pages are idle, and nobody else has them, so that each is asked about at one look in `turns`. */
 static struct fixture idle_set(uint8_t *at, uint16_t turns, struct window **window) {
     const struct windows_config config = {.pins = WINDOWS_PINS_NEVER, .tuning = {.turns = turns}};
@@ -604,6 +649,7 @@ int main(void) {
     marks(true);
     lenders();
     changes();
+    odd_lenders();
     glances();
     samples();
     reads_seldom();
