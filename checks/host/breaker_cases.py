@@ -11,7 +11,7 @@ import time
 from collections.abc import Callable, Iterable, Mapping, Sequence
 
 from harness import StrPath
-from places import AS_NOBODY, CC, FLAGS, HERE, TOP, WINDOW_LIBRARY, Host, LeftOut, all_released, must, preloaded, sources
+from places import AS_NOBODY, CC, FLAGS, HERE, TOP, WINDOW_LIBRARY, Host, LeftOut, all_released, in_time, must, preloaded, sources
 
 BESIDE = 4  # so many run at once, with contents that others have, too
 HUGE = ("--huge", "--pages", "1536")
@@ -87,7 +87,7 @@ def case_breaker() -> None:
     seeds, seconds = int(os.environ.get("SEEDS", "8")), int(os.environ.get("SECONDS", "12"))
     env = sanitized() if os.environ.get("SANITIZE") == "1" else {}
     said = in_fours(program, host, range(seeds), seconds, more=lambda _: env)
-    must(sum(number_after("lends", text) for text in said) > 0, "nothing was lent")
+    in_time(sum(number_after("lends", text) for text in said) > 0, "nothing was lent")
     splits, wholes = (sum(number_after(word, text) for text in said) for word in ("splits", "made_whole"))
     print(f"  {splits} parts split, {wholes} times whole again")
     all_released(host)
@@ -158,6 +158,6 @@ def case_storm() -> None:
         parts = f"; {counts['splits']} parts split, {counts['made_whole']} whole again" if "huge" in words else ""
         print(f"  {' '.join(words[1:])}: {text.splitlines()[-1]}{parts}")
     must(all(it.returncode == 0 for it in ran), f"statuses {[it.returncode for it in ran]}: " + "\n".join(it[-1000:] for it in said))
-    must(lends > 0, f"nothing was lent: {said}")
+    in_time(lends > 0, f"nothing was lent: {said}")
     all_released(host)
     host.stop()

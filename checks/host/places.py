@@ -34,9 +34,19 @@ class Wrong(Exception):
     """A case that failed, and how."""
 
 
+class Late(Wrong):
+    """A case that took longer than it should, or did less in its time: the computer may have been busy."""
+
+
 def must(is_so: object, what: str) -> None:
     if not is_so:
         raise Wrong(what)
+
+
+def in_time(is_so: object, what: str) -> None:
+    """As `must`, of what a busy computer may keep from being so."""
+    if not is_so:
+        raise Late(what)
 
 
 def until(seconds: float, is_so: Callable[[], object], step: float = 0.5) -> tuple[bool, float]:
@@ -125,7 +135,7 @@ class Host:
         with open(self.log, "a", encoding="utf-8") as log:
             self.process = subprocess.Popen(self.words, stdin=subprocess.DEVNULL, stdout=log, stderr=subprocess.STDOUT)
         served, _ = until(10, lambda: self.status() is not None, 0.05)
-        must(served, f"the host doesn't serve: {read(self.log)[-400:]}")
+        in_time(served, f"the host doesn't serve: {read(self.log)[-400:]}")
         return self
 
     def status(self) -> Any:

@@ -13,7 +13,7 @@ import types
 from collections.abc import Callable, Iterable, Mapping, Sequence
 
 from harness import LeftOut, Tally
-from places import HERE, Place, Wrong
+from places import HERE, Late, Place
 
 # Cases by their names.
 Cases = Mapping[str, Callable[[], object]]
@@ -30,7 +30,7 @@ def cases_in(modules: Iterable[types.ModuleType]) -> Cases:
 
 
 def too_late(*_: object) -> None:
-    raise Wrong("it took too long")
+    raise Late("it took too long")
 
 
 def about(run: Callable[[], object]) -> str:
@@ -38,25 +38,36 @@ def about(run: Callable[[], object]) -> str:
     return (run.__doc__ or "").splitlines()[0]
 
 
-def run_case(tally: Tally, name: str, run: Callable[[], object], seconds: int) -> None:
+def verdict_of(tally: Tally, name: str, run: Callable[[], object], seconds: int) -> str:
     """Runs a case, which ends after these seconds. What it started is ended with it."""
-    begin = time.time()
-    print(f"{name}: {about(run)}", flush=True)
     signal.alarm(seconds)
     try:
         run()
-        verdict = "good"
+        return "good"
     except LeftOut as cause:
-        verdict = "left out"
         tally.leave_out(f"{name}: {cause}", cause.package)
+        return "left out"
+    except Late as cause:
+        return f"LATE: {cause}"
     except Exception as cause:  # (whatever a case meets, the next one runs)
-        verdict = f"FAILED: {type(cause).__name__}: {cause}"
+        return f"FAILED: {type(cause).__name__}: {cause}"
     finally:
         signal.alarm(0)
         HERE.place.clean()
-    print(f"{name}: {verdict} ({time.time() - begin:.0f} s)", flush=True)
+
+
+def run_case(tally: Tally, name: str, run: Callable[[], object], seconds: int) -> None:
+    """Runs a case; and once more if it was late, since the computer may have been busy."""
+    print(f"{name}: {about(run)}", flush=True)
+    verdict = ""
+    for _ in range(2):
+        begin = time.time()
+        verdict = verdict_of(tally, name, run, seconds)
+        print(f"{name}: {verdict} ({time.time() - begin:.0f} s)", flush=True)
+        if not verdict.startswith("LATE"):
+            break
     if verdict != "left out":
-        tally.case(name, [] if verdict == "good" else ["it failed, see above"])
+        tally.case(name, [] if verdict == "good" else [verdict[:300]])
 
 
 def run_cases(tally: Tally, cases: Cases, names: Sequence[str], long: Sequence[str], in_gate: Mapping[str, int]) -> int:

@@ -5,7 +5,7 @@ import os
 from collections.abc import Iterable, Sequence
 from typing import Any
 
-from places import AS_NOBODY, HERE, Host, must, until
+from places import AS_NOBODY, HERE, Host, in_time, must, until
 from qemu_guests import PAGE, Guest, read
 
 GUESTS = int(os.environ.get("GUESTS", "3"))
@@ -38,7 +38,7 @@ def settle(host: Host, made: Sequence[Guest], least: int = 8000, seconds: float 
         return all(own >= least and known.get(it.pid, 0) >= least for it, own in zip(made, lent(made)))
 
     good, took = until(seconds, is_settled, 1)
-    must(good, f"not settled after {seconds} s: lent {lent(made)}; {host.status()}; {[it.said() for it in made]}")
+    in_time(good, f"not settled after {seconds} s: lent {lent(made)}; {host.status()}; {[it.said() for it in made]}")
     return took
 
 
@@ -47,7 +47,7 @@ def go_on(made: Sequence[Guest], rounds: int = 2, seconds: float = 180) -> None:
     before = [it.ticks() for it in made]
     good, _ = until(seconds, lambda: all(it.ticks() >= past + rounds or not it.is_alive() for it, past in zip(made, before)), 1)
     right(made)
-    must(good, f"guests stand still: {before} to {[it.ticks() for it in made]} rounds")
+    in_time(good, f"guests stand still: {before} to {[it.ticks() for it in made]} rounds")
 
 
 def right(made: Iterable[Guest]) -> None:

@@ -10,7 +10,7 @@ import time
 from typing import Any, Sequence
 
 from harness import StrPath
-from places import AS_NOBODY, CC, FLAGS, HERE, OUT, TOP, WINDOW_LIBRARY, Host, compile_c, must, preloaded
+from places import AS_NOBODY, CC, FLAGS, HERE, OUT, TOP, WINDOW_LIBRARY, Host, compile_c, in_time, must, preloaded
 from qemu_guests import read
 
 PAGE, SPARES, PRELOAD = 4096, 2000, TOP / "host/preload"
@@ -153,7 +153,7 @@ def case_size() -> None:
             name = f"{mib} {'huge' if is_huge else 'small'}"
             rows, state = run_size([mib, max(256, mib // 4)], [kind] * 2, seconds, is_huge)
             show(name, rows, state)
-            must(all(it["lends"] > 0 for it in rows), f"nothing was lent: {rows}")
+            in_time(all(it["lends"] > 0 for it in rows), f"nothing was lent: {rows}")
             for it in state["processes"]:
                 must(it["client_mappings"] > 0 and it["client_parts_whole"] + it["client_parts_split"] >= is_huge, f"a status: {it}")
             if is_huge:
@@ -166,7 +166,7 @@ def case_size() -> None:
     print(f"  the limit of {LIMIT} mappings was {'met' if any(is_met) else 'not met'}")
     for row in rows:
         must(row["mappings"] <= row["mappings_most"] + SPARES and row["spare_mappings"] == SPARES, f"too many mappings: {row}")
-    must(any(is_met) or LIMIT > 65530, f"the limit of mappings wasn't met: {rows}")
+    in_time(any(is_met) or LIMIT > 65530, f"the limit of mappings wasn't met: {rows}")
     table["runs of 1"] = {"rows": rows, "host": state}
     OUT.mkdir(parents=True, exist_ok=True)
     (OUT / "size.json").write_text(json.dumps(table, indent=1))
@@ -179,7 +179,7 @@ def case_runs() -> None:
     rows, state = run_size([mib, mib], [RUNS] * 2, 30 + mib // 50, lent=lent)
     show(f"runs of 16, --lent {lent}", rows, state)
     for row in rows:
-        must(row["pages_of_mapping"] >= 4, f"too few pages a mapping: {row}")
+        in_time(row["pages_of_mapping"] >= 4, f"too few pages a mapping: {row}")
 
 
 def case_late() -> None:

@@ -12,7 +12,7 @@ from collections.abc import Mapping, Sequence
 from typing import Any
 
 import hostile
-from places import AS_NOBODY, CC, FLAGS, HERE, TOP, Host, LeftOut, all_released, compile_c, must, preloaded, until
+from places import AS_NOBODY, CC, FLAGS, HERE, TOP, Host, LeftOut, all_released, compile_c, in_time, must, preloaded, until
 from qemu_guests import PAGE, Guest, read
 from raw_client import RawClient
 from running_guests import go_on, guests, settle, show
@@ -200,7 +200,7 @@ def case_kvm() -> None:
         said = [it.communicate(timeout=200)[0].splitlines() for it in ran]
         print(f"  {'KVM' if is_real else 'a stand-in'}: {[it[-2:] for it in said]}")
         must(all(it.returncode == 0 for it in ran), f"{said}")
-        must(["at most 0 pages" in it[-2] for it in said] == [False, False, True], f"{said}")
+        in_time(["at most 0 pages" in it[-2] for it in said] == [False, False, True], f"{said}")
         os.close(device)
         all_released(host)
         host.stop()
