@@ -5,9 +5,9 @@
     checks/host.py --gate
 
 Without words all cases but `soak` run; --list names them. --gate runs those that IN_GATE lists, which `make check` does: all
-that need no guest, shortened, and one with two guests. Each case has a time. One that takes longer, or that does less in its time than it
-should, is run once more, since the computer may have been busy. Needs root, out/host/pageshare-host and out/host/libpageshare-window.so
-(`make host`). Guests are QEMU with Debian's kernel and busybox, run as the user nobody beside a host
+that need no guest, shortened, and one with two guests. Each case has a time, after which it has failed. One in which somebody waited
+longer than due, or less was shared, is run once more, since the computer may have been busy. Needs root, out/host/pageshare-host and
+out/host/libpageshare-window.so (`make host`). Guests are QEMU with Debian's kernel and busybox, run as the user nobody beside a host
 of another user; each checks all that it reads. With INSTALL=1 in the environment missing packages are installed by apt-get, but for
 the kernel, which is only unpacked. What the computer lacks is left out, and so said.
 

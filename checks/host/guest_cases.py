@@ -6,7 +6,7 @@ import signal
 import subprocess
 import time
 
-from places import AS_NOBODY, HERE, Host, LeftOut, all_released, in_time, must, until
+from places import AS_NOBODY, HERE, Host, LeftOut, all_released, must, until
 from qemu_guests import read
 from running_guests import GUESTS, go_on, guest, guests, lent, right, settle, show
 
@@ -30,7 +30,7 @@ def case_ends() -> None:
     before = host.status()["lent_bytes"]
     made[0].kill()
     good, took = until(20, lambda: host.status()["clients"] == 1 and host.status()["lent_bytes"] < before, 0.1)
-    in_time(good, f"a killed QEMU's pages are lent still: {host.status()}")
+    must(good, f"a killed QEMU's pages are lent still: {host.status()}")
     print(f"  a killed QEMU's pages were released after {took:.1f} s")
     go_on(made[1:])
     made[1].kill()

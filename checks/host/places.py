@@ -35,7 +35,7 @@ class Wrong(Exception):
 
 
 class Late(Wrong):
-    """A case that took longer than it should, or did less in its time: the computer may have been busy."""
+    """Something took longer than it should, or less was done in its time, but it was done: the computer may have been busy."""
 
 
 def must(is_so: object, what: str) -> None:
@@ -44,7 +44,7 @@ def must(is_so: object, what: str) -> None:
 
 
 def in_time(is_so: object, what: str) -> None:
-    """As `must`, of what a busy computer may keep from being so."""
+    """As `must`, of what a busy computer may keep from being so. Not of what hangs, ends or leaves something behind."""
     if not is_so:
         raise Late(what)
 
@@ -135,7 +135,7 @@ class Host:
         with open(self.log, "a", encoding="utf-8") as log:
             self.process = subprocess.Popen(self.words, stdin=subprocess.DEVNULL, stdout=log, stderr=subprocess.STDOUT)
         served, _ = until(10, lambda: self.status() is not None, 0.05)
-        in_time(served, f"the host doesn't serve: {read(self.log)[-400:]}")
+        must(served, f"the host doesn't serve: {read(self.log)[-400:]}")
         return self
 
     def status(self) -> Any:

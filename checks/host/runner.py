@@ -13,7 +13,7 @@ import types
 from collections.abc import Callable, Iterable, Mapping, Sequence
 
 from harness import LeftOut, Tally
-from places import HERE, Late, Place
+from places import HERE, Late, Place, Wrong
 
 # Cases by their names.
 Cases = Mapping[str, Callable[[], object]]
@@ -30,7 +30,7 @@ def cases_in(modules: Iterable[types.ModuleType]) -> Cases:
 
 
 def too_late(*_: object) -> None:
-    raise Late("it took too long")
+    raise Wrong("it took too long")
 
 
 def about(run: Callable[[], object]) -> str:

@@ -47,7 +47,7 @@ def go_on(made: Sequence[Guest], rounds: int = 2, seconds: float = 180) -> None:
     before = [it.ticks() for it in made]
     good, _ = until(seconds, lambda: all(it.ticks() >= past + rounds or not it.is_alive() for it, past in zip(made, before)), 1)
     right(made)
-    in_time(good, f"guests stand still: {before} to {[it.ticks() for it in made]} rounds")
+    must(good, f"guests stand still: {before} to {[it.ticks() for it in made]} rounds")
 
 
 def right(made: Iterable[Guest]) -> None:

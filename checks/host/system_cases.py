@@ -200,7 +200,9 @@ def case_kvm() -> None:
         said = [it.communicate(timeout=200)[0].splitlines() for it in ran]
         print(f"  {'KVM' if is_real else 'a stand-in'}: {[it[-2:] for it in said]}")
         must(all(it.returncode == 0 for it in ran), f"{said}")
-        in_time(["at most 0 pages" in it[-2] for it in said] == [False, False, True], f"{said}")
+        none = ["at most 0 pages" in it[-2] for it in said]
+        must(none[2], f"memory that isn't offered was lent: {said}")
+        in_time(none[:2] == [False, False], f"nothing was lent: {said}")
         os.close(device)
         all_released(host)
         host.stop()
