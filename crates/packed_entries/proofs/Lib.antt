@@ -1,3 +1,4 @@
 pub mod Filed
+mod Reached
 mod Threaded
 mod Words

@@ -4,8 +4,7 @@ use Rattle.std.proofs.Common.{◌≡◌, ℕ, ◌+◌, ◌-◌, ◌<◌, ◌≤�
 use Prim.Native.Nat.{suc, zero}
 use Rattle.std.proofs.Math.ListN.{set}
 use Rattle.std.proofs.lemmas.Bool.Decides.{nat_tests}
-use Rattle.std.proofs.lemmas.List.{set-get_or, length-set, get_or-set_same, get_or-set_other, length-map, map-set, get_or-map, map_push, length_push, get_or_push, get_or_append_left, replicate-append-replicate}
-use borrow.Author.Count.{below_more}
+use Rattle.std.proofs.lemmas.List.{set-get_or, length-set, get_or-set_same, get_or-set_other, length-map, map-set, get_or-map}
 use Rattle.std.proofs.Math.Seq.{map-set_same}
 use Rattle.std.proofs.lemmas.Option.{same_Some}
 use Rattle.std.proofs.lemmas.Bool.{ne_eqb, eqb-true, eqb-false}
@@ -274,6 +273,10 @@ spare_place next cap free heads (q ∷ qs) chains L room =
     let none : times_in q chains ≡ 0 = omega (arith, once_each next cap free heads (q ∷ qs) chains L q, times_head q qs) in
     (omega arith, omega arith, rw same none)
 
+pub spare_some : (next : ℕ → ℕ) (cap free : ℕ) (heads spare : List ℕ) (chains : List (List ℕ)) → Linked next cap free heads spare chains → free ≢ 0 → lengths chains < cap
+spare_some next cap free heads [] chains L ne = absurd (ne L.spare_ends)
+spare_some next cap free heads (q ∷ qs) chains L ne = omega (arith, L.all_placed)
+
 -- the first spare place is put at the head of a chain
 pub added : (next next' : ℕ → ℕ) (cap free : ℕ) (heads spare : List ℕ) (chains : List (List ℕ)) (b p : ℕ) → Linked next cap free heads spare chains
     → b < length chains → free ≡ p + 1 → next' p ≡ get_or heads b 0 → ((q : ℕ) → q ≢ p → next' q ≡ next q)
@@ -329,26 +332,7 @@ freed_inner next next' cap free heads spare chains b p r rs L l is ne there cut 
     (omega (arith, length_without p (get_or chains b []) there)) in
     rw (set-get_or heads b 0) at all
 
--- ---- a table with no chains: the link of each place n is n, so that place n - 1 comes behind it
-abbrev pub down : ℕ → List ℕ
-down zero = []
-down (suc n) = n ∷ down n
-
-Follows-down : (next : ℕ → ℕ) (n : ℕ) → ((p : ℕ) → p < n → next p ≡ p) → Follows next n (down n)
-Follows-down next zero is = refl
-Follows-down next (suc n) is = (omega arith, rw (is n (omega arith)) (Follows-down next n (λ p l. is p (omega arith))))
-
-down_step : (p n k : ℕ) (b c d : Bool) → eqb p n ≡ b → nat_lt p n ≡ c → nat_lt p (suc n) ≡ d → k ≡ cond c 1 0 → cond b 1 0 + k ≡ cond d 1 0
-down_step p n k b c d e f g h = grind (arith, nat_tests)
-
-times_down : (p n : ℕ) → times p (down n) ≡ cond (nat_lt p n) 1 0
-times_down p zero = grind (arith, nat_tests)
-times_down p (suc n) = down_step p n (times p (down n)) (eqb p n) (nat_lt p n) (nat_lt p (suc n)) refl refl refl (times_down p n)
-
-length_down : (n : ℕ) → length (down n) ≡ n
-length_down zero = refl
-length_down (suc n) = omega (arith, length_down n)
-
+-- ---- a table with no chains, none of whose places were reached
 none_in : (q b : ℕ) → times_in q (replicate b []) ≡ 0
 none_in q zero = refl
 none_in q (suc b) = omega (arith, none_in q b)
@@ -361,21 +345,39 @@ none_follow : (next : ℕ → ℕ) (b : ℕ) → FollowAll next (replicate b 0) 
 none_follow next zero = tt
 none_follow next (suc b) = (refl, none_follow next b)
 
-pub started : (next : ℕ → ℕ) (n b : ℕ) → ((p : ℕ) → p < n → next p ≡ p) → Linked next n n (replicate b 0) (down n) (replicate b [])
-started next n b is = record {
-  spare_ends = Follows-down next n is;
+none_below : (p k : ℕ) → k ≡ 0 → k ≡ cond (nat_lt p 0) 1 0
+none_below p k e = grind (arith, nat_tests)
+
+pub started : (next : ℕ → ℕ) (b : ℕ) → Linked next 0 0 (replicate b 0) [] (replicate b [])
+started next b = record {
+  spare_ends = refl;
   chains_end = none_follow next b;
-  each_once = λ p. let e : times p (down n) + times_in p (replicate b []) ≡ times p (down n) = omega (arith, none_in p b) in e ∙ times_down p n;
-  all_placed = omega (arith, length_down n, no_lengths b);
+  each_once = λ p. none_below p (times p [] + times_in p (replicate b [])) (omega (arith, none_in p b));
+  all_placed = omega (arith, no_lengths b);
 }
 
+-- ---- one place more is reached
+more_step : (p n k : ℕ) (b c d : Bool) → eqb p n ≡ b → nat_lt p n ≡ c → nat_lt p (n + 1) ≡ d → 0 + k ≡ cond c 1 0 → cond b 1 0 + 0 + k ≡ cond d 1 0
+more_step p n k b c d e f g h = grind (arith, nat_tests)
+
+-- the place behind the last one is the only spare one
+pub one_more : (next next' : ℕ → ℕ) (n : ℕ) (heads : List ℕ) (chains : List (List ℕ)) → Linked next n 0 heads [] chains → next' n ≡ 0 → ((q : ℕ) → next' q ≡ next q) → Linked next' (n + 1) (n + 1) heads (n ∷ []) chains
+one_more next next' n heads chains L end same = record {
+  spare_ends = (refl, end);
+  chains_end = FollowAll-kept next next' heads chains (λ q h. same q) L.chains_end;
+  each_once = λ p. more_step p n (times_in p chains) (eqb p n) (nat_lt p n) (nat_lt p (n + 1)) refl refl refl (L.each_once p);
+  all_placed = omega (arith, L.all_placed);
+}
+
+pub no_walk : (next : ℕ → ℕ) (n link : ℕ) → link ≡ 0 → walk next n link ≡ []
+no_walk next n link e = walk_is next n link [] e (omega arith)
+
 -- ---- links in a list of their own
-pub kept : (heads links : List ℕ) (free used cap : ℕ) (spare : List ℕ) (chains : List (List ℕ)) → length links ≡ cap → cap ≤ 1048576 → Linked (link_in links) cap free heads spare chains → lengths chains ≡ used → IsKept heads links free used
-kept heads links free used cap spare chains len limit L count =
+pub kept : (heads links : List ℕ) (free used cap : ℕ) (spare : List ℕ) (chains : List (List ℕ)) → length links ≡ cap → Linked (link_in links) cap free heads spare chains → lengths chains ≡ used → IsKept heads links free used
+kept heads links free used cap spare chains len L count =
     let P : ℕ → Type 0 = λ n. Linked (link_in links) n free heads spare chains in
     let M : Linked (link_in links) (length links) free heads spare chains = subst P (sym len) L in
     record {
-      limit = omega arith;
       linked = settled (link_in links) (length links) free heads spare chains M;
       counted = ap lengths (settled_chains (link_in links) (length links) free heads spare chains M) ∙ count;
     }
@@ -404,6 +406,19 @@ module _ (heads links : List ℕ) (free used : ℕ) (K : IsKept heads links free
 
   pub place_of_spare : lengths chains_of < length links → (1 ≤ free) × (free ≤ length links) × (times_in (free - 1) chains_of ≡ 0)
   place_of_spare room = spare_place (link_in links) (length links) free heads spare_of chains_of K.linked room
+
+  -- a place that was reached is empty if a link says so, and else all of them are in chains
+  pub some_spare : free ≢ 0 → lengths chains_of < length links
+  some_spare ne = spare_some (link_in links) (length links) free heads spare_of chains_of K.linked ne
+
+  pub none_spare : free ≡ 0 → lengths chains_of ≡ length links
+  none_spare e =
+      let L = K.linked in
+      omega (arith, L.all_placed, ap length (no_walk (link_in links) (length links) free e))
+
+  -- a place that is in a chain was reached
+  pub chained_within : (p : ℕ) → times_in p chains_of ≡ 1 → p < length links
+  chained_within p once = in_range (link_in links) (length links) free heads spare_of chains_of K.linked p (omega (arith, once))
 
   pub heads_are : length chains_of ≡ length heads
   heads_are = length-map heads (walk (link_in links) (length links))
@@ -519,7 +534,7 @@ module _ (heads links : List ℕ) (free used : ℕ) (K : IsKept heads links free
     pub freed_kept : IsKept heads' (set links' p free') (p + 1) (used' - 1)
     freed_kept =
         let cs : List (List ℕ) = chains_from links heads in
-        kept heads' (set links' p free') (p + 1) (used' - 1) (length links) _ _ freed_len K.limit freed_linked
+        kept heads' (set links' p free') (p + 1) (used' - 1) (length links) _ _ freed_len freed_linked
         (omega (arith, lengths-set cs b (without p (get_or cs b [])) l, length_without p (get_or cs b []) there, K.counted, F.used_is))
 
     pub freed_len_is : length (set links' p free') ≡ length links
@@ -634,26 +649,6 @@ module _ (ps : List Packed) (i : ℕ) where
   pub entries_stay : (p : Packed) (link : ℕ) → i < length ps → p ≡ get_or ps i p → map entry_of (set ps i (with_link p link)) ≡ map entry_of ps
   entries_stay p link l is = map-set_same entry_of ps i (with_link p link) p (ap entry_of is)
 
-pushed_below : (xs : List ℕ) (y n : ℕ) → length xs ≡ n → y ≡ n → ((k : ℕ) → k < n → get_or xs k 0 ≡ k) → (k : ℕ) → k < n + 1 → get_or (xs ++ y ∷ []) k 0 ≡ k
-pushed_below xs y n len e is =
-    below_more _ n (λ k l. get_or_append_left xs (y ∷ []) 0 k (omega arith) ∙ is k l) (get_or_push xs y 0 n len ∙ e)
-
-replicate_push : {X : Type 0} (n : ℕ) (x : X) → replicate n x ++ x ∷ [] ≡ replicate (n + 1) x
-replicate_push n x = replicate-append-replicate n 1 x
-
--- the places that are made one after another
-pub record Made (ps : List Packed) (n : ℕ) (none : Entry) : Type 0 where
-  pub len : length ps ≡ n
-  pub links : (k : ℕ) → k < n → get_or (map link_of ps) k 0 ≡ k
-  pub entries : map entry_of ps ≡ replicate n none
-
-pub made_more : (ps : List Packed) (n : ℕ) (none : Entry) (f : Packed) → Made ps n none → f ≡ record { link = n; entry = none } → Made (ps ++ f ∷ []) (n + 1) none
-made_more ps n none f M e = record {
-  len = length_push ps f ∙ ap (λ k. k + 1) M.len;
-  links = rw (map_push link_of ps f) (pushed_below (map link_of ps) f.link n (length-map ps link_of ∙ M.len) (ap link_of e) M.links);
-  entries = map_push entry_of ps f ∙ rw (M.entries, ap entry_of e) (replicate_push n none);
-}
-
 module _ (ps : List Packed) (i : ℕ) where
   pub entry_written : (p : Packed) (entry : Entry) → map entry_of (set ps i (with_entry p entry)) ≡ set (map entry_of ps) i entry
   entry_written p entry = map-set entry_of ps i (with_entry p entry)
@@ -666,14 +661,14 @@ code_most : (next : ℕ → ℕ) (n link : ℕ) (ps : List ℕ) → Follows next
 code_most next n link [] f h = omega arith
 code_most next n link (p ∷ ps) f h = omega (arith, f.0, h p (omega (arith, times_head p ps)))
 
-module _ (heads links : List ℕ) (free used : ℕ) (K : IsKept heads links free used) where
+module _ (heads links : List ℕ) (free used : ℕ) (K : IsKept heads links free used) (limit : length links ≤ 1048576) where
   pub free_fits : free ≤ 1048576
   free_fits =
       let L = K.linked in
-      omega (arith, K.limit, code_most (link_in links) (length links) free _ L.spare_ends (λ q h. in_range (link_in links) (length links) free heads _ (chains_from links heads) L q (omega arith)))
+      omega (arith, limit, code_most (link_in links) (length links) free _ L.spare_ends (λ q h. in_range (link_in links) (length links) free heads _ (chains_from links heads) L q (omega arith)))
 
   pub head_fits : (b head : ℕ) → b < length (chains_from links heads) → head ≡ get_or heads b head → head ≤ 1048576
   head_fits b head l e =
       let L = K.linked in
       let is : head ≡ get_or heads b 0 = read_is heads b head (omega (arith, heads_are heads links free used K)) e in
-      omega (arith, K.limit, code_most (link_in links) (length links) (get_or heads b 0) _ (chain_ends (link_in links) (length links) free heads _ (chains_from links heads) b L) (λ q h. chain_within (link_in links) (length links) free heads _ (chains_from links heads) b L q h))
+      omega (arith, limit, code_most (link_in links) (length links) (get_or heads b 0) _ (chain_ends (link_in links) (length links) free heads _ (chains_from links heads) b L) (λ q h. chain_within (link_in links) (length links) free heads _ (chains_from links heads) b L q h))

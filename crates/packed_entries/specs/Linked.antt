@@ -103,11 +103,16 @@ link_in links p = slice_index_or links p 0
 abbrev pub chains_from : List ℕ → List ℕ → List (List ℕ)
 chains_from links heads = map (walk (link_in links) (length links)) heads
 
--- what always holds of the fields
+-- what always holds of the lists of places that were reached
 pub record IsKept (heads links : List ℕ) (free used : ℕ) : Type 0 where
-  pub limit : length links ≤ MAX_ENTRIES
   pub linked : Linked (link_in links) (length links) free heads (walk (link_in links) (length links) free) (chains_from links heads)
   pub counted : lengths (chains_from links heads) ≡ used
+
+-- how many places were reached, how many there are, and for how many memory is reserved
+pub record IsWithin (reached capacity reserved : ℕ) : Type 0 where
+  pub fits : reached ≤ capacity
+  pub room : capacity ≤ reserved
+  pub limit : capacity ≤ MAX_ENTRIES
 
 -- a search of a chain: from the link on, the links go over places of the table, the first of them that the test
 -- accepts is the first in the chain that it accepts, and the link to the place before one that it accepts is the same as

@@ -13,8 +13,8 @@ use std::marker::Model;
 /// A fixed number of packed entries of 16 bytes, in chains. An entry's bucket is its truncated hash modulo the
 /// number of buckets, so all entries with the same truncated hash, shared or hint, are in one chain.
 ///
-/// Each packed entry is in one chain or is empty, and the empty ones are linked into a list too:
-/// no entry moves when another comes or goes. `new` allocates all memory.
+/// Each packed entry is in one chain or is empty, and no entry moves when another comes or goes. `new` allocates all
+/// memory, but a packed entry's memory is first touched when that packed entry is used.
 #[derive(Drop)]
 pub struct Chains<A: Allocator = Global> {
     places: Places<A>,

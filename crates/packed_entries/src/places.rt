@@ -1,10 +1,13 @@
 //! Places for packed entries, and chains that are threaded through them.
 //!
 //! A link is 0 for no place, and n + 1 for place n. Each bucket has the link to the first place of its
-//! chain; a place has the link to the next one. The empty places form one more list, in the same way.
-ghost use Rattle.std.specs.Prelude.{◌≡◌, ◌≤◌, ◌<◌, ◌^◌, IfOk, IfSome, length, option_map};
+//! chain; a place has the link to the next one.
+//!
+//! Memory is reserved for all places. A place is reached when it is first used, and its memory isn't touched before. The places
+//! that were reached and are empty form one more list, in the same way as a chain.
+ghost use Rattle.std.specs.Prelude.{◌≡◌, ◌+◌, ◌≤◌, ◌<◌, ◌∷◌, ◌++◌, [], IfOk, IfSome, length, option_map, vec_len, vec_capacity};
 ghost use Rattle.packed_entries.specs.Keys.{has_key};
-ghost use Rattle.packed_entries.specs.Places.{no_entry};
+ghost use Rattle.packed_entries.specs.Places.{empty_place};
 ghost use Rattle.packed_entries.specs.Linked.{Chained, no_chains, chain_at, entry_at, used, times, times_in};
 ghost use Rattle.packed_entries.specs.Linked.{with_place, without_place, link_before, first_of, with_entry_at};
 ghost use Rattle.packed_entries.specs.declared.limits.TheConstants.{MAX_ENTRIES};
@@ -25,21 +28,25 @@ pub(crate) struct Found {
 #[derive(Drop)]
 pub(crate) struct Places<A: Allocator = Global> {
     heads: Vec<u32, A>,
+    // The places that were reached, in their order, and room for all others.
     packed: Vec<PackedEntry, A>,
+    capacity: u32,
+    // The link to the first place that was reached and is empty.
     free: u32,
     used: u32,
 }
 
 impl<A: Allocator> Model for Places<A> {
-    ghost use Rattle.std.specs.Prelude.{map};
-    ghost use Rattle.packed_entries.specs.Places.{link_of, entry_of};
-    ghost use Rattle.packed_entries.specs.Linked.{Chained, IsKept, chains_from};
+    ghost use Rattle.std.specs.Prelude.{map, length, vec_capacity};
+    ghost use Rattle.packed_entries.specs.Places.{link_of, entries_of};
+    ghost use Rattle.packed_entries.specs.Linked.{Chained, IsKept, IsWithin, chains_from};
 
     ghost Value = { Chained };
 
-    ghost view = { λ t. record { entries = map entry_of t.packed.items; chains = chains_from (map link_of t.packed.items) t.heads.items } };
+    ghost view = { λ t. record { entries = entries_of t.packed.items t.capacity; chains = chains_from (map link_of t.packed.items) t.heads.items } };
 
-    ghost invariant = { λ t. IsKept t.heads.items (map link_of t.packed.items) t.free t.used };
+    ghost invariant = { λ t. IsKept t.heads.items (map link_of t.packed.items) t.free t.used
+        × IsWithin (length t.packed.items) t.capacity (vec_capacity t.packed) };
 }
 
 impl<A: Allocator + Clone> Places<A> {
@@ -52,14 +59,12 @@ impl<A: Allocator + Clone> Places<A> {
     {
         let mut heads = Vec::new(alloc.clone()?);
         heads.resize(buckets as usize, 0)?;
-        let mut packed = Vec::with_capacity(alloc, capacity as usize)?;
-        for place in 0..capacity {
-            packed.push_reserved(empty_entry(place));
-        }
+        let packed = Vec::with_capacity(alloc, capacity as usize)?;
         Ok(Places {
             heads,
             packed,
-            free: capacity,
+            capacity,
+            free: 0,
             used: 0,
         })
     }
@@ -77,7 +82,7 @@ impl<A: Allocator> Places<A> {
     pub(crate) fn capacity(&self) -> u32
         ensures { result ≡ length self.now.entries }
     {
-        self.packed.len() as u32
+        self.capacity
     }
 
     // Returns the first place of the bucket's chain that the key finds, and the link to the place before it. Inlined, because
@@ -104,20 +109,20 @@ impl<A: Allocator> Places<A> {
         None
     }
 
-    // Returns the entry of a place.
+    // Returns the entry of a place that is in a chain.
     #[inline]
     pub(crate) fn entry(&self, place: u32) -> Entry
-        requires { place < length self.now.entries }
+        requires { times_in place self.now.chains ≡ 1 }
         ensures { result ≡ entry_at self.now place }
     {
         let packed = self.packed[place as usize].get();
         packed.entry
     }
 
-    // Writes the entry of a place.
+    // Writes the entry of a place that is in a chain.
     #[inline]
     pub(crate) fn set_entry(&mut self, place: u32, entry: Entry)
-        requires { place < length self.old.entries }
+        requires { times_in place self.old.chains ≡ 1 }
         ensures { self.new ≡ with_entry_at self.old place entry }
     {
         self.packed[place as usize].set_entry(entry);
@@ -132,6 +137,9 @@ impl<A: Allocator> Places<A> {
         ensures unused { times_in result self.old.chains ≡ 0 }
         ensures added { self.new ≡ with_place self.old bucket result entry }
     {
+        if self.free == 0 {
+            self.free = reach_one_more(&mut self.packed);
+        }
         let place = self.free - 1;
         let head = self.heads[bucket];
         let link = U23::of(head);
@@ -163,10 +171,21 @@ impl<A: Allocator> Places<A> {
     }
 }
 
-// Makes an empty place with this link.
-fn empty_entry(link: u32) -> PackedEntry
-    requires { link < 2 ^ 23 }
-    ensures { result ≡ record { entry = no_entry; link = link } }
+// Reaches the next place, which is empty and has no link, and returns the link to it.
+fn reach_one_more<A: Allocator>(packed: &mut Vec<PackedEntry, A>) -> u32
+    requires few { vec_len packed.old < MAX_ENTRIES }
+    requires room { vec_len packed.old < vec_capacity packed.old }
+    ensures items { packed.new.items ≡ packed.old.items ++ empty_place ∷ [] }
+    ensures capacity { vec_capacity packed.new ≡ vec_capacity packed.old }
+    ensures link { result ≡ length packed.old.items + 1 }
+{
+    packed.push_reserved(empty_entry());
+    packed.len() as u32
+}
+
+// Makes an empty place with no link.
+fn empty_entry() -> PackedEntry
+    ensures { result ≡ empty_place }
 {
     let entry = Entry::Hint {
         key: 0,
@@ -174,6 +193,6 @@ fn empty_entry(link: u32) -> PackedEntry
         ppn: U24::of(0),
         mpn: U24::of(0),
     };
-    let link = U23::of(link);
+    let link = U23::of(0);
     PackedEntry::new(Packed { entry, link })
 }
