@@ -8,6 +8,7 @@ use Rattle.std.proofs.lemmas.List.{take-append-drop}
 use Rattle.text_words.specs.declared.fault.TextFault.{TextFault}
 use Rattle.text_words.specs.declared.fault.TextFault.TheVariants as faults
 use Rattle.journal_replay.specs.Ends.{AppendsFront, Sends, Buffers, WritesAll}
+use Rattle.journal_replay.specs.Replayed.{Prints}
 
 -- what holds anyhow holds at an error
 pub on_err : {X E : Type 0} (r : Result X E) (P : Type 0) → P → OnErr r P
@@ -95,3 +96,11 @@ pub buffers_cut : (a c : Option (List ℕ)) (failed : Bool) (ahead whole cut : L
     → IsErr r → IfErr r (λ e. e ≡ faults.Write) → failed ≡ true → AppendsFront a c cut → Buffers a c failed ahead whole cut r
 buffers_cut a c failed ahead whole cut (Ok done) is fault test front = cc
 buffers_cut a c failed ahead whole cut (Err e) is fault test front = record { sends = tt; fine = tt; err = front; failed = test; fault = fault }
+
+-- all of a text was printed if it was written
+pub writes_prints : (a c : Option (List ℕ)) (failed : Bool) (text : List ℕ) (r : Result (Unit {0}) TextFault)
+    → WritesAll a c failed text r → Prints a c failed text r
+writes_prints a c failed text (Ok u) w = record { ok = w.ok; err = tt; reader = refl; writer = w.fine }
+writes_prints a c failed text (Err e) w =
+    let P : TextFault → Type 0 = λ f. Prints a c failed text (Err f) in
+    subst P (sym w.fault) (record { ok = tt; err = w.err; reader = refl; writer = w.failed })

@@ -18,6 +18,7 @@ use Rattle.share_table.specs.TableMaps.{SharedFrame, empty_table, references}
 use Rattle.share_table.specs.declared.entries.HintFrame.{HintFrame}
 use Rattle.merge_core.specs.Pmap.{slot_in, guests_in, frame_of, Known, unknown, unmapped_guest, empty_pmap}
 use Rattle.merge_core.specs.Ties.{Ties, Few, Counted, page_total}
+use Rattle.merge_core.proofs.Repeated.{map_equal}
 
 -- each page is unmapped
 empty_slots : (salt n b s : ℕ) (slot : SlotOf ℕ) → option_map {U = ℕ × SlotOf ℕ} (λ slot. (salt, slot)) (slice_get (replicate n Unmapped) b) ≡ Some (s, slot) → slot ≡ Unmapped
@@ -33,8 +34,7 @@ empty_page (g ∷ gs) zero b s slot h = empty_slots g.salt g.pages b s slot h
 empty_page (g ∷ gs) (suc a) b s slot h = empty_page gs a b s slot h
 
 slots_stay : (frames : FrameMap) (n : ℕ) → map (slot_in frames) (replicate n Unmapped) ≡ replicate n Unmapped
-slots_stay frames zero = refl
-slots_stay frames (suc n) = ap (λ (xs : List Slot). Unmapped ∷ xs) (slots_stay frames n)
+slots_stay frames n = map_equal (slot_in frames) n Unmapped
 
 -- the model's guests are those of a new machine
 pub empty_guests : (frames : FrameMap) (gs : List Shape) → guests_in frames (empty_pmap gs) ≡ map empty_guest gs

@@ -1,17 +1,16 @@
 -- What a core's pages read as, and how many there are.
-use Rattle.std.proofs.Common.{◌≡◌, ℕ, zero, suc, ◌<◌, ◌≤◌, false, List, [], ◌∷◌, length, get_or, map, Option, Some, None, IsSome, refl, ap, sym, ◌∙◌, arith, vec_len}
+use Rattle.std.proofs.Common.{◌≡◌, ℕ, zero, suc, ◌<◌, false, List, [], ◌∷◌, length, get_or, map, Option, Some, None, IsSome, refl, ap, sym, ◌∙◌, arith}
 use Rattle.std.specs.Prelude.{slice_get}
 use Rattle.std.specs.Option.{option_map}
 use Rattle.std.proofs.lemmas.Bool.{false≢true}
 use Rattle.std.proofs.lemmas.List.{get_or-replicate, length-map}
-use Rattle.std.proofs.lemmas.List.Sums.{sum_by-cons}
-use Rattle.page_model.specs.Pages.{SlotOf, Slot, Unmapped, Private, Shared, GuestOf, Guest, page_at, blank, bytes_of, is_mapped}
+use Rattle.page_model.specs.Pages.{SlotOf, Slot, Unmapped, Private, Shared, Guest, page_at, blank, bytes_of, is_mapped}
 use Rattle.page_model.specs.Stored.{text_at, byte_in}
 use Rattle.machine_frames.specs.FrameMap.{FrameMap, frame}
 use Rattle.merge_core.specs.declared.held.GuestPages.{GuestPages}
 use Rattle.merge_core.specs.Pmap.{Pmap, bytes_in, slot_in, guests_in, frame_of}
-use Rattle.merge_core.specs.Ties.{Placed, page_total}
-use Rattle.merge_core.specs.View.{slot_of, guest_of, pmap_in}
+use Rattle.merge_core.specs.Ties.{Placed}
+use Rattle.merge_core.specs.View.{slot_of, pmap_in}
 use Rattle.merge_core.proofs.FrameLemmas.{bytes_are}
 use Rattle.merge_core.proofs.Views.{page_in_is}
 
@@ -44,10 +43,10 @@ text_there None h = absurd (false≢true h)
 text_there (Some x) h = refl
 
 -- how many pages a guest has
-pub pages_read : {A : Type 0} (frames : FrameMap) (gs : List (GuestPages A)) (i : ℕ) (d : GuestPages A) → i < length gs → Some (vec_len (get_or gs i d).pages) ≡ option_map (λ (g : Guest). length g.slots) (slice_get (guests_in frames (pmap_in gs)) i)
+pub pages_read : {A : Type 0} (frames : FrameMap) (gs : List (GuestPages A)) (i : ℕ) (d : GuestPages A) → i < length gs → Some (length (get_or gs i d).pages) ≡ option_map (λ (g : Guest). length g.slots) (slice_get (guests_in frames (pmap_in gs)) i)
 pages_read frames [] i d h = absurd (omega arith)
 pages_read frames (g ∷ gs) zero d h =
-    let n : vec_len g.pages ≡ length (map (slot_in frames) (map slot_of g.pages.items)) = omega (arith, g.pages.ok.0, length-map g.pages.items slot_of, length-map (map slot_of g.pages.items) (slot_in frames)) in
+    let n : length g.pages ≡ length (map (slot_in frames) (map slot_of g.pages)) = omega (arith, length-map g.pages slot_of, length-map (map slot_of g.pages) (slot_in frames)) in
     ap Some n
 pages_read frames (g ∷ gs) (suc i) d h = pages_read frames gs i d (omega arith)
 
@@ -56,8 +55,3 @@ pub salt_read : {A : Type 0} (frames : FrameMap) (gs : List (GuestPages A)) (i :
 salt_read frames [] i d h = absurd (omega arith)
 salt_read frames (g ∷ gs) zero d h = refl
 salt_read frames (g ∷ gs) (suc i) d h = salt_read frames gs i d (omega arith)
-
-pub pages_few : {A : Type 0} (gs : List (GuestPages A)) (i : ℕ) (d : GuestPages A) → i < length gs → vec_len (get_or gs i d).pages ≤ page_total (pmap_in gs)
-pages_few [] i d h = absurd (omega arith)
-pages_few (g ∷ gs) zero d h = omega (arith, g.pages.ok.0, length-map g.pages.items slot_of, sum_by-cons (λ (y : GuestOf ℕ). length y.slots) (guest_of g) (pmap_in gs))
-pages_few (g ∷ gs) (suc i) d h = omega (arith, pages_few gs i d (omega arith), sum_by-cons (λ (y : GuestOf ℕ). length y.slots) (guest_of g) (pmap_in gs))

@@ -4,6 +4,7 @@ pub mod Kept
 pub mod Lending
 pub mod Made
 pub mod Noted
+pub mod PackedPages
 pub mod Pmap
 pub mod Refusals
 pub mod Shown

@@ -20,7 +20,7 @@ abbrev pub slots_of : List PageEntry → List (SlotOf ℕ)
 slots_of pages = map_list slot_of pages
 
 abbrev pub guest_of : {A : Type 0} → GuestPages A → GuestOf ℕ
-guest_of g = record { salt = g.salt; slots = slots_of g.pages.items }
+guest_of g = record { salt = g.salt; slots = slots_of g.pages }
 
 abbrev pub pmap_in : {A : Type 0} → List (GuestPages A) → Pmap
 pmap_in guests = map_list guest_of guests

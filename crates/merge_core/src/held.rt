@@ -1,4 +1,5 @@
 //! What a core keeps.
+use crate::entries::PageEntries;
 use crate::notes::Notes;
 use machine_frames::Frames;
 use share_table::Table;
@@ -24,7 +25,7 @@ pub struct Place {
 #[derive(Drop)]
 pub struct GuestPages<A: Allocator = Global> {
     pub salt: u32,
-    pub pages: Vec<PageEntry, A>,
+    pub pages: PageEntries<A>,
 }
 
 /// The parts of a core.

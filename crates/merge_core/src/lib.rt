@@ -7,6 +7,7 @@
 mod ahead;
 mod by_workers;
 mod counting;
+mod entries;
 mod fault;
 mod forecast;
 mod hashing;

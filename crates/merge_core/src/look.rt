@@ -27,10 +27,10 @@ fn find_entry<A: Allocator>(
         return None;
     }
     let g = &guests[guest];
-    if ppn >= g.pages.len() {
+    if ppn >= g.pages.len() as usize {
         return None;
     }
-    Some((g.salt, g.pages[ppn]))
+    Some((g.salt, g.pages.get(ppn)))
 }
 
 /// Returns the salt of a page's guest, and the page.

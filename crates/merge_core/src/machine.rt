@@ -365,8 +365,7 @@ impl<H: PageHash, A: Allocator> Core<H, A> {
         requires { guest < length (state_of self.now).guests }
         ensures { Some result ≡ option_map (λ g. length g.slots) (slice_get (state_of self.now).guests guest) }
     {
-        let g = &self.held.guests[guest as usize];
-        g.pages.len() as u32
+        self.held.guests[guest as usize].pages.len()
     }
 
     /// Returns the machine page number (MPN) of a page's frame, `None` if the page is unmapped.

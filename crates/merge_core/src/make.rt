@@ -6,7 +6,8 @@ ghost use Rattle.share_table.specs.TableMaps.{empty_table};
 ghost use Rattle.merge_core.specs.Pmap.{empty_pmap, unknown, unmapped_guest};
 ghost use Rattle.merge_core.specs.View.{guest_of, pmap_in, pmap_of, Whole};
 
-use crate::held::{GuestPages, Held, PageEntry};
+use crate::entries::PageEntries;
+use crate::held::{GuestPages, Held};
 use crate::notes::Notes;
 use machine_frames::Frames;
 use page_digest::PageHash;
@@ -18,14 +19,8 @@ use std::alloc::{AllocError, Allocator};
 fn new_guest<A: Allocator>(alloc: A, salt: u32, pages: u32) -> Result<GuestPages<A>, AllocError>
     ensures { IfOk result (λ g. guest_of g ≡ unmapped_guest (record { salt = salt; pages = pages })) }
 {
-    let mut entries = Vec::with_capacity(alloc, pages as usize)?;
-    for _ in 0..pages {
-        entries.push_reserved(PageEntry::Unmapped);
-    }
-    Ok(GuestPages {
-        salt,
-        pages: entries,
-    })
+    let pages = PageEntries::new(alloc, pages)?;
+    Ok(GuestPages { salt, pages })
 }
 
 /// Makes guests with these salts and numbers of pages, and no page mapped.

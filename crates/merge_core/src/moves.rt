@@ -1,8 +1,9 @@
 //! The single changes to a page.
-ghost use Rattle.std.specs.Prelude.{◌≡◌, ◌+◌, ◌<◌, ◌≤◌, ◌==◌, length, false, None, Some, slice_set, IsSome};
+ghost use Rattle.std.specs.Prelude.{◌≡◌, ◌+◌, ◌^◌, ◌<◌, ◌≤◌, ◌==◌, length, false, None, Some, slice_set, IsSome};
 ghost use Rattle.page_model.specs.Pages.{blank, written, with_slot, page_at, used, peers};
 ghost use Rattle.page_model.specs.Pages as s;
 ghost use Rattle.page_model.specs.declared.limits.TheConstants.{PAGE_BYTES};
+ghost use Rattle.merge_core.specs.PackedPages.{mpn_in};
 ghost use Rattle.merge_core.specs.Pmap.{bytes_in, known_at};
 ghost use Rattle.merge_core.specs.View.{slot_of, pmap_in, pmap_of, guests_of, notes_of, Whole};
 ghost use Rattle.machine_frames.specs.FrameMap as fm;
@@ -58,10 +59,11 @@ pub fn map_zeroed<H: PageHash, A: Allocator>(held: &mut Held<H, A>, page: Place)
 /// Changes one page's entry.
 fn set_page<A: Allocator>(guests: &mut Vec<GuestPages<A>, A>, page: Place, entry: PageEntry)
     requires there { IsSome (page_at (pmap_in guests.old.items) page.guest page.ppn) }
+    requires fits { mpn_in entry < 2 ^ 30 }
     ensures pmap { pmap_in guests.new.items ≡ with_slot (pmap_in guests.old.items) page.guest page.ppn (slot_of entry) }
 {
     let g = &mut guests[page.guest];
-    g.pages[page.ppn] = entry;
+    g.pages.set(page.ppn, entry);
 }
 
 /// Writes bytes to a private page.

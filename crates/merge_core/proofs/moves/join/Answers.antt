@@ -3,12 +3,16 @@ use Rattle.share_table.specs.TableMaps.{count_at}
 use Rattle.merge_core.specs.View.{pmap_of, notes_of}
 use Rattle.merge_core.proofs.Limits.{few_after, references_few}
 use Rattle.merge_core.proofs.SharedChanges.{joined_ties, joined_guests, joined_peers, with_count_is}
+use Rattle.merge_core.proofs.Fitting.{shared_fits}
 use Rattle.merge_core.proofs.moves.join.Goals as goal
 
 pub join-count-requires-clause-references : goal.join-count-requires-clause-references
 join-count-requires-clause-references g c =
     let held = c.args.held.now in
     references_few g.H.HashFunction.hash_of (pmap_of held) held.frames held.table (notes_of held) c.requires.whole.ties c.requires.whole.few c.args.page.guest c.args.page.ppn c.args.page.salt c.requires.page
+
+pub set_page-requires-clause-fits : goal.set_page-requires-clause-fits
+set_page-requires-clause-fits g c = shared_fits g.H.HashFunction.hash_of c.args.held.now c.args.code (record { mpn = c.args.mpn; count = count_at c.args.held.now.table c.args.code }) c.requires.whole c.requires.found
 
 pub returns-clause-whole : goal.returns-clause-whole
 returns-clause-whole g c =

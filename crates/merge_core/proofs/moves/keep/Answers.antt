@@ -3,10 +3,15 @@ use Rattle.page_model.proofs.Places.{at_same}
 use Rattle.merge_core.specs.View.{pmap_of, notes_of}
 use Rattle.merge_core.proofs.SharedChanges.{kept_ties, kept_guests, last_less_is}
 use Rattle.merge_core.proofs.Limits.{few_after}
+use Rattle.page_model.specs.Pages.{Shared}
+use Rattle.merge_core.proofs.Fitting.{page_fits}
 use Rattle.merge_core.proofs.moves.keep.Goals as goal
 
 pub leave-requires : goal.leave-requires
 leave-requires g c = record { present = rw c.requires.found refl }
+
+pub set_page-requires-clause-fits : goal.set_page-requires-clause-fits
+set_page-requires-clause-fits g c = page_fits g.H.HashFunction.hash_of c.args.held.now c.args.page.guest c.args.page.ppn c.args.page.salt c.args.mpn (Shared c.args.mpn) c.requires.whole c.requires.page refl
 
 pub returns-clause-whole : goal.returns-clause-whole
 returns-clause-whole g c =

@@ -12,6 +12,9 @@ use Rattle.merge_core.proofs.moves.map_zeroed.Goals as goal
 pub forget-requires : goal.forget-requires
 forget-requires g c = record { mpn = omega (arith, c.requires.whole.ties.noted.len, c.new_frame-mpn.ensures.within) }
 
+pub set_page-requires-clause-fits : goal.set_page-requires-clause-fits
+set_page-requires-clause-fits g c = omega (arith, c.new_frame-mpn.ensures.within, c.requires.whole.total)
+
 pub returns-clause-whole : goal.returns-clause-whole
 returns-clause-whole g c =
     let held = c.args.held.now in

@@ -8,6 +8,7 @@ use Rattle.merge_core.proofs.Holders.{room_for}
 use Rattle.merge_core.proofs.Changes.{put_ties, put_guests}
 use Rattle.merge_core.proofs.Limits.{few_after, place_few, hints_few}
 use Rattle.share_table.proofs.Maps.{len_new}
+use Rattle.merge_core.proofs.Fitting.{page_fits}
 use Rattle.merge_core.proofs.moves.put_hint.Goals as goal
 
 pub put_hint-requires-clause-room : goal.put_hint-requires-clause-room
@@ -24,6 +25,9 @@ pub put_hint-requires-clause-mpn : goal.put_hint-requires-clause-mpn
 put_hint-requires-clause-mpn g c =
     let held = c.args.held.now in
     omega (arith, c.requires.whole.total, taken_within held.frames c.args.mpn (c.requires.whole.ties.placed.taken c.args.page.guest c.args.page.ppn c.args.page.salt (Private c.args.mpn None) c.args.mpn c.requires.page refl))
+
+pub set_page-requires-clause-fits : goal.set_page-requires-clause-fits
+set_page-requires-clause-fits g c = page_fits g.H.HashFunction.hash_of c.args.held.now c.args.page.guest c.args.page.ppn c.args.page.salt c.args.mpn (Private c.args.mpn None) c.requires.whole c.requires.page refl
 
 pub returns-clause-whole : goal.returns-clause-whole
 returns-clause-whole g c =
