@@ -16,7 +16,7 @@ left_at {X = X} xs i x d lt is = drop_more xs i d lt ∙ ap (λ (y : X). y ∷ d
 
 module _ (frames : List (Option ℕ)) (client : ℕ) (qs : List Question) (i : ℕ) where
   pub answered_more : (q d : Question) (front : List Bool) (a : Bool) (r s : Recent) (total : List Bool) → i < length qs → q ≡ get_or qs i d
-      → a ≡ answer_to frames client q r → s ≡ after_question client q r
+      → a ≡ answer_to frames client q r → s ≡ after_question frames client q r
       → front ++ answers_to frames client (drop i qs) r ≡ total → (front ++ a ∷ []) ++ answers_to frames client (drop (i + 1) qs) s ≡ total
   unfolding answers_to
   answered_more q d front a r s total lt is a-is s-is so_far =
@@ -25,19 +25,19 @@ module _ (frames : List (Option ℕ)) (client : ℕ) (qs : List Question) (i : �
       ∙ ap (λ (x : Recent). front ++ answer_to frames client q r ∷ answers_to frames client (drop (i + 1) qs) x) s-is
       ∙ sym (ap (λ (l : List Question). front ++ answers_to frames client l r) (left_at qs i q d lt is)) ∙ so_far
 
-  pub asked_more : (q d : Question) (r s total : Recent) → i < length qs → q ≡ get_or qs i d → s ≡ after_question client q r
-      → asked client (drop i qs) r ≡ total → asked client (drop (i + 1) qs) s ≡ total
+  pub asked_more : (q d : Question) (r s total : Recent) → i < length qs → q ≡ get_or qs i d → s ≡ after_question frames client q r
+      → asked frames client (drop i qs) r ≡ total → asked frames client (drop (i + 1) qs) s ≡ total
   unfolding asked
   asked_more q d r s total lt is s-is so_far =
-      ap (λ (x : Recent). asked client (drop (i + 1) qs) x) s-is ∙ sym (ap (λ (l : List Question). asked client l r) (left_at qs i q d lt is)) ∙ so_far
+      ap (λ (x : Recent). asked frames client (drop (i + 1) qs) x) s-is ∙ sym (ap (λ (l : List Question). asked frames client l r) (left_at qs i q d lt is)) ∙ so_far
 
   pub all_answered : (front : List Bool) (r : Recent) (total : List Bool) → length qs ≤ i → front ++ answers_to frames client (drop i qs) r ≡ total → front ≡ total
   unfolding answers_to
   all_answered front r total le so_far = sym (ap (λ (l : List Question). front ++ answers_to frames client l r) (drop_all i qs le) ∙ append-nil front) ∙ so_far
 
-  pub all_asked : (r total : Recent) → length qs ≤ i → asked client (drop i qs) r ≡ total → r ≡ total
+  pub all_asked : (r total : Recent) → length qs ≤ i → asked frames client (drop i qs) r ≡ total → r ≡ total
   unfolding asked
-  all_asked r total le so_far = sym (ap (λ (l : List Question). asked client l r) (drop_all i qs le)) ∙ so_far
+  all_asked r total le so_far = sym (ap (λ (l : List Question). asked frames client l r) (drop_all i qs le)) ∙ so_far
 
 -- ---- releases
 

@@ -88,7 +88,7 @@ Greets n name (Some before) loans received old new = TakesUp n before (begun_of 
 
 pub record Asks (n : ℕ) (b : Begun) (questions : List Question) (received : Received) (old new : HostView) : Type 0 where
   pub reply : received ≡ got.Seen (record { items = answers_to (fingerprints_in old.salt old.domain.machines) b.client questions old.recent })
-  pub now : new ≡ with_session (with_recent old (asked b.client questions old.recent)) n (session.Begun (heard b))
+  pub now : new ≡ with_session (with_recent old (asked (fingerprints_in old.salt old.domain.machines) b.client questions old.recent)) n (session.Begun (heard b))
 
 pub record Releases (n : ℕ) (b : Begun) (slots : List ℕ) (received : Received) (old new : HostView) : Type 0 where
   pub reply : received ≡ got.Released (record { items = freed_by b.client slots old.domain })

@@ -23,18 +23,23 @@ page_of client q = record { client = client; number = q.page }
 abbrev pub answer_to : List (Option ℕ) → ℕ → Question → Recent → Bool
 answer_to frames client q recent = was_noted (page_of client q) q.fingerprint recent || is_held q.fingerprint frames
 
--- the last questions after one: a passing one isn't noted
-abbrev pub after_question : ℕ → Question → Recent → Recent
-after_question client q recent = if q.is_passing then recent else with_note (page_of client q) q.fingerprint recent
+-- whether a question is noted. A passing one isn't. Nor is one about a fingerprint that a frame in use has: anyone who asks about it
+-- gets the same answer by that frame
+abbrev pub is_to_note : List (Option ℕ) → Question → Bool
+is_to_note frames q = not (q.is_passing || is_held q.fingerprint frames)
+
+-- the last questions after one
+abbrev pub after_question : List (Option ℕ) → ℕ → Question → Recent → Recent
+after_question frames client q recent = if is_to_note frames q then with_note (page_of client q) q.fingerprint recent else recent
 
 -- the answers to a client's questions, where the frames in use have these fingerprints; and the last questions after them
 unfoldable pub answers_to : List (Option ℕ) → ℕ → List Question → Recent → List Bool
 answers_to frames client [] recent = []
-answers_to frames client (q ∷ qs) recent = answer_to frames client q recent ∷ answers_to frames client qs (after_question client q recent)
+answers_to frames client (q ∷ qs) recent = answer_to frames client q recent ∷ answers_to frames client qs (after_question frames client q recent)
 
-unfoldable pub asked : ℕ → List Question → Recent → Recent
-asked client [] recent = recent
-asked client (q ∷ qs) recent = asked client qs (after_question client q recent)
+unfoldable pub asked : List (Option ℕ) → ℕ → List Question → Recent → Recent
+asked frames client [] recent = recent
+asked frames client (q ∷ qs) recent = asked frames client qs (after_question frames client q recent)
 
 -- ---- releases
 

@@ -1,5 +1,5 @@
 //! Questions that are answered one after the other.
-ghost use Rattle.std.specs.Prelude.{◌≡◌, ◌≤◌, length};
+ghost use Rattle.std.specs.Prelude.{◌≡◌, ◌≤◌, [], length};
 ghost use Rattle.host_sessions.specs.Turns.{after_question, answer_to, answers_to, asked, page_of};
 ghost use Rattle.recent_fingerprints.specs.Notes.{was_noted};
 ghost use Rattle.fingerprint_domain.specs.Known.{fingerprints_in};
@@ -21,7 +21,7 @@ pub(crate) fn ask_each<H: PageHash, A: Allocator>(
 ) -> ArrayVec<bool, MAX_IN_MESSAGE>
     requires { length questions.now ≤ MAX_IN_MESSAGE }
     ensures answers { result.items ≡ answers_to (fingerprints_in domain.now.salt domain.now.domain.machines) client questions.now recent.old }
-    ensures asked { recent.new ≡ asked client questions.now recent.old }
+    ensures asked { recent.new ≡ asked (fingerprints_in domain.now.salt domain.now.domain.machines) client questions.now recent.old }
 {
     let mut answers = ArrayVec::new();
     for question in questions {
@@ -38,20 +38,23 @@ fn ask_one<H: PageHash, A: Allocator>(
     question: &Question,
 ) -> bool
     ensures answer { result ≡ answer_to (fingerprints_in domain.now.salt domain.now.domain.machines) client question.now recent.old }
-    ensures noted { recent.new ≡ after_question client question.now recent.old }
+    ensures noted { recent.new ≡ after_question (fingerprints_in domain.now.salt domain.now.domain.machines) client question.now recent.old }
 {
-    let noted = note_one(recent, client, question);
-    noted || domain.has(question.fingerprint)
+    if domain.has(question.fingerprint) {
+        return true;
+    }
+    note_one(recent, client, question)
 }
 
-/// Whether another page was noted with a question's fingerprint. Notes the question, unless it is a passing one.
+/// Whether another page was noted with a question's fingerprint, which no frame in use has. Notes the question, unless it is a passing
+/// one.
 fn note_one<A: Allocator>(
     recent: &mut RecentFingerprints<A>,
     client: u32,
     question: &Question,
 ) -> bool
     ensures answer { result ≡ was_noted (page_of client question.now) question.now.fingerprint recent.old }
-    ensures noted { recent.new ≡ after_question client question.now recent.old }
+    ensures noted { recent.new ≡ after_question [] client question.now recent.old }
 {
     let page = PageName {
         client,

@@ -11,7 +11,7 @@ loop-question-preserved g c =
     let qs = c.args.questions.now in
     record {
       answers = rw c.push.ensures.items (answered_more (fingerprints_in c.args.domain.now.salt c.args.domain.now.domain.machines) c.args.client qs l.question-index _ _ l.answers.items c.ask_one.result l.recent c.ask_one.new.recent (answers_to (fingerprints_in c.args.domain.now.salt c.args.domain.now.domain.machines) c.args.client qs c.args.recent.now) c.loop-question-test.true refl e.answer e.noted l.invariant.answers);
-      asked = asked_more (fingerprints_in c.args.domain.now.salt c.args.domain.now.domain.machines) c.args.client qs l.question-index _ _ l.recent c.ask_one.new.recent (asked c.args.client qs c.args.recent.now) c.loop-question-test.true refl e.noted l.invariant.asked;
+      asked = asked_more (fingerprints_in c.args.domain.now.salt c.args.domain.now.domain.machines) c.args.client qs l.question-index _ _ l.recent c.ask_one.new.recent (asked (fingerprints_in c.args.domain.now.salt c.args.domain.now.domain.machines) c.args.client qs c.args.recent.now) c.loop-question-test.true refl e.noted l.invariant.asked;
       len = omega (arith, c.push.ensures.len, l.invariant.len);
     }
 
@@ -23,4 +23,4 @@ returns-clause-answers g c =
 pub returns-clause-asked : goal.returns-clause-asked
 returns-clause-asked g c =
     let l = c.loop-question in
-    all_asked (fingerprints_in c.args.domain.now.salt c.args.domain.now.domain.machines) c.args.client c.args.questions.now l.question-index l.recent (asked c.args.client c.args.questions.now c.args.recent.now) c.loop-question-test.false l.invariant.asked
+    all_asked (fingerprints_in c.args.domain.now.salt c.args.domain.now.domain.machines) c.args.client c.args.questions.now l.question-index l.recent (asked (fingerprints_in c.args.domain.now.salt c.args.domain.now.domain.machines) c.args.client c.args.questions.now c.args.recent.now) c.loop-question-test.false l.invariant.asked
