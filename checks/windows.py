@@ -86,6 +86,11 @@ BODIES = {
     "lends after the end": Body("belief.c", ".ended = window->ends || windows->is_over};", ".ended = false};", ["leaves"]),
     "hears no discard": Body("belief.c", DISCARDED, "", ["pages"]),
     "counts a refused release as done": Body("belief.c", REFUSED, f"{REFUSED} note_done(window, number); return;", ["pages"]),
+    "frees what is held": Body("set.h", "return is_loan || page->belief >= PAGESHARE_WINDOW_HELD_ZEROS;", "return is_loan;", ["pages"]),
+    "forgets slots to release": Body("set.h", "page->belief <= PAGESHARE_WINDOW_UNRELEASED;", "page->belief <= PAGESHARE_WINDOW_HOMING;",
+                                     ["pages"]),
+    "keeps half of a belief": Body("belief.c", "page->belief = believed->belief & 31u;", "page->belief = believed->belief & 15u;", ["pages"]),
+    "forgets that an order is open": Body("belief.c", "page->ordered = believed->ordered ? 1 : 0;", "page->ordered = 0;", ["pages"]),
     "never says that a watch ended": Body("lend.c", ENDED, "", ["guards"]),
 }
 

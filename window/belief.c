@@ -1,4 +1,4 @@
-/* What is believed of pages, and what is done with them next. The proved library decides that; here it is kept in a few bits. */
+/* What is believed of pages, and what is done with them next. The proved library decides that, and what it decided is kept here. */
 #include "set.h"
 
 _Static_assert(WINDOW_SLOT_RESTS - 1 <= UINT32_MAX / WINDOW_SLOT_TOPS, "a slot has a name of 32 bits");
@@ -7,40 +7,12 @@ uint32_t slot_name(uint64_t slot) { return (uint32_t)(slot >> 32) * WINDOW_SLOT_
 
 uint64_t slot_number(uint32_t name) { return (uint64_t)(name / WINDOW_SLOT_RESTS) << 32 | name % WINDOW_SLOT_RESTS; }
 
-/* What is kept of what the library believes. No step leaves a page at a belief that isn't kept as it is. */
-static const uint8_t rests[] = {
-    [PAGESHARE_WINDOW_PRIVATE] = REST_PRIVATE,
-    [PAGESHARE_WINDOW_CHOSEN] = REST_PRIVATE,
-    [PAGESHARE_WINDOW_COPIED] = REST_ASKED,
-    [PAGESHARE_WINDOW_UNANSWERED] = REST_ASKED,
-    [PAGESHARE_WINDOW_LOANED] = REST_LOANED,
-    [PAGESHARE_WINDOW_HELD] = REST_LETTING_GO,
-    [PAGESHARE_WINDOW_EQUAL] = REST_LETTING_GO,
-    [PAGESHARE_WINDOW_LETTING_GO] = REST_LETTING_GO,
-    [PAGESHARE_WINDOW_SHOWN] = REST_SHOWN,
-    [PAGESHARE_WINDOW_HOMING_IN_PLACE] = REST_SHOWN,
-    [PAGESHARE_WINDOW_HOMING] = REST_SHOWN,
-    [PAGESHARE_WINDOW_LEAVING] = REST_LEAVING,
-    [PAGESHARE_WINDOW_UNRELEASED] = REST_LEAVING,
-    [PAGESHARE_WINDOW_ZEROS] = REST_PRIVATE,
-    [PAGESHARE_WINDOW_HELD_ZEROS] = REST_PUTTING_BACK,
-    [PAGESHARE_WINDOW_EQUAL_ZEROS] = REST_PUTTING_BACK,
-    [PAGESHARE_WINDOW_PUTTING_BACK] = REST_PUTTING_BACK,
-};
-
-static const uint8_t beliefs[RESTS] = {
-    [REST_PRIVATE] = PAGESHARE_WINDOW_PRIVATE,           [REST_ASKED] = PAGESHARE_WINDOW_COPIED,
-    [REST_PUTTING_BACK] = PAGESHARE_WINDOW_PUTTING_BACK, [REST_LOANED] = PAGESHARE_WINDOW_LOANED,
-    [REST_LETTING_GO] = PAGESHARE_WINDOW_LETTING_GO,     [REST_SHOWN] = PAGESHARE_WINDOW_SHOWN,
-    [REST_LEAVING] = PAGESHARE_WINDOW_LEAVING,           [REST_RELEASED] = PAGESHARE_WINDOW_LEAVING,
-};
-
 struct pageshare_window_page believed(const struct page *page) {
     bool has = has_slot(page);
     return (struct pageshare_window_page){.slot = has ? (uint32_t)page->kept : 0,
                                           .frame = has ? (uint32_t)(page->kept >> 32) : 0,
-                                          .belief = beliefs[page->rest],
-                                          .ordered = page->rest == REST_ASKED || page->rest == REST_RELEASED};
+                                          .belief = page->belief,
+                                          .ordered = page->ordered == 1};
 }
 
 /* A slot that isn't shown is to be released. */
@@ -49,8 +21,9 @@ static unsigned is_to_release(const struct page *page) { return has_slot(page) &
 void believe(struct window *window, size_t number, const struct pageshare_window_page *believed) {
     struct page *page = &window->pages[number];
     struct part *part = part_of(window, number);
-    unsigned rest = rests[believed->belief], releases = is_to_release(page), lent = is_lent(page) ? 1 : 0;
-    page->rest = (rest == REST_LEAVING && believed->ordered ? (unsigned)REST_RELEASED : rest) & 7u;
+    unsigned releases = is_to_release(page), lent = is_lent(page) ? 1 : 0;
+    page->belief = believed->belief & 31u;
+    page->ordered = believed->ordered ? 1 : 0;
     if (has_slot(page)) page->kept = believed->slot | (uint64_t)believed->frame << 32;
     part->releases = (uint16_t)(part->releases + is_to_release(page) - releases);
     window->windows->counts.lent += (is_lent(page) ? 1u : 0u) - (size_t)lent;
@@ -143,8 +116,7 @@ void hear_discarded(struct window *window, size_t number) {
 }
 
 void forget_loan(struct window *window, size_t number) {
-    unsigned rest = window->pages[number].rest;
-    bool is_held = rest == REST_LETTING_GO || rest == REST_PUTTING_BACK;
-    const struct pageshare_window_page page = {.belief = is_held ? PAGESHARE_WINDOW_PUTTING_BACK : PAGESHARE_WINDOW_PRIVATE};
+    uint8_t belief = is_held(&window->pages[number]) ? PAGESHARE_WINDOW_PUTTING_BACK : PAGESHARE_WINDOW_PRIVATE;
+    const struct pageshare_window_page page = {.belief = belief};
     believe(window, number, &page);
 }

@@ -49,7 +49,7 @@ static inline uint64_t fingerprint_of(uint32_t salt, const uint8_t *page) {
 }
 
 /* A glance at a page: some bits of 64 bytes in a row, whose place follows from the page's fingerprint. Much cheaper than reading it. */
-enum { GLANCE_WORDS = 8, GLANCE_BITS = 26 };
+enum { GLANCE_WORDS = 8, GLANCE_BITS = 15 };
 
 static inline size_t glance_place(uint64_t fingerprint) { return fingerprint % (WORDS / GLANCE_WORDS) * GLANCE_WORDS; }
 

@@ -528,7 +528,7 @@ static void take_loans(struct windows *windows, struct batch *batch, const struc
         uint32_t number = batch->pages[i];
         if (are_got) take_loan(batch->window, number, &loans[i]);
         else note_refused(batch->window, number);
-        if (batch->window->pages[number].rest == REST_LOANED) batch->pages[kept++] = number;
+        if (batch->window->pages[number].belief == PAGESHARE_WINDOW_LOANED) batch->pages[kept++] = number;
     }
     unlock_set(windows);
     batch->count = kept;

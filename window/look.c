@@ -74,9 +74,7 @@ static bool can_glance(const struct page *page) { return page->looks > 0 && page
 /* Whether it is known what the page's fingerprint was. */
 static bool is_read(const struct page *page) { return page->looks > (page->over == 1 ? 0 : 1); }
 
-static void note_glance(struct page *page, const uint8_t *at) {
-    page->frame = glance_at(page->kept, at) & (WINDOW_FRAMES_MOST - 1);
-}
+static void note_glance(struct page *page, const uint8_t *at) { page->clue = glance_at(page->kept, at) % CLUES; }
 
 /* Notes that a page has changed. It comes more seldom if it wasn't idle before. */
 static void note_other(struct window *window, size_t number, bool is_hot) {
@@ -127,7 +125,7 @@ static enum finding take_fingerprint(struct window *window, size_t number, uint6
     bool is_turn = has_turn(window, page, number, &turn), is_kept = is_again && turn % each != 0;
     if (!is_turn && !(is_idle && glances)) return FOUND_NOTHING;
     bool is_passed = is_turn && is_kept && !is_in_sample(window, number);
-    if (page->over == 0 && !is_passed && (!glances || glance_at(page->kept, address_of(window, number)) != page->frame)) {
+    if (page->over == 0 && !is_passed && (!glances || glance_at(page->kept, address_of(window, number)) != page->clue)) {
         meet_page(window, number);
         return FOUND_NOTHING;
     }
@@ -141,7 +139,7 @@ static enum finding take_fingerprint(struct window *window, size_t number, uint6
 /* Whether a look may read a page: it is the window's, and can be lent. */
 static bool may_read(const struct window *window, size_t number) {
     const struct page *page = &window->pages[number];
-    return page->out == 0 && page->rest == REST_PRIVATE && can_lend(window) && number < window->ready &&
+    return page->out == 0 && page->belief == PAGESHARE_WINDOW_PRIVATE && can_lend(window) && number < window->ready &&
            !is_pinned(window, number);
 }
 
@@ -252,7 +250,7 @@ static bool has_changed_beside(const struct window *window, size_t number, uint8
     const struct page *page = &window->pages[number];
     if (found != PAGE_PRESENT || page->over == 1 || !may_read(window, number)) return false;
     if (is_sampled(window, number, is_turn_of_idle(window, number))) return false;
-    return glance_at(page->kept, address_of(window, number)) != page->frame;
+    return glance_at(page->kept, address_of(window, number)) != page->clue;
 }
 
 /* Where a sampled page has changed those beside it are taken, too, as far as they have changed. None of them is idle any more. */
@@ -429,7 +427,7 @@ static void collect_part(struct slots *slots, struct window *window, size_t firs
     size_t end = first + rest_of_part(window, first);
     for (size_t page = first; page < end && slots->count < WINDOW_BATCH; page++) {
         const struct page *its = &window->pages[page];
-        if (!has_slot(its) || is_lent(its) || its->rest == REST_RELEASED) continue;
+        if (!has_slot(its) || is_lent(its) || its->ordered == 1) continue;
         if (is_in_transfer(window, page)) continue; /* (a device may be reading the frame, as the page showed it when it began) */
         if (!order_release(window, page)) continue;
         slots->slots[slots->count] = slot_number(believed(its).slot);

@@ -47,7 +47,7 @@ size_t alike(const struct window *window, size_t first, size_t most) {
 bool is_one_mapping(const struct window *window, size_t number) {
     const struct page *after = &window->pages[number], *before = after - 1;
     if (before->over != after->over) return false;
-    if (before->over == 1) return before->past == after->past && before->frame + 1 == after->frame;
+    if (before->over == 1) return before->past == after->past && are_in_a_row(before->clue, after->clue);
     bool is_moved_alike = before->moved == after->moved && after->begins == 0;
     return is_moved_alike && part_of(window, number - 1)->whole == part_of(window, number)->whole;
 }
@@ -62,7 +62,7 @@ static void note_memory(struct window *window, size_t first, size_t count, uint3
         stop_showing_past(window, first + i);
         note_zero(window, first + i, false);
         /* (what a glance has found holds on where memory of its own was moved) */
-        if (is_file || page->over == 1) page->frame = is_file ? (frame + (uint32_t)i) & (WINDOW_FRAMES_MOST - 1) : 0;
+        if (is_file || page->over == 1) page->clue = is_file ? clue_of(frame + (uint32_t)i) % CLUES : 0;
         page->over = is_file ? 1 : 0;
         page->past = page->same = 0;
         page->moved = is_moved ? 1 : 0;

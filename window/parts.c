@@ -204,9 +204,8 @@ static void find_facts(const struct window *window, size_t first, struct pagesha
     const struct windows *windows = window->windows;
     look->has_mappings = windows->counts.mappings + PART <= windows->mappings_most;
     for (size_t page = first; page < first + PART; page++) {
-        unsigned rest = window->pages[page].rest;
         const struct pageshare_window_bars bars = bars_of(window, page);
-        if (rest == REST_LETTING_GO || rest == REST_PUTTING_BACK) look->is_loose = false;
+        if (is_held(&window->pages[page])) look->is_loose = false;
         if (bars.pinned || bars.inherited || bars.locked || bars.left || bars.ended) look->is_movable = false;
     }
     look->is_movable = look->is_movable && look->is_loose;

@@ -2,6 +2,7 @@
 #ifndef PAGESHARE_WINDOW_SET_H
 #define PAGESHARE_WINDOW_SET_H
 
+#include "bytes.h"
 #include "kernel.h"
 #include "pageshare_window.h"
 #include "trace.h"
@@ -18,27 +19,12 @@ enum {
     ASKS_APART_MOST = 3, /* a page that nobody else has is asked about at each 2^n-th look, n up to this */
     TOGETHER = 64,       /* pages in a row are asked about in the same looks, so that runs of them get frames in a row */
     PINS_MOST = UINT16_MAX,
+    CLUES = 1 << GLANCE_BITS,
     TRANSFERS_MOST = 128 /* transfers under way that are kept by their places */
 };
 
 /* In place of a frame's number: the page is zeros, and goes back to the system. */
 static const uint32_t ZEROS = WINDOW_NO_FRAME - 1;
-
-/*
- * What is believed of a page between two steps of a look, as the proved library has it (pageshare_window.h). From REST_LOANED on the host
- * counts a slot for it.
- */
-enum rest {
-    REST_PRIVATE,
-    REST_ASKED,        /* its bytes are in the lender's buffer, and a loan was asked for */
-    REST_PUTTING_BACK, /* it was to be given back as zeros, and is held still */
-    REST_LOANED,
-    REST_LETTING_GO, /* it was to show its frame, and is held still */
-    REST_SHOWN,
-    REST_LEAVING,  /* its slot is to be released */
-    REST_RELEASED, /* a release was sent, and isn't answered yet */
-    RESTS
-};
 
 /*
  * A page. What is believed of it is written by `believe` alone, which has it from the library.
@@ -47,27 +33,36 @@ enum rest {
  * may have pinned, stays where it is. Nothing is lent of it any more, but a discard must not uncover the frame.
  */
 struct __attribute__((packed)) page {
-    uint64_t kept;       /* its slot and its loan's frame, if it has a slot; otherwise its fingerprint at its last read, if any */
-    uint32_t frame : 26; /* that is mapped at its place; if none is, what the last glance at it found, if `looks` isn't 0 */
-    uint32_t over : 1;   /* a frame is mapped at its place; the page is that frame or a private copy */
-    uint32_t past : 1;   /* the frame is of a lender that is gone */
-    uint32_t out : 1;    /* it has left the window */
-    uint32_t same : 1;   /* nobody has written to it since it was given back as zeros, or since the lender of its frame is gone */
-    uint32_t seen : 1;   /* it counts among its part's `shareable` */
-    uint32_t moved : 1;  /* its memory was moved to its place, and so is in no mapping with what is beside it */
-    uint8_t
-        looks : 2;    /* looks that found it the same, at most STILL. The first only glanced at it, unless it lies over a frame */
-    uint8_t asks : 2; /* how often it was asked about in vain; or, if it isn't idle, changed again. At most ASKS_APART_MOST */
-    uint8_t begins : 1; /* it is the first page of what was moved */
-    uint8_t rest : 3;   /* enum rest */
+    uint64_t kept; /* its slot and its loan's frame, if it has a slot; otherwise its fingerprint at its last read, if any */
+    uint32_t clue : GLANCE_BITS; /* of the frame at its place (`clue_of`); or the last glance, if `looks` isn't 0 */
+    uint32_t over : 1;           /* a frame is mapped at its place; the page is that frame or a private copy */
+    uint32_t past : 1;           /* the frame is of a lender that is gone */
+    uint32_t out : 1;            /* it has left the window */
+    uint32_t same : 1;    /* nobody has written to it since it was given back as zeros, or the lender of its frame is gone */
+    uint32_t seen : 1;    /* it counts among its part's `shareable` */
+    uint32_t moved : 1;   /* its memory was moved to its place, and so is in no mapping with what is beside it */
+    uint32_t begins : 1;  /* it is the first page of what was moved */
+    uint32_t looks : 2;   /* looks that found it the same, at most STILL. The first only glanced, unless it lies over a frame */
+    uint32_t asks : 2;    /* asked about in vain; or, if it isn't idle, changed again. At most ASKS_APART_MOST */
+    uint32_t belief : 5;  /* enum pageshare_window_belief */
+    uint32_t ordered : 1; /* an order was given, and nothing is known of it yet */
 };
-_Static_assert(sizeof(struct page) == 13, "a page takes 13 bytes of tables");
-_Static_assert(RESTS <= 8, "what is believed of a page takes 3 bits");
+_Static_assert(sizeof(struct page) == 12, "a page takes 12 bytes of tables");
+_Static_assert(PAGESHARE_WINDOW_PUTTING_BACK < 32, "a belief takes 5 bits");
 
 /* Whether a page shows its frame, as far as is known. */
-static inline bool is_lent(const struct page *page) { return page->rest == REST_SHOWN; }
+static inline bool is_lent(const struct page *page) {
+    return page->belief >= PAGESHARE_WINDOW_SHOWN && page->belief <= PAGESHARE_WINDOW_HOMING;
+}
 /* Whether the host counts a slot for it. */
-static inline bool has_slot(const struct page *page) { return page->rest >= REST_LOANED; }
+static inline bool has_slot(const struct page *page) {
+    return page->belief >= PAGESHARE_WINDOW_LOANED && page->belief <= PAGESHARE_WINDOW_UNRELEASED;
+}
+/* Whether writes to it may wait. */
+static inline bool is_held(const struct page *page) {
+    bool is_loan = page->belief >= PAGESHARE_WINDOW_HELD && page->belief <= PAGESHARE_WINDOW_LETTING_GO;
+    return is_loan || page->belief >= PAGESHARE_WINDOW_HELD_ZEROS;
+}
 /* Whether it shows a frame of a lender that is gone, as far as is known; or was given back as zeros, and has no memory since. */
 static inline bool shows_past(const struct page *page) { return page->over == 1 && page->same == 1; }
 static inline bool is_given_back(const struct page *page) { return page->over == 0 && page->same == 1; }
@@ -222,6 +217,17 @@ static inline void unlock_set(struct windows *windows) { pthread_mutex_unlock(&w
 
 /* Notes something that went wrong in a look; the first is what the look returns. */
 void note_failure(struct windows *windows, enum window_status status, int cause);
+
+/*
+ * The lowest bits of this are kept of a frame's number where it is mapped. They say only whether frames lie in a row, by which mappings are
+ * counted. Frames in a row have clues in a row, but at each multiple of CLUES. One pair of other frames in CLUES has such clues, too. A
+ * machine of the host may begin at each multiple of CLUES, so frames at the same place in two machines have clues far apart.
+ */
+static inline uint32_t clue_of(uint32_t frame) {
+    const uint32_t apart = 0x2c9277b5u;
+    return frame + frame / CLUES * apart;
+}
+static inline bool are_in_a_row(uint32_t clue, uint32_t next) { return (clue + 1) % CLUES == next % CLUES; }
 
 /* Whether one mapping of the system can hold a page and the one before it. */
 bool is_one_mapping(const struct window *window, size_t page);

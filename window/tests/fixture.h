@@ -4,6 +4,7 @@
 
 #include "../lender/domain_lender.h"
 #include "check.h"
+#include "looks.h"
 #include <sys/mman.h>
 #include <unistd.h>
 
@@ -29,7 +30,7 @@ static inline struct fixture fixture_make(const struct windows_config *config, u
 static inline void fixture_free(struct fixture *fixture) {
     struct pageshare_domain_totals totals;
     struct lender_counts counts;
-    must(windows_look(fixture->windows), "the last look");
+    must(look(fixture->windows), "the last look");
     lender_count(fixture->lender, &totals, &counts);
     check(totals.slots == 0 && totals.frames == 0, "no slot is left");
     windows_free(fixture->windows);
@@ -70,12 +71,12 @@ static inline uint32_t slots_of(const struct fixture *fixture) {
 
 /* Looks until so many pages are lent, at most 40 times. Returns how many are. */
 static inline size_t look_until(struct fixture *fixture, size_t lent) {
-    for (int i = 0; i < 40 && counts_of(fixture).lent != lent; i++) windows_look(fixture->windows);
+    for (int i = 0; i < 40 && counts_of(fixture).lent != lent; i++) look(fixture->windows);
     return counts_of(fixture).lent;
 }
 
 static inline void look_often(struct fixture *fixture, int looks) {
-    for (int i = 0; i < looks; i++) windows_look(fixture->windows);
+    for (int i = 0; i < looks; i++) look(fixture->windows);
 }
 
 static inline bool are_bytes(const uint8_t *at, int byte) {

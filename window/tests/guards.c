@@ -73,7 +73,7 @@ static void put_fails(void) {
     fill(at, PAGES, 1);
     planned = (struct planned){.puts = 3, .watches = change, .window = (uintptr_t)at, .window_end = (uintptr_t)at + PAGES * PAGE};
     struct window_result result = {0};
-    for (int i = 0; i < 20 && result.status != WINDOW_STUCK; i++) result = windows_look(fixture.windows);
+    for (int i = 0; i < 20 && result.status != WINDOW_STUCK; i++) result = look(fixture.windows);
     if (planned.puts == 3) {
         puts("left out: pages that can't be put back, since this system can't move pages");
     } else {
@@ -81,7 +81,7 @@ static void put_fails(void) {
         start(&write, at + 5 * PAGE);
         check(window_discard(window, 6, 1).status == WINDOW_OK || planned.puts == 0, "a discard tries to put them back");
         planned.watches = NULL;
-        for (int i = 0; i < 5; i++) result = windows_look(fixture.windows);
+        for (int i = 0; i < 5; i++) result = look(fixture.windows);
         check(is_done_in_time(&write), "a write goes on when they are put back");
         pthread_join(write.thread, NULL);
         check(at[5 * PAGE] == 200 && at[7 * PAGE] == 1 && at[7 * PAGE + 100] != 1, "no byte of them is lost");
@@ -100,7 +100,7 @@ static void release_fails(bool never_move) {
     fill(at, PAGES, 1);
     planned.releases = 1;
     struct window_result result = {0};
-    for (int i = 0; i < 20 && result.status != WINDOW_STUCK; i++) result = windows_look(fixture.windows);
+    for (int i = 0; i < 20 && result.status != WINDOW_STUCK; i++) result = look(fixture.windows);
     check(result.status == WINDOW_STUCK && result.cause == EINVAL, "the look reports so");
     check(look_until(&fixture, PAGES) == PAGES, "a later look ends it");
     must(window_free(window, WINDOW_TAKE_HOME), "window_free");
@@ -118,7 +118,7 @@ static void release_of_zeros_fails(bool never_move) {
     memset(at, 0, PAGES * PAGE);
     planned.releases = 1;
     struct window_result result = {0};
-    for (int i = 0; i < 20 && result.status != WINDOW_STUCK; i++) result = windows_look(fixture.windows);
+    for (int i = 0; i < 20 && result.status != WINDOW_STUCK; i++) result = look(fixture.windows);
     check(result.status == WINDOW_STUCK && result.cause == EINVAL, "the look reports so of zeros");
     start(&write, at + 5 * PAGE);
     look_often(&fixture, 1);
@@ -161,7 +161,7 @@ static void punch_fails(void) {
     fill(at, PAGES, PAGES / 2);
     check(look_until(&fixture, PAGES) == PAGES, "all pages are lent");
     must(window_discard(window, 0, PAGES), "window_discard");
-    must(windows_look(fixture.windows), "windows_look");
+    must(look(fixture.windows), "windows_look");
     planned.punches = 1;
     check(lender_trim(fixture.lender) == PAGES / 2, "a trim returns how many frames it could not give back");
     check(lender_trim(fixture.lender) == 0, "the next one gives them back");

@@ -184,7 +184,7 @@ static void mappings(void) {
     size_t counted = counts_of(&fixture).mappings, there = mappings_in(at, MANY);
     check(there > MANY / 2 && counted <= there + 2 && there <= counted + 2, "as many are counted as there are");
     must(window_discard(window, 0, MANY), "window_discard");
-    must(windows_look(fixture.windows), "windows_look");
+    must(look(fixture.windows), "windows_look");
     check(mappings_in(at, MANY) > MANY / 2, "moved memory stays a mapping of its own");
     must(window_free(window, WINDOW_DROP), "window_free");
     fixture_free(&fixture);

@@ -2,8 +2,7 @@
  * What becomes of pages, one matter after the other: see main. Prints "pages: ok" (status 0) or what isn't so (status 1).
  */
 #define _GNU_SOURCE
-#include "../bytes.h"
-#include "../kernel.h"
+#include "../set.h"
 #include "fixture.h"
 #include "ring.h"
 #include <errno.h>
@@ -32,7 +31,7 @@ static void lives(void) {
     for (size_t i = 0; i < PAGES; i++) check(are_bytes(at + i * PAGE, (int)(i % (PAGES / 2) + 1)), "a lent page reads as before");
     at[5 * PAGE] = 99;
     check(at[5 * PAGE] == 99 && at[(5 + PAGES / 2) * PAGE] == 6, "a write changes one page");
-    must(windows_look(fixture.windows), "windows_look");
+    must(look(fixture.windows), "windows_look");
     check(counts_of(&fixture).lent == PAGES - 1 && counts_of(&fixture).copied == 1, "the next look finds the copy");
     lender_count(fixture.lender, &totals, &counts);
     check(totals.slots == PAGES - 1, "and its slot is released");
@@ -258,7 +257,7 @@ static void locked(void) {
     if (!can_lock) {
         puts("left out: locked memory, which this user may not have, or the sanitizer");
     } else {
-        check(windows_look(fixture.windows).status == WINDOW_LOCKED, "the look says that memory is locked");
+        check(look(fixture.windows).status == WINDOW_LOCKED, "the look says that memory is locked");
         check(counts_of(&fixture).pause == WINDOWS_LOCKED && counts_of(&fixture).lent == 0, "nothing is lent any more");
         check(are_bytes(at + 3 * PAGE, 1), "and all is as it was");
         uint8_t *more = memory(1);
@@ -334,7 +333,7 @@ static void ends(void) {
     must(window_free(window[1], WINDOW_DROP), "window_free");
     check(own_pages(at[1], MANY) == 0, "a guest that ends takes no memory");
     check(are_bytes(at[1] + PAGE, 0), "its range is zeros");
-    must(windows_look(fixture.windows), "windows_look");
+    must(look(fixture.windows), "windows_look");
     check(counts_of(&fixture).lent == 2 * MANY && counts_of(&fixture).windows == 2, "the others' pages are lent still");
     struct window *anew = window_over(&fixture, at[1], MANY);
     for (uint32_t page = 0; page < MANY; page++) memcpy(at[1] + (size_t)page * PAGE, &(uint32_t){page + 1}, 4);
@@ -361,7 +360,7 @@ static void mappings(void) {
     check(counts.mappings <= MOST && found <= MOST, "there are no more mappings than there may be");
     check(counts.mappings <= found + 16 && found <= counts.mappings + 16, "as many are counted as the system has");
     must(window_discard(window, 0, MANY), "window_discard");
-    must(windows_look(fixture.windows), "windows_look");
+    must(look(fixture.windows), "windows_look");
     check(counts_of(&fixture).mappings == 1 && mappings_in(at, MANY) <= 2, "discarded pages are one mapping");
     must(window_free(window, WINDOW_DROP), "window_free");
     fixture_free(&fixture);
@@ -450,7 +449,7 @@ static void lenders(void) {
     lender_free(fixture.lender);
     check(are_bytes(at, 1) && are_bytes(at + PAGE, 2), "pages read as before when their lender is gone");
     at[0] = 9;
-    must(windows_look(fixture.windows), "windows_look");
+    must(look(fixture.windows), "windows_look");
     check(counts_of(&fixture).pause == WINDOWS_NO_LENDER, "the set says that it has none");
     const struct lender_config lending = {.slots = PAGES, .frames = PAGES, .recent = PAGES * 4, .hash = PAGESHARE_FOLD};
     check(lender_make(&fixture.lender, &lending).status == LENDER_OK, "another lender");
@@ -459,7 +458,7 @@ static void lenders(void) {
     must(windows_attach(fixture.windows, &silent), "windows_attach");
     check(look_until(&fixture, PAGES - 1) == PAGES - 1, "its frames take the place of the first one's");
     at[PAGE] = 9;
-    struct window_result result = windows_look(fixture.windows);
+    struct window_result result = look(fixture.windows);
     check(result.status == WINDOW_LENDER_FAILED && result.cause == ENOTCONN, "a lender that doesn't answer is reported");
     check(at[PAGE] == 9 && at[3 * PAGE] == 2, "and nothing is lost");
     windows_detach(fixture.windows);
@@ -543,12 +542,12 @@ static void odd_lenders(void) {
     windows_detach(fixture.windows);
     must(windows_attach(fixture.windows, &lender), "windows_attach");
     struct window_result result = {0};
-    for (int i = 0; i < 40 && result.status == WINDOW_OK; i++) result = windows_look(fixture.windows);
+    for (int i = 0; i < 40 && result.status == WINDOW_OK; i++) result = look(fixture.windows);
     check(result.status == WINDOW_LENDER_FAILED && result.cause == EPROTO, "slots that are none are reported");
     check(look_until(&fixture, PAGES) == PAGES && slots_of(&fixture) == PAGES, "their pages are lent later");
     memset(at, 9, PAGE);
     must(window_discard(window, 1, 1), "window_discard");
-    for (int i = 0; i < 4; i++) result = windows_look(fixture.windows);
+    for (int i = 0; i < 4; i++) result = look(fixture.windows);
     check(odd.refusals == 0 && slots_of(&fixture) == PAGES - 2, "slots whose release was refused are released later");
     must(window_free(window, WINDOW_DROP), "window_free");
     fixture_free(&fixture);
@@ -631,6 +630,59 @@ static void samples(void) {
     munmap(at, MANY * PAGE);
 }
 
+/* Whether the library has a slot released, or asks after one, before a page of this belief is private. */
+static bool releases(struct pageshare_window_page page) {
+    const struct pageshare_window_bars bars = {.ended = true};
+    for (;;) {
+        switch (pageshare_window_next(&page, &bars)) {
+        case PAGESHARE_WINDOW_WAIT: return false;
+        case PAGESHARE_WINDOW_RELEASE:
+        case PAGESHARE_WINDOW_FIND_SLOT: return true;
+        case PAGESHARE_WINDOW_FIND_LOAN: pageshare_window_refused(&page); break;
+        default: pageshare_window_done(&page);
+        }
+    }
+}
+
+/* Which pages are held, show a frame and have a slot is what the library says; and what is believed of a page is kept as it is. */
+static void beliefs(void) {
+    const struct pageshare_window_bars called = {.called = true}, left = {.left = true};
+    const struct pageshare_window_page none = {.belief = PAGESHARE_WINDOW_PRIVATE};
+    struct fixture fixture = fixture_make(&never_pinned, PAGES);
+    uint8_t *at = memory(PAGES);
+    struct window *window = window_over(&fixture, at, PAGES);
+    for (uint8_t belief = 0; belief <= PAGESHARE_WINDOW_PUTTING_BACK; belief++) {
+        const struct pageshare_window_page its = {.slot = 5, .frame = 7, .belief = belief, .ordered = belief % 2 == 0};
+        const struct page *page = &window->pages[0];
+        believe(window, 0, &its);
+        struct pageshare_window_page kept = believed(page);
+        check(kept.belief == belief && kept.ordered == its.ordered, "a belief is kept as it is");
+        check(kept.slot == (has_slot(page) ? 5 : 0) && kept.frame == (has_slot(page) ? 7 : 0), "a slot is kept with its frame");
+        kept.ordered = false;
+        check(is_held(page) == !pageshare_window_may_go_on(&kept, &called), "a page is held where writes to it may wait");
+        check((is_held(page) || is_lent(page)) == !pageshare_window_may_go_on(&kept, &left),
+              "a page is lent where it shows a frame");
+        check(has_slot(page) == releases(kept), "a page has a slot where one is to be released");
+    }
+    believe(window, 0, &none);
+    must(window_free(window, WINDOW_DROP), "window_free");
+    fixture_free(&fixture);
+    munmap(at, PAGES * PAGE);
+}
+
+/* Frames in a row have clues in a row. Those at about the same place of two machines have not. */
+static void clues(void) {
+    enum { FRAMES = 1 << 20, MACHINE = 1 << 18 };
+    size_t in_a_row = 0, apart = 0;
+    for (uint32_t frame = 0; frame < FRAMES; frame++) {
+        in_a_row += are_in_a_row(clue_of(frame), clue_of(frame + 1)) ? 1 : 0;
+        for (uint32_t place = 0; place < 8; place++)
+            apart += are_in_a_row(clue_of(frame), clue_of(frame + MACHINE + place)) ? 1 : 0;
+    }
+    check(in_a_row >= FRAMES - 2 * FRAMES / CLUES, "frames in a row have clues in a row");
+    check(apart == 0, "frames of two machines are in no row");
+}
+
 int main(void) {
     lives();
     zeros_and_singles();
@@ -644,6 +696,8 @@ int main(void) {
     huge(true);
     ends();
     mappings();
+    beliefs();
+    clues();
     second_userfaultfd();
     marks(false);
     marks(true);

@@ -17,7 +17,7 @@
 #define MADV_COLLAPSE 25 /* Linux 6.1 */
 #endif
 
-enum { PART = WINDOWS_HUGE_PAGES, PARTS = 6, PAGES = PARTS * PART, FROM = 64, BEFORE = 40, HUGE_KIB = 2048, FLIP_SECONDS = 6 };
+enum { PARTS = 6, PAGES = PARTS * PART, FROM = 64, BEFORE = 40, HUGE_KIB = 2048, FLIP_SECONDS = 6 };
 static const size_t part_bytes = (size_t)PART * PAGE;
 
 static const struct windows_config keeps_huge = {.pins = WINDOWS_PINS_NEVER, .tuning = {.huge_from = FROM}, .never_wait = true};
@@ -87,7 +87,7 @@ static bool looks_until_whole(struct fixture *fixture, uint64_t parts) {
     for (int i = 0; i < 200 && counts_of(fixture).made_whole < parts; i++) {
         const struct timespec rest = {.tv_nsec = 10000000};
         if (i > 3) nanosleep(&rest, NULL);
-        windows_look(fixture->windows);
+        look(fixture->windows);
     }
     return counts_of(fixture).made_whole == parts;
 }
@@ -310,7 +310,7 @@ static void refused(void) {
         if (way == 2) planned.releases = 1;
         if (way == 3) planned.reads = 1;
         if (way == 4) planned.huge = 1;
-        for (int i = 0; i < 100 && is_planned(); i++) windows_look(fixture.windows);
+        for (int i = 0; i < 100 && is_planned(); i++) look(fixture.windows);
         check(!is_planned(), "a call was refused");
         check((counts_of(&fixture).made_whole == 1) == (way == 2), "then the part stays split, but where all is done already");
         at[5 * PAGE + 9] = 'w', at[5 * PAGE + 9] = 1;
@@ -440,7 +440,7 @@ static void read_by_device(uint8_t *at, int disk, struct windows *windows, struc
     size_t page = draw(state, 2 * PART);
     windows_set_pins(windows, WINDOWS_PINS_POSSIBLE);
     if (ring_pin(&ring, at + page * PAGE, PAGE)) {
-        for (int i = 0; i < 5; i++) must(windows_look(windows), "windows_look");
+        for (int i = 0; i < 5; i++) must(look(windows), "windows_look");
         pthread_rwlock_wrlock(&discards);
         check(ring_read(&ring, disk, at + page * PAGE, PAGE), "a device reads");
         check(are_bytes(at + page * PAGE, 3), "what it reads is there");
@@ -474,7 +474,7 @@ static void flips(bool never_move, const char *trace) {
         if (i % 8 == 0) windows_tune(fixture.windows, &(struct windows_tuning){.huge_from = from[draw(&state, 4)]});
         if (i % 3 == 0) discard_some(window, writers, &state);
         if (i % 64 == 63) read_by_device(at, disk, fixture.windows, writers, &state);
-        struct window_result result = windows_look(fixture.windows);
+        struct window_result result = look(fixture.windows);
         check(result.status == WINDOW_OK, window_status_words(result.status));
         lender_trim(fixture.lender);
     }

@@ -12,6 +12,7 @@
 #include "../lender/domain_lender.h"
 #include "../window.h"
 #include "check.h"
+#include "looks.h"
 #include "ring.h"
 #include <errno.h>
 #include <inttypes.h>
@@ -54,12 +55,12 @@ static uint16_t huge_from;
 static int disk;
 static uint64_t device_reads, page_outs;
 
-static volatile uint64_t *word_of(const struct writer *writer, uint32_t page) {
+static volatile uint64_t *word_in(const struct writer *writer, uint32_t page) {
     return (volatile uint64_t *)(void *)(writer->guest->at + (size_t)page * WINDOW_PAGE_BYTES) + 64 * writer->number + 7;
 }
 
 static void check_word(struct writer *writer, uint32_t page) {
-    uint64_t found = guest_load(word_of(writer, page));
+    uint64_t found = guest_load(word_in(writer, page));
     if (found == writer->values[page]) return;
     if (writer->wrong++ == 0)
         fprintf(stderr, "guest %td, writer %u, page %" PRIu32 ": %" PRIu64 ", not %" PRIu64 "\n", writer->guest - guests,
@@ -82,7 +83,7 @@ static void write_some(struct writer *writer) {
         uint32_t page = choose(writer);
         check_word(writer, page);
         writer->values[page] = draw(&writer->state, VALUES);
-        guest_store(word_of(writer, page), writer->values[page]);
+        guest_store(word_in(writer, page), writer->values[page]);
         for (int j = 0; j < CHECKED; j++) check_word(writer, (uint32_t)draw(&writer->state, pages));
     }
     pthread_rwlock_unlock(&writer->guest->lock);
@@ -100,11 +101,11 @@ static void *write_words(void *opaque) {
     return NULL;
 }
 
-static void *look(void *opaque) {
+static void *looks(void *opaque) {
     const struct timespec rest = {.tv_nsec = 100000};
     (void)opaque;
     while (!atomic_load(&stop)) {
-        struct window_result result = windows_look(windows);
+        struct window_result result = look(windows);
         if (result.status != WINDOW_OK && atomic_fetch_add(&failures, 1) < 5)
             fprintf(stderr, "look: %s: %s\n", window_status_words(result.status), strerror(result.cause));
         lender_trim(lender);
@@ -267,7 +268,7 @@ static uint64_t end(void) {
            totals.frames, counts.mappings, atomic_load(&failures));
     check(counts.lends > 0 && counts.copied > 0, "pages were lent, and copied");
     for (unsigned i = 0; i < GUESTS; i++) must(window_free(guests[i].window, WINDOW_DROP), "window_free");
-    must(windows_look(windows), "the last look");
+    must(look(windows), "the last look");
     lender_count(lender, &totals, &lent);
     check(totals.slots == 0 && totals.frames == 0, "no slot is left");
     check(lender_trim(lender) == 0, "all frames are given back");
@@ -297,7 +298,7 @@ int main(int count, char **words) {
     state = seed * 77;
     make(&config);
     pthread_t looker;
-    check(pthread_create(&looker, NULL, look, NULL) == 0, "a thread that looks");
+    check(pthread_create(&looker, NULL, looks, NULL) == 0, "a thread that looks");
     for (unsigned i = 0; i < GUESTS * WRITERS; i++) {
         struct writer *writer = &writers[i / WRITERS][i % WRITERS];
         check(pthread_create(&writer->thread, NULL, write_words, writer) == 0, "a thread that writes");

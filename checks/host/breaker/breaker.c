@@ -34,7 +34,7 @@ static struct {
 } settings = {.seed = 1, .seconds = 10, .threads = 2, .pages = 1024, .folder = "/var/tmp"};
 
 static struct caller callers[CALLERS_MOST];
-static pthread_rwlock_t alone; /* whoever makes calls of one thread's pages reads it; of all threads' pages, writes */
+static pthread_rwlock_t alone; /* read by calls about the pages of one thread, written by those about the pages of all */
 static atomic_bool over;
 static atomic_long quiet_until_ms;
 
