@@ -312,7 +312,7 @@ class Day:
         self.shares()
 
     def step_refused(self) -> None:
-        """Whoever is root isn't taken, and is counted."""
+        """A client that is root isn't taken, and is counted."""
         before = self.shop.status()["turned_away_total"]
         code = "import socket, sys; it = socket.socket(socket.AF_UNIX, socket.SOCK_SEQPACKET); it.connect(sys.argv[1]); print(len(it.recv(9)))"
         ran = subprocess.run([sys.executable, "-c", code, f"/proc/{self.shop.leader}/root{WEB}"], capture_output=True, text=True)

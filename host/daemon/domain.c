@@ -17,14 +17,13 @@
 /*
  * How a domain's numbers follow from its memory. Lent pages are those that another page is equal to, so a frame is shared by some
  * slots. On average SLOTS_OF_FRAME of them can be lent before slots run out, unless an option says how much may be lent. Questions
- * concern pages that nobody else has: for every SLOTS_OF_QUESTIONS slots QUESTIONS are remembered.
+ * concern pages that nobody else has: one is remembered for each SLOTS_OF_QUESTION slots.
  */
 enum {
     MACHINE_MOST = 1048576, /* slots or frames of one machine */
     MACHINES_MOST = 64,
     SLOTS_OF_FRAME = 4,
-    QUESTIONS = 2,
-    SLOTS_OF_QUESTIONS = 5,
+    SLOTS_OF_QUESTION = 4,
     RECENT_MOST = 16777216, /* questions that a host may remember */
     EVENTS = 32,
     BACKLOG = 64
@@ -94,7 +93,7 @@ static struct pageshare_host_shape shape_of(const struct domain_settings *settin
     if (machines > MACHINES_MOST) machines = MACHINES_MOST;
     uint64_t of_one = (frames + machines - 1) / machines, slots_of_one = (slots + machines - 1) / machines;
     uint64_t quota = settings->client_memory ? settings->client_memory / PAGE : UINT32_MAX;
-    uint64_t recent = slots * QUESTIONS / SLOTS_OF_QUESTIONS;
+    uint64_t recent = slots / SLOTS_OF_QUESTION;
     return (struct pageshare_host_shape){.machines = (uint32_t)machines,
                                          .slots = (uint32_t)(slots_of_one < MACHINE_MOST ? slots_of_one : MACHINE_MOST),
                                          .frames = (uint32_t)(of_one < MACHINE_MOST ? of_one : MACHINE_MOST),
