@@ -621,7 +621,7 @@ impl Machine {
             verdicts.extend(answers.map(|answer| LendVerdict::of(self.noted(answer))));
         }
         for lending in singles {
-            // SAFETY: whoever made it promised so of its page.
+            // SAFETY: its maker promised so of its page.
             verdicts.push(unsafe { self.lend_at(lending.guest, lending.ppn, lending.page) });
         }
         verdicts
