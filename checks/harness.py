@@ -8,9 +8,9 @@
     sys.exit(tally.close())
 
 Each of these lines but the last two is a case. A case that fails is printed: its name, what was got, and what was due. `close` prints
-`N passed, M failed`, with `, K skipped` where parts were left out, and returns the status of the check, which is 0 where none failed and
-else 1. A part is a function that takes the tally; if it raises LeftOut, this computer can't do it, which is printed and counted as
-skipped. With NOTHING_LEFT_OUT=1 in the environment it counts as failed as well if Debian has a package for it that this computer lacks.
+that once more, as `failed: NAME: ..`, since a long output may lie between. It then prints `N passed, M failed`, with `, K skipped` where
+parts were left out, and returns the status of the check, which is 0 where none failed and else 1. A part is a function that takes the
+tally; if it raises LeftOut, this computer can't do it, which is printed and counted as skipped. With NOTHING_LEFT_OUT=1 in the environment it counts as failed as well if Debian has a package for it that this computer lacks.
 """
 from __future__ import annotations
 
@@ -40,6 +40,8 @@ Due = Union[str, re.Pattern[str], None]
 # Any text but the empty one.
 ANY = re.compile(".+", re.S)
 CLOSING = re.compile(r"(\d+) passed, (\d+) failed(?:, (\d+) skipped)?\n?")
+# How a check begins each line that names a failed case again at its end, and how many such lines there are at most.
+FAILED_CASE, NAMED_MOST = "failed: ", 20
 # The packages of Debian that have the programs which parts of checks need.
 PACKAGES = {
     "cc": "gcc", "c++": "g++", "gcc": "gcc", "g++": "g++", "clang": "clang", "clang++": "clang", "ar": "binutils", "nm": "binutils",
@@ -157,12 +159,14 @@ class Tally:
 
     def __init__(self) -> None:
         self.passed = self.failed = self.skipped = 0
+        self.wrong: list[str] = []
 
     def case(self, name: str, wrong: Iterable[str], count: int = 1) -> bool:
         """A case, or so many, with the list of what is wrong: nothing where it passed."""
         wrong = list(wrong)
         for what in wrong:
             print(f"{name}: {what}", flush=True)
+        self.wrong += [f"{name}: {what}" for what in wrong]
         self.passed += 0 if wrong else count
         self.failed += count if wrong else 0
         return not wrong
@@ -194,5 +198,7 @@ class Tally:
             self.case("nothing may be left out here", [f"there is a package {package}"])
 
     def close(self) -> int:
-        """Ends the check: prints the closing line, and returns the status."""
+        """Ends the check: prints what failed once more and the closing line, and returns the status."""
+        for what in self.wrong[:NAMED_MOST]:
+            print(f"{FAILED_CASE}{what}")
         return close(self.passed, self.failed, self.skipped or None)

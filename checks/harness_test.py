@@ -123,6 +123,18 @@ def closing_lines(plain: Plain) -> None:
         plain.same(f"the counts of {line!r}", counts_of(line), due)
 
 
+def named_again(plain: Plain) -> None:
+    """What failed is named again before the closing line, but not without end; what passed isn't."""
+    cases: list[tuple[list[str], str]] = [([], ""), (["one", "two"], "failed: it: one\nfailed: it: two\n"), (["no"] * 21, "failed: it: no\n" * 20)]
+    for wrong, due in cases:
+        tally, printed = Tally(), io.StringIO()
+        with contextlib.redirect_stdout(io.StringIO()):
+            tally.case("it", wrong)
+        with contextlib.redirect_stdout(printed):
+            status = tally.close()
+        plain.same(f"{len(wrong)} wrong", (status, printed.getvalue()), (int(bool(wrong)), f"{due}{int(not wrong)} passed, {int(bool(wrong))} failed\n"))
+
+
 def tallied(is_whole: bool, package: str | None) -> tuple[int, int, int]:
     """What a tally counts of a part that lacks a package, where nothing may be left out and where anything may."""
     def part(_of: Tally) -> None:
@@ -219,7 +231,7 @@ def notes(plain: Plain) -> None:
 def main() -> int:
     argparse.ArgumentParser(description=__doc__.splitlines()[0]).parse_args()
     plain = Plain()
-    for part in (right_ones, wrong_ones, closing_lines, left_out, readable, folders, notes):
+    for part in (right_ones, wrong_ones, closing_lines, named_again, left_out, readable, folders, notes):
         part(plain)
     print(f"{plain.passed} passed, {plain.failed} failed")
     return 1 if plain.failed else 0

@@ -10,8 +10,8 @@
     tools/gate.py                  the ten dearest steps of all three, and the sums by kind
 
 A command runs all its steps even where one fails, and exits with status 1 where any does. On a terminal it redraws one line that
-shows how far it is; elsewhere it prints a line for each crate. What failed is printed at the end, each with the command that
-repeats it alone. The last line is 'N passed, M failed'. All that the steps print is kept in out/gate-test.log, out/gate-edits.log or
+shows how far it is; elsewhere it prints a line for each crate. Below a step's line it prints each case that failed in it. What
+failed is printed at the end, too, each with the command that repeats it alone. The last line is 'N passed, M failed'. All that the steps print is kept in out/gate-test.log, out/gate-edits.log or
 out/gate-check.log.
 
 `check` leaves out what the computer lacks, and `test` the step that needs a C compiler. They name that before the last line, which is
@@ -48,7 +48,7 @@ import checks_path  # noqa: F401
 from common import proved
 from common.kit import load_kit
 from common.lanes import lanes
-from harness import TOP, close, counts_of
+from harness import FAILED_CASE, TOP, close, counts_of
 
 TABLE = TOP / "out/gate.tsv"
 HEAD = ["command", "kind", "name", "start", "wall", "processor", "passed", "failed", "skipped"]
@@ -169,6 +169,7 @@ class Progress:
         self.sections: dict[str, list[str]] = {}
         self.last: list[str] = []
         self.wrong: list[str] = []
+        self.cases: list[str] = []
         self.left_out: list[str] = []
 
     def hear(self, line: str) -> None:
@@ -182,6 +183,8 @@ class Progress:
                 self.show(f"{found[1]}{what} {'kept from an earlier run' if 'is kept' in line else 'proved'}")
         if line.startswith("left out: "):
             self.left_out.append(f"{self.name}: {line}")
+        if line.startswith(FAILED_CASE):
+            self.cases.append(line)
         if self.is_drawn and self.name not in COUNTED:
             self.show(line)
         if TRIED.match(line):
@@ -305,7 +308,7 @@ def run_command(command: str, is_anew: bool) -> int:
             left_out += heard.left_out
             wall, used = time.time() - start, used_so_far() - before
             rows.append([command, "step", work.name, f"{start - begun:.0f}", f"{wall:.0f}", f"{used:.0f}", *map(str, counts)])
-            print(f"{work.name}: {counts[0]} passed and {counts[1]} failed in {wall:.0f} s", flush=True)
+            print(f"{work.name}: {counts[0]} passed and {counts[1]} failed in {wall:.0f} s", *heard.cases, sep="\n", flush=True)
             # (once a step has ended no prover runs, so nothing is put into the steps meanwhile)
             write_table(command, begun, rows, watch.steps)
     watch.is_over.set()
