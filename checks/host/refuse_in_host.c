@@ -1,6 +1,7 @@
 /*
  * Preloaded into the host by checks/host.py: some calls of one or two functions of the system fail. REFUSE names the function, the first
- * call that fails, how many do, and the errno, as in REFUSE=fallocate,3,1,12 or REFUSE=setsockopt,1,99,92:recvmsg,3,1,12.
+ * call that fails, how many do, and the errno, as in REFUSE=fallocate,3,1,12 or REFUSE=setsockopt,1,99,92:recvmsg,3,1,12. With a negative
+ * number in the errno's place these calls don't fail, and take so many milliseconds longer.
  */
 #define _GNU_SOURCE
 #include <dlfcn.h>
@@ -14,6 +15,7 @@
 #include <string.h>
 #include <sys/socket.h>
 #include <sys/types.h>
+#include <unistd.h>
 
 struct epoll_event;
 struct pollfd;
@@ -43,7 +45,9 @@ static int refused(const char *function) {
         struct refusal *it = &refusals[i];
         if (strcmp(function, it->name) != 0) continue;
         long call = atomic_fetch_add(&it->calls, 1) + 1;
-        if (call >= it->first && call < it->first + it->count) return it->cause;
+        bool is_meant = call >= it->first && call < it->first + it->count;
+        if (is_meant && it->cause >= 0) return it->cause;
+        if (is_meant) usleep((useconds_t)-it->cause * 1000);
     }
     return 0;
 }

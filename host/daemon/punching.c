@@ -3,7 +3,6 @@
 #include "slices.h"
 #include "trouble.h"
 #include <fcntl.h>
-#include <limits.h>
 #include <poll.h>
 #include <stdlib.h>
 #include <sys/eventfd.h>
@@ -14,6 +13,7 @@ enum {
     RUN_MOST = 2048,       /* frames in one call of the system */
     PART = 20,             /* one part in so many of the time */
     IDLE_MS = 100,         /* between two looks at what is listed */
+    PAUSE_MOST_MS = 1000,  /* also after a call that took long, as one may while a process ends that has many frames mapped */
     SPARE_MOST = 1024,     /* free frames that may keep memory that clients' reads gave them: 4 MiB */
     LOOKED_AT_MOST = 16384 /* frames that are looked at for such memory in one turn */
 };
@@ -121,7 +121,7 @@ static int do_turn(struct punching *punching) {
     uint64_t pause_ms = (now_ns() - begin) * (PART - 1) / 1000000 + 1;
     bool is_done = !is_spare && atomic_load(&punching->frames->waiting) == 0;
     if (is_done && pause_ms < IDLE_MS) return IDLE_MS;
-    return pause_ms < INT_MAX ? (int)pause_ms : INT_MAX;
+    return pause_ms < PAUSE_MOST_MS ? (int)pause_ms : PAUSE_MOST_MS;
 }
 
 static void *give_back(void *of) {

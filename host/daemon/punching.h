@@ -2,7 +2,8 @@
  * The memory of free frames goes back to the system. A thread of its own gives it back, since a client that maps the file of frames
  * many times makes each such call take long.
  *
- * - Frames that became free are listed (frames_freed) and given back in runs, within a twentieth of the time, by the clock.
+ * - Frames that became free are listed (frames_freed) and given back in runs, within a twentieth of the time, by the clock. But
+ *   no pause is longer than a second.
  * - Free frames get memory when a client reads them. They are looked for when the file has more memory than frames that are in use or
  *   listed, some at a time.
  */
