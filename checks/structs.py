@@ -19,7 +19,7 @@ from harness import TOP, Tally
 HEADERS = ["lib/include/pageshare.h", "lib/include/pageshare_host.h", "window/pageshare_window.h"]
 FOLDERS = {
     "crates/c_surface/src": "rt", "crates/pageshare_c/src": "rt", "crates/pageshare_host_c/src": "rt", "crates/pageshare_window_c/src": "rt",
-    "lib/rust/src": "rs",
+    "crates/offered_ranges/src": "rt", "lib/rust/src": "rs",
 }
 # The statuses of the proved libraries, and what a header writes before a name. FAULT_ANSWER is a fault that no packet of a client has.
 STATUSES = "crates/c_surface/src/status.rt"
@@ -34,6 +34,7 @@ STRUCTS = {
     "ServedPacket": "pageshare_host_served", "PacketHead": "pageshare_host_packet", "WindowBudget": "pageshare_window_budget",
     "WindowPage": "pageshare_window_page", "WindowBars": "pageshare_window_bars", "WindowPart": "pageshare_window_part",
     "WindowPartConfig": "pageshare_window_part_config", "WindowPartLook": "pageshare_window_part_look",
+    "OfferedRange": "pageshare_window_range", "Piece": "pageshare_window_piece",
 }
 # A handle has a pointer and a flag; what is in it is private, and so are its names.
 HANDLES = {"Machine", "Slot", "DomainHandle", "DomainSlot", "HostHandle", "HostSlot", "Handle"}

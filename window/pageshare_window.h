@@ -1,7 +1,7 @@
 /*
  * What the thread that lends a monitor's pages decides, in C11 or C++11: the functions of libpageshare_window.a. They decide what is done
- * next with a page, how many mappings may be made, and how much processor time the thread may use. They are proved, make no system call and
- * allocate nothing.
+ * next with a page, which pages a call of the monitor is about, how many mappings may be made, and how much processor time the thread may
+ * use. They are proved, make no system call and allocate nothing.
  *
  * Pages:
  *
@@ -16,12 +16,21 @@
  *     pageshare_window_begin(&budget, 2, 25, now, used);            2 percent of one processor, 25 while there is a credit
  *     uint64_t wait = pageshare_window_settle(&budget, now, used);  how long the thread sleeps before it asks again; 0: it may work
  *
+ * Ranges, of which the table of zeros has none:
+ *
+ *     static struct pageshare_window_range ranges[256];
+ *     size_t count = 0;
+ *     pageshare_window_add_range(ranges, 256, &count, begin, end, now);
+ *     while (pageshare_window_next_piece(ranges, count, at, end, &piece))
+ *         at = piece.end;                                           the pieces between two pages, one after another
+ *
  * Over any stretch of calls the thread uses at most a sum of these: its share of the time that passed, what was saved before, the credit,
  * what it may owe, and the work of one call. That holds if it works only after pageshare_window_settle has returned 0.
  *
  * The caller ensures:
- * - Pointers are valid, not null, and point to a page or a budget that no other thread uses during the call.
- * - Budgets and pages are written by these calls alone, but for a page that is set to zeros.
+ * - Pointers are valid, not null, and point to a page, a budget or a table that no other thread uses during the call.
+ * - Budgets, pages and ranges are written by these calls alone, but for a page that is set to zeros, and for what the caller writes of a
+ *   range: `window`, `base` and `said`.
  * - Of an order it carries out what the order says and nothing else, and what it says came of it is true.
  * - Before a call of the monitor goes on that changes a page, it passes what keeps the page from being lent.
  */
@@ -29,6 +38,7 @@
 #define PAGESHARE_WINDOW_LIBRARY_H
 
 #include <stdbool.h>
+#include <stddef.h>
 #include <stdint.h>
 
 #ifdef __cplusplus
@@ -61,6 +71,50 @@ uint64_t pageshare_window_settle(struct pageshare_window_budget *budget, uint64_
 
 /* How many mappings windows may take in all, of so many that the system lets the process have: a tenth, and at least 4,000, are left. */
 uint64_t pageshare_window_mappings_most(uint64_t limit);
+/* Whether they may take `count` mappings more, where they have taken `taken` of `most`. None more always may be taken. */
+bool pageshare_window_has_mappings(uint64_t most, uint64_t taken, uint64_t count);
+
+/*
+ * A range that was offered, or a part of it that is left. A page has the number of its address: the address divided by the size of a page.
+ * A table of ranges is an array, of which the first places are used. The caller writes `window`, `base` and `said` of a range itself.
+ */
+struct pageshare_window_range {
+    uint64_t begin;  /* its first page */
+    uint64_t end;    /* the page behind its last one */
+    uint64_t window; /* the window that it is, or is a part of; 0: it isn't one yet */
+    uint64_t base;   /* the first page of that window */
+    uint64_t said;   /* when something was said of it last, in ns */
+};
+
+/* The pages of a range that lie between two pages. */
+struct pageshare_window_piece {
+    size_t place;    /* of the range in the table */
+    uint64_t begin;  /* its first page */
+    uint64_t end;    /* the page behind its last one */
+    uint64_t window; /* that of the range */
+    uint64_t first;  /* the number of its first page in that window */
+};
+
+/*
+ * Finds the first piece of `count` ranges that lies between two pages: of `begin` and what comes after it, but of neither `end` nor what
+ * comes after that. Returns false if there is none.
+ */
+bool pageshare_window_next_piece(const struct pageshare_window_range *ranges, size_t count, uint64_t begin, uint64_t end,
+                                 struct pageshare_window_piece *piece);
+/* Whether a range is left of a window. */
+bool pageshare_window_is_part_left(const struct pageshare_window_range *ranges, size_t count, uint64_t window);
+/*
+ * Adds a range that isn't a window yet to a table of `most` places, of which `*count` are used. Returns false, and changes nothing, if the
+ * range is empty, if one of its pages is in another range, or if no place is free.
+ */
+bool pageshare_window_add_range(struct pageshare_window_range *ranges, size_t most, size_t *count, uint64_t begin, uint64_t end,
+                                uint64_t said);
+/*
+ * Takes pages out of the range at a place. What is left of it, one part or two, goes to the end of the table. Returns false, and changes
+ * nothing, if these pages aren't a piece of that range, or if no place is free for a second part.
+ */
+bool pageshare_window_take_out(struct pageshare_window_range *ranges, size_t most, size_t *count, size_t place, uint64_t begin,
+                               uint64_t end);
 
 /* What is believed of a page. A slot is the host's name for a loan; a frame has a number in the host's file. */
 enum pageshare_window_belief {

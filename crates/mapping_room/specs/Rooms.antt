@@ -15,9 +15,13 @@ spare_of limit = max (limit / SPARE_PART) SPARE_LEAST
 abbrev pub most_of : ℕ → ℕ
 most_of limit = limit - spare_of limit
 
+-- so many more fit below a most: none more always do
+abbrev pub fits : ℕ → ℕ → ℕ → Bool
+fits most taken count = nat_eq count 0 || nat_le (taken + count) most
+
 -- so many more may be made
 abbrev pub has_room : Room → ℕ → Bool
-has_room r count = nat_eq count 0 || nat_le (r.taken + count) (most_of r.limit)
+has_room r count = fits (most_of r.limit) r.taken count
 
 abbrev pub empty : ℕ → Room
 empty limit = record { limit = limit; taken = 0 }

@@ -1,6 +1,6 @@
 //! Whether another mapping may be made.
 ghost use Rattle.std.specs.Prelude.{◌≡◌, ◌+◌, ◌<◌, ◌^◌, true};
-ghost use Rattle.mapping_room.specs.Rooms.{most_of, has_room, empty, followed, taken_by, given_back};
+ghost use Rattle.mapping_room.specs.Rooms.{most_of, fits, has_room, empty, followed, taken_by, given_back};
 
 use std::marker::Model;
 
@@ -15,6 +15,14 @@ pub const SPARE_LEAST: u64 = 4_000;
 pub struct MappingRoom {
     limit: u64,
     taken: u64,
+}
+
+/// Returns whether so many mappings more may be made, where so many are taken and there may be so many at most. None more always may.
+pub fn fits(most: u64, taken: u64, count: u64) -> bool
+    ensures fits { result ≡ fits most taken count }
+    ensures sum { result ≡ true → taken + count < 2 ^ 64 }
+{
+    count == 0 || (taken <= most && count <= most - taken)
 }
 
 impl Model for MappingRoom {
@@ -62,9 +70,7 @@ impl MappingRoom {
         ensures room { result ≡ has_room self.now count }
         ensures fits { result ≡ true → self.now.taken + count < 2 ^ 64 }
     {
-        let most = self.most();
-        let taken = self.taken();
-        count == 0 || (taken <= most && count <= most - taken)
+        fits(self.most(), self.taken(), count)
     }
 
     /// Takes so many mappings more if they may be made, and returns whether it did.

@@ -1,13 +1,16 @@
-//! What the thread that lends a monitor's pages decides, for the C that makes its system calls: what is done next with a page, how many
-//! mappings may be made, and how much processor time it may use.
+//! What the thread that lends a monitor's pages decides, for the C that makes its system calls: what is done next with a page, which pages
+//! a call of the monitor is about, how many mappings may be made, and how much processor time it may use.
 //!
-//! C keeps the numbers of a budget and of each page, and passes their address to each call. No call has a condition on its arguments
+//! C keeps the numbers of a budget, of each page and of each range, and passes their address to each call. No call has a condition on its arguments
 //! except that its references are valid. `window/pageshare_window.h` declares the same functions in C, and says what the caller owes.
 #![tactic(auto)]
 
-ghost use Rattle.std.specs.Prelude.{◌≡◌, not, true, false};
+ghost use Rattle.std.specs.Prelude.{◌≡◌, if◌then◌else◌, length, not, slice_get, true, false};
+ghost use Rattle.std.specs.List.{list_any};
 ghost use Rattle.work_budget.specs.Budgets.{begun, credited, paced, settled, wait_of};
-ghost use Rattle.mapping_room.specs.Rooms.{has_room, most_of};
+ghost use Rattle.mapping_room.specs.Rooms.{fits, most_of};
+ghost use Rattle.offered_ranges.specs.Pieces.{IsFirst, meets};
+ghost use Rattle.offered_ranges.specs.Tables.{added, can_add, can_take_out, is_of, ranges_of, taken_out};
 ghost use Rattle.page_lender.specs.Decisions.{is_busy, may_go_on, must_own};
 ghost use Rattle.page_lender.specs.Events.{IsFree, ShowsNone};
 ghost use Rattle.page_lender.specs.declared.order.Notice.TheVariants as Notice;
@@ -26,7 +29,9 @@ mod part;
 pub use budget::{CREDIT_NS, OWED_NS, SAVED_NS, WindowBudget};
 use budget::{budget_of, config_by, put};
 pub use laws::limits_law;
-use mapping_room::MappingRoom;
+use mapping_room::{MappingRoom, fits};
+use offered_ranges::{add, is_part_left, next as next_piece, take_out};
+pub use offered_ranges::{OfferedRange, Piece};
 use page::{choose, hear, may_go_on, next, number_of, take, take_back};
 pub use page::{WindowBars, WindowPage};
 use page_lender::{Notice, Outcome};
@@ -87,6 +92,77 @@ pub extern "C" fn pageshare_window_mappings_most(limit: u64) -> u64
     ensures { result ≡ most_of limit }
 {
     MappingRoom::new(limit).most()
+}
+
+/// Returns whether windows may take so many mappings more, where they have taken so many, and may take so many in all. None more always
+/// may be taken.
+#[unsafe(no_mangle)]
+pub extern "C" fn pageshare_window_has_mappings(most: u64, taken: u64, count: u64) -> bool
+    ensures { result ≡ fits most taken count }
+{
+    fits(most, taken, count)
+}
+
+/// Finds the first piece of ranges that lies between two pages: of `begin` and what comes after it, but of neither `end` nor what comes
+/// after that. Returns whether there is one, and else leaves `piece` as it is.
+#[unsafe(no_mangle)]
+pub extern "C" fn pageshare_window_next_piece(
+    ranges: &[OfferedRange],
+    begin: u64,
+    end: u64,
+    piece: &mut Piece,
+) -> bool
+    ensures found { result ≡ list_any (meets begin end) ranges.now }
+    ensures first { result ≡ true → IsFirst begin end ranges.now piece.new }
+    ensures same { result ≡ false → piece.new ≡ piece.old }
+{
+    match next_piece(ranges, begin, end) {
+        None => false,
+        Some(found) => {
+            *piece = found;
+            true
+        }
+    }
+}
+
+/// Returns whether a range is left of a window.
+#[unsafe(no_mangle)]
+pub extern "C" fn pageshare_window_is_part_left(ranges: &[OfferedRange], window: u64) -> bool
+    ensures { result ≡ list_any (is_of window) ranges.now }
+{
+    is_part_left(ranges, window)
+}
+
+/// Adds a range that isn't a window yet to a table of which `count` places are used. Returns whether it did: not if the range is empty,
+/// if one of its pages is in another range, or if no place is free.
+#[unsafe(no_mangle)]
+pub extern "C" fn pageshare_window_add_range(
+    ranges: &mut [OfferedRange],
+    count: &mut usize,
+    begin: u64,
+    end: u64,
+    said: u64,
+) -> bool
+    ensures added { result ≡ can_add (length ranges.old) count.old (ranges_of count.old ranges.old) begin end }
+    ensures ranges { ranges_of count.new ranges.new ≡ if result then added (ranges_of count.old ranges.old) begin end said else ranges_of count.old ranges.old }
+{
+    add(ranges, count, begin, end, said)
+}
+
+/// Takes pages out of the range at a place. What is left of that range, one part or two, goes to the end of the table. Returns whether
+/// it did: not if these pages aren't a piece of that range, or if no place is free for a second part.
+#[unsafe(no_mangle)]
+pub extern "C" fn pageshare_window_take_out(
+    ranges: &mut [OfferedRange],
+    count: &mut usize,
+    place: usize,
+    begin: u64,
+    end: u64,
+) -> bool
+    ensures taken { result ≡ can_take_out (length ranges.old) count.old begin end (slice_get (ranges_of count.old ranges.old) place) }
+    ensures ranges { ranges_of count.new ranges.new ≡ if result then taken_out place begin end (slice_get (ranges_of count.old ranges.old) place) (ranges_of count.old ranges.old) else ranges_of count.old ranges.old }
+{
+    take_out(ranges, count, place, begin, end)
 }
 
 /// Chooses a page to be lent, or its memory to be given back if it is zeros. Returns whether it can be: it is private, and nothing keeps

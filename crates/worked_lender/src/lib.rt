@@ -1,6 +1,7 @@
 //! Traces of windows, lenders of one page and of a window beside the protocol of windows, the budget of their thread, its looks and
-//! their order, and the mappings that windows take. It is by the public calls of `page_lender`, `window_lender`, `window_events`,
-//! `work_budget`, `idle_pages`, `look_order`, `look_steps` and `mapping_room`. This crate has only tests.
+//! their order, the mappings that windows take, and the ranges that become windows. It is by the public calls of `page_lender`,
+//! `window_lender`, `window_events`, `work_budget`, `idle_pages`, `look_order`, `look_steps`, `mapping_room` and `offered_ranges`. This
+//! crate has only tests.
 #![tactic(auto)]
 
 #[cfg(test)]
@@ -21,6 +22,8 @@ mod numbers;
 mod orders;
 #[cfg(test)]
 mod parts;
+#[cfg(test)]
+mod ranges;
 #[cfg(test)]
 mod rooms;
 #[cfg(test)]

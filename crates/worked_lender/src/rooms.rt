@@ -1,6 +1,6 @@
 //! Mappings that windows take, worked out by hand.
 use crate::checks::{equal, holds};
-use mapping_room::MappingRoom;
+use mapping_room::{MappingRoom, fits};
 
 /// The system's usual limit.
 const USUAL: u64 = 65_530;
@@ -34,4 +34,12 @@ fn mappings_are_taken_and_given_back(rt: HostRuntime) {
     holds(&rt, room.has_room(23));
     room.give_back(u64::MAX);
     equal(&rt, room.taken(), 0);
+}
+
+#[test]
+fn mappings_fit_below_a_most(rt: HostRuntime) {
+    holds(&rt, fits(100, 60, 40));
+    holds(&rt, !fits(100, 60, 41));
+    holds(&rt, fits(100, 101, 0));
+    holds(&rt, !fits(u64::MAX, u64::MAX, 1));
 }
