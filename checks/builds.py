@@ -27,12 +27,13 @@ from harness import OUT, TOP, LeftOut, Tally, needs, run
 BUILT = OUT / "builds"
 MADE = ["libpageshare.a", "v3/libpageshare.a", "libpageshare_host.a", "libpageshare_window.a", "host/pageshare-host", "host/libpageshare-window.so"]
 STRICT = "-std=c11 -O2 -g -Wall -Wextra -Wconversion -Werror -pthread -Ilib/include".split()
+PRELOAD = ["-Iwindow", "-Ihost", "-Ihost/preload"]
 POSIX = ["-D_POSIX_C_SOURCE=200809L"]
 FREESTANDING = "-ffreestanding -fno-pic -fno-stack-protector -fcf-protection=none -mgeneral-regs-only -mno-red-zone".split()
 # How the C files of each folder, or a file, are compiled: the longest path that a file's begins with counts.
 FLAGS: dict[str, list[str]] = {
     "benches/": [], "checks/embed/": POSIX, "checks/host/": [], "checks/host/descriptors.c": ["-Ihost"],
-    "checks/host/paced.c": ["-Iwindow", "-Ihost", "-Ihost/preload"], "checks/host/remote.c": ["-Iwindow", "-Ihost", "-Ihost/preload"],
+    "checks/host/paced.c": PRELOAD, "checks/host/ranges.c": PRELOAD, "checks/host/remote.c": PRELOAD,
     "examples/": POSIX, "host/": ["-Iwindow", "-Ihost"],
     "lib/src/": ["-DPAGESHARE_BUILT_LEVEL=2", "-fPIC"], "monitor/": [], "monitor/guest.c": FREESTANDING, "monitor/standin.c": FREESTANDING,
     "packaging/": ['-DPAGESHARE_COMMIT="a commit"', '-DPAGESHARE_KIT="a kit"'], "window/": [],

@@ -67,6 +67,11 @@ bool may_give_up(const struct window *window, size_t first, size_t count) {
     return true;
 }
 
+bool is_barred(const struct pageshare_window_bars *bars) {
+    struct pageshare_window_page page = {.belief = PAGESHARE_WINDOW_PRIVATE};
+    return !pageshare_window_choose(&page, bars, false);
+}
+
 bool is_free(const struct window *window, size_t number) {
     struct pageshare_window_page page = believed(&window->pages[number]);
     const struct pageshare_window_bars bars = bars_of(window, number);

@@ -3,7 +3,6 @@
 #include "bytes.h"
 #include "set.h"
 #include <errno.h>
-#include <stdlib.h>
 #include <string.h>
 #include <sys/mman.h>
 
@@ -328,7 +327,7 @@ static struct window_result pin_part(struct window *window, size_t first, size_t
 static enum window_status change_pins(struct window *window, size_t first, size_t count, bool more) {
     enum window_status status = WINDOW_OK;
     lock_set(window->windows);
-    if (window->pins == NULL) window->pins = calloc(window->count, sizeof *window->pins);
+    if (window->pins == NULL) window->pins = table_make(window->count, sizeof *window->pins);
     if (window->pins == NULL) status = WINDOW_NO_MEMORY;
     for (size_t page = first; page < first + count && status == WINDOW_OK; page++) {
         if (more && window->pins[page] == PINS_MOST) status = WINDOW_TOO_MANY_PINS;

@@ -247,6 +247,16 @@ bool pagemap_is_own(const struct pagemap *pagemap, const void *at) {
     return read_entries(pagemap->fd, at, 1, &entry) == 0 && kind_of(entry) != PAGE_NONE;
 }
 
+void *table_make(size_t count, size_t bytes_each) {
+    if (count == 0 || count > SIZE_MAX / bytes_each) return NULL;
+    void *at = mmap(NULL, count * bytes_each, PROT_READ | PROT_WRITE, MAP_PRIVATE | MAP_ANONYMOUS, NO_FILE, 0);
+    return at == MAP_FAILED ? NULL : at;
+}
+
+void table_free(void *table, size_t count, size_t bytes_each) {
+    if (table != NULL) munmap(table, count * bytes_each);
+}
+
 int mapping_copy(void *at, const void *from, size_t pages) {
     const int how = MREMAP_MAYMOVE | MREMAP_FIXED | MREMAP_DONTUNMAP;
     return mremap((void *)(uintptr_t)from, bytes_of(pages), bytes_of(pages), how, at) == MAP_FAILED ? errno : 0;

@@ -117,6 +117,14 @@ bool locked_any(bool (*is_it)(void *opaque, const uint8_t *begin, const uint8_t 
  */
 int mapping_copy(void *at, const void *from, size_t pages);
 
+/*
+ * Memory of zeros for a table, in a mapping of its own: the process's malloc may be busy, or another's. NULL if there is none. Its pages take
+ * memory as they are written.
+ */
+void *table_make(size_t count, size_t bytes_each);
+/* `table` may be NULL. */
+void table_free(void *table, size_t count, size_t bytes_each);
+
 /* KiB of this process that are locked. */
 size_t locked_kib(void);
 /* KiB of this process that the kernel's KSM has merged, rounded up; 0 if the system doesn't show them. */

@@ -399,7 +399,7 @@ static size_t mappings_added(const struct window *window, size_t page) {
 static bool has_mappings(struct window *window, size_t number, size_t *more) {
     struct windows *windows = window->windows;
     size_t added = mappings_added(window, number);
-    if (added > 0 && windows->counts.mappings + *more + added > windows->mappings_most) {
+    if (!pageshare_window_has_mappings(windows->mappings_most, windows->counts.mappings + *more, added)) {
         note_crowded(windows, 1);
         window->pages[number].asks = ASKS_APART_MOST;
         return false;

@@ -202,11 +202,11 @@ static struct pageshare_window_part_look found_of(const struct window *window, s
 /* Finds out whether that is so. */
 static void find_facts(const struct window *window, size_t first, struct pageshare_window_part_look *look) {
     const struct windows *windows = window->windows;
-    look->has_mappings = windows->counts.mappings + PART <= windows->mappings_most;
+    look->has_mappings = pageshare_window_has_mappings(windows->mappings_most, windows->counts.mappings, PART);
+    look->is_loose = may_give_up(window, first, PART);
     for (size_t page = first; page < first + PART; page++) {
         const struct pageshare_window_bars bars = bars_of(window, page);
-        if (is_held(&window->pages[page])) look->is_loose = false;
-        if (bars.pinned || bars.inherited || bars.locked || bars.left || bars.ended) look->is_movable = false;
+        if (is_barred(&bars)) look->is_movable = false;
     }
     look->is_movable = look->is_movable && look->is_loose;
 }

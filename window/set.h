@@ -256,6 +256,8 @@ struct pageshare_window_bars bars_of(const struct window *window, size_t page);
 struct pageshare_window_bars bars_with(const struct window *window, size_t page, struct pageshare_window_bars why);
 /* Notes what is believed of a page from now on. */
 void believe(struct window *window, size_t page, const struct pageshare_window_page *believed);
+/* Whether something keeps a page from being lent, whatever is believed of it. */
+bool is_barred(const struct pageshare_window_bars *bars);
 /* Whether a page could be lent, or given back, if its part were split. */
 bool is_free(const struct window *window, size_t page);
 /* The next order of a page. What is believed changes with it, and isn't noted yet. */

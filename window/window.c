@@ -2,14 +2,13 @@
 #define _GNU_SOURCE
 #include "set.h"
 #include <errno.h>
-#include <stdlib.h>
 #include <sys/mman.h>
 
 void free_window(struct window *window) {
-    free(window->pages);
-    free(window->parts);
-    free(window->pins);
-    free(window);
+    table_free(window->pages, window->count, sizeof *window->pages);
+    table_free(window->parts, parts_in(window), sizeof *window->parts);
+    table_free(window->pins, window->count, sizeof *window->pins);
+    table_free(window, 1, sizeof *window);
 }
 
 /* The first numbers that no window has, for `count` pages. Returns false if there are none. With the lock. */
@@ -48,11 +47,11 @@ static struct window_result read_range(void *at, size_t bytes, struct range_fact
 }
 
 static struct window *make_tables(struct windows *windows, void *at, size_t pages) {
-    struct window *window = calloc(1, sizeof *window);
+    struct window *window = table_make(1, sizeof *window);
     if (window == NULL) return NULL;
     *window = (struct window){.windows = windows, .at = at, .count = pages, .lead = (uintptr_t)at / WINDOW_PAGE_BYTES % PART};
-    window->pages = calloc(pages, sizeof *window->pages);
-    window->parts = calloc(parts_in(window), sizeof *window->parts);
+    window->pages = table_make(pages, sizeof *window->pages);
+    window->parts = table_make(parts_in(window), sizeof *window->parts);
     if (window->pages != NULL && window->parts != NULL) return window;
     free_window(window);
     return NULL;

@@ -3,7 +3,6 @@
 #include "set.h"
 #include <errno.h>
 #include <fcntl.h>
-#include <stdlib.h>
 #include <string.h>
 #include <sys/mman.h>
 #include <sys/stat.h>
@@ -77,7 +76,7 @@ void follow_limit(struct windows *windows) {
 }
 
 struct window_result windows_make(struct windows **made, const struct windows_config *config) {
-    struct windows *windows = calloc(1, sizeof *windows);
+    struct windows *windows = table_make(1, sizeof *windows);
     *made = NULL;
     if (windows == NULL) return result_of(WINDOW_NO_MEMORY, ENOMEM);
     pthread_mutex_init(&windows->lock, NULL);
@@ -129,7 +128,7 @@ void windows_free(struct windows *windows) {
     if (windows->trace != NULL) trace_close(windows->trace);
 #endif
     pthread_mutex_destroy(&windows->lock);
-    free(windows);
+    table_free(windows, 1, sizeof *windows);
 }
 
 /* Whether the lender's file has all frames, and can't be cut short: a thread that reads a frame behind its end would be killed. */

@@ -201,10 +201,20 @@ def case_late() -> None:
         must(times[0] < float("inf"), f"they weren't shared: {row}")
 
 
+def run_over_proved(name: str, source: str, *flags: str) -> bool:
+    """Compiles checks/host/NAME.c with a source of the preloaded library and with what is proved of it. Returns whether it ran well."""
+    program = HERE.place.room / name
+    folders = (PRELOAD, TOP / "host", TOP / "window", TOP / "lib/include")
+    words: list[StrPath] = [CC, *FLAGS, *(f"-I{it}" for it in folders), *flags, "-o", program]
+    must(subprocess.run([*words, TOP / f"checks/host/{name}.c", PRELOAD / source, WINDOW_LIBRARY]).returncode == 0, f"{name}.c doesn't compile")
+    return subprocess.run([program]).returncode == 0
+
+
 def case_paced() -> None:
     """The library's thread works for nearly all of its processor time where naps themselves take time, by clocks that a program sets."""
-    program = HERE.place.room / "paced"
-    folders = (PRELOAD, TOP / "host", TOP / "window", TOP / "lib/include")
-    words: list[StrPath] = [CC, *FLAGS, *(f"-I{it}" for it in folders), "-Wl,--wrap=clock_gettime", "-o", program]
-    must(subprocess.run([*words, TOP / "checks/host/paced.c", PRELOAD / "budget.c", WINDOW_LIBRARY]).returncode == 0, "paced.c doesn't compile")
-    must(subprocess.run([program]).returncode == 0, "the thread works for too little of its time, or too long")
+    must(run_over_proved("paced", "budget.c", "-Wl,--wrap=clock_gettime"), "the thread works for too little of its time, or too long")
+
+
+def case_ranges() -> None:
+    """The table of ranges that were offered, beside a list of whose each page is."""
+    must(run_over_proved("ranges", "ranges.c"), "a page is another's")

@@ -3,81 +3,79 @@
 #include "trouble.h"
 #include <stdatomic.h>
 
-static struct range ranges[RANGES_MOST];
+static struct pageshare_window_range ranges[RANGES_MOST];
 static size_t count;
 static atomic_uintptr_t lowest = UINTPTR_MAX, highest; /* all ranges lie between them */
 
+static uint64_t number_of(const uint8_t *at) { return (uintptr_t)at / PAGE; }
+
+/* Of the page behind what ends here. */
+static uint64_t number_behind(const uint8_t *end) { return ((uintptr_t)end + PAGE - 1) / PAGE; }
+
+static uint8_t *address_of(uint64_t number) { return (uint8_t *)(uintptr_t)(number * PAGE); }
+
+static struct window *window_of(uint64_t window) { return (struct window *)(uintptr_t)window; }
+
 static void set_bounds(void) {
-    uintptr_t low = UINTPTR_MAX, high = 0;
+    uint64_t low = UINTPTR_MAX / PAGE, high = 0;
     for (size_t i = 0; i < count; i++) {
-        uintptr_t begin = (uintptr_t)ranges[i].at, end = begin + ranges[i].bytes;
-        low = begin < low ? begin : low;
-        high = end > high ? end : high;
+        low = ranges[i].begin < low ? ranges[i].begin : low;
+        high = ranges[i].end > high ? ranges[i].end : high;
     }
-    atomic_store(&lowest, low);
-    atomic_store(&highest, high);
+    atomic_store(&lowest, low * PAGE);
+    atomic_store(&highest, high * PAGE);
 }
 
 bool ranges_near(const uint8_t *at, const uint8_t *end) {
     return at < end && (uintptr_t)end > atomic_load(&lowest) && (uintptr_t)at < atomic_load(&highest);
 }
 
-struct range *ranges_next(const uint8_t *at, const uint8_t *end) {
-    struct range *found = NULL;
-    for (size_t i = 0; i < count && at < end; i++) {
-        struct range *range = &ranges[i];
-        if (range->at < end && range->at + range->bytes > at && (!found || range->at < found->at)) found = range;
-    }
-    return found;
+struct piece ranges_next(const uint8_t *at, const uint8_t *end) {
+    struct pageshare_window_piece found;
+    if (at >= end || !pageshare_window_next_piece(ranges, count, number_of(at), number_behind(end), &found))
+        return (struct piece){.at = (uint8_t *)(uintptr_t)end};
+    return (struct piece){.range = &ranges[found.place],
+                          .at = address_of(found.begin),
+                          .bytes = (size_t)(found.end - found.begin) * PAGE,
+                          .window = window_of(found.window),
+                          .first = (size_t)found.first};
 }
 
-struct range *ranges_at(size_t i) {
-    return &ranges[i];
-}
+struct piece ranges_at(size_t i) { return ranges_next(address_of(ranges[i].begin), address_of(ranges[i].end)); }
 
 size_t ranges_count(void) { return count; }
 
-size_t ranges_of(const struct window *window) {
-    size_t parts = 0;
-    for (size_t i = 0; i < count; i++) parts += ranges[i].window == window;
-    return parts;
+bool ranges_are_of(const struct window *window) {
+    return pageshare_window_is_part_left(ranges, count, (uintptr_t)window);
+}
+
+bool ranges_are_all(const struct piece *piece) {
+    const size_t place = (size_t)(piece->range - ranges), behind = place + 1;
+    bool has_others = pageshare_window_is_part_left(ranges, place, piece->range->window) ||
+                      pageshare_window_is_part_left(ranges + behind, count - behind, piece->range->window);
+    return !has_others && piece->bytes == (size_t)(piece->range->end - piece->range->begin) * PAGE;
 }
 
 bool ranges_add(uint8_t *at, size_t bytes, uint64_t now_ns) {
-    if (count == RANGES_MOST) return false;
-    ranges[count++] = (struct range){.at = at, .bytes = bytes, .said_ns = now_ns};
+    bool is_added = pageshare_window_add_range(ranges, RANGES_MOST, &count, number_of(at), number_of(at + bytes), now_ns);
     set_bounds();
-    return true;
+    return is_added;
 }
 
-void ranges_remove(struct range *range) {
-    *range = ranges[--count];
+void ranges_become(struct pageshare_window_range *range, struct window *window) {
+    range->window = (uintptr_t)window;
+    range->base = range->begin;
+}
+
+/* Takes pages out of a range. */
+static bool take_out(const struct pageshare_window_range *range, uint64_t begin, uint64_t end) {
+    bool is_out = pageshare_window_take_out(ranges, RANGES_MOST, &count, (size_t)(range - ranges), begin, end);
     set_bounds();
+    return is_out;
 }
 
-struct piece range_piece(const struct range *range, uint8_t *at, uint8_t *end) {
-    uint8_t *begin = range->at > at ? range->at : at, *stop = range->at + range->bytes;
-    if (stop > end) stop = end;
-    return (struct piece){begin, (size_t)(stop - begin)};
+bool ranges_take_out(const struct piece *piece) {
+    return take_out(piece->range, number_of(piece->at), number_of(piece->at + piece->bytes));
 }
 
-size_t range_first(const struct range *range, struct piece piece) { return (size_t)(piece.at - range->begin) / PAGE; }
-
-bool range_take_out(struct range *range, struct piece piece) {
-    uint8_t *end = range->at + range->bytes, *piece_end = piece.at + piece.bytes;
-    bool has_first = piece.at > range->at, has_last = piece_end < end;
-    if (has_first && has_last) {
-        if (count == RANGES_MOST) return false;
-        ranges[count] = *range;
-        ranges[count].at = piece_end;
-        ranges[count++].bytes = (size_t)(end - piece_end);
-    }
-    if (!has_first && !has_last) {
-        ranges_remove(range);
-        return true;
-    }
-    range->bytes = has_first ? (size_t)(piece.at - range->at) : (size_t)(end - piece_end);
-    if (!has_first) range->at = piece_end;
-    set_bounds();
-    return true;
-}
+void ranges_remove(const struct piece *piece) { take_out(piece->range, piece->range->begin, piece->range->end); }

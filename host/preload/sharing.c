@@ -97,14 +97,14 @@ bool sharing_meets(const void *at, size_t bytes) {
     if (inside || !ranges_near(begin, end)) return false;
     if (!is_owner()) return false; /* a child after a fork: it has no windows */
     enter();
-    bool meets = ranges_next(begin, end) != NULL;
+    bool meets = ranges_next(begin, end).range != NULL;
     leave();
     return meets;
 }
 
 /* Ends a window of which no range is left. (One that can't end now has no page any more, and does nobody harm.) */
 static void end_unused(struct window *window) {
-    if (window && ranges_of(window) == 0) window_free(window, WINDOW_TAKE_HOME);
+    if (window && !ranges_are_of(window)) window_free(window, WINDOW_TAKE_HOME);
 }
 
 /* What a call that failed is to set errno to. */
@@ -113,17 +113,17 @@ static int errno_of(struct window_result result) { return result.cause ? result.
 /* ---- what the monitor does ---- */
 
 /* Gives up the content of a piece. Returns 0 or an errno. */
-static int discard_piece(const struct range *range, struct piece piece, int advice) {
-    size_t first = range->window ? range_first(range, piece) : 0, count = piece.bytes / PAGE;
+static int discard_piece(const struct piece *piece, int advice) {
+    size_t first = piece->first, count = piece->bytes / PAGE;
     int cause = 0;
-    if (!range->window) return syscall(SYS_madvise, piece.at, piece.bytes, advice) == 0 ? 0 : errno;
+    if (!piece->window) return syscall(SYS_madvise, piece->at, piece->bytes, advice) == 0 ? 0 : errno;
     for (size_t done = 0, run = 0; done < count; done += run) {
         bool is_its = false;
-        run = window_run(range->window, first + done, count - done, &is_its);
+        run = window_run(piece->window, first + done, count - done, &is_its);
         if (is_its) {
-            struct window_result result = window_discard(range->window, first + done, run);
+            struct window_result result = window_discard(piece->window, first + done, run);
             if (result.status != WINDOW_OK) cause = errno_of(result);
-        } else if (syscall(SYS_madvise, piece.at + done * PAGE, run * PAGE, advice) != 0) {
+        } else if (syscall(SYS_madvise, piece->at + done * PAGE, run * PAGE, advice) != 0) {
             cause = errno;
         }
     }
@@ -136,10 +136,9 @@ int sharing_discard(void *from, size_t bytes, int advice) {
     if (!is_aligned(at)) return (errno = EINVAL, -1);
     enter();
     while (at < end) {
-        const struct range *range = ranges_next(at, end);
-        struct piece piece = range ? range_piece(range, at, end) : (struct piece){end, 0};
+        const struct piece piece = ranges_next(at, end);
         if (piece.at > at && syscall(SYS_madvise, at, (size_t)(piece.at - at), advice) != 0) cause = errno;
-        int refused = range ? discard_piece(range, piece, advice) : 0;
+        int refused = piece.range ? discard_piece(&piece, advice) : 0;
         if (refused != 0) cause = refused;
         at = piece.at + piece.bytes;
     }
@@ -150,17 +149,16 @@ int sharing_discard(void *from, size_t bytes, int advice) {
 }
 
 /* A piece of a range leaves its window. `*kept` counts pages whose copies stay over frames: then it stays a range. */
-static struct window_result cut(struct range *range, struct piece piece, size_t *kept) {
-    struct window *window = range->window;
+static struct window_result cut(const struct piece *piece, size_t *kept) {
     struct window_result result = {.status = WINDOW_OK};
     *kept = 0;
-    if (!window) {
-        if (!range_take_out(range, piece)) ranges_remove(range);
+    if (!piece->window) {
+        if (!ranges_take_out(piece)) ranges_remove(piece);
         return result;
     }
-    result = window_cut(window, range_first(range, piece), piece.bytes / PAGE, kept);
+    result = window_cut(piece->window, piece->first, piece->bytes / PAGE, kept);
     /* (if there is no place for what is left, the range goes on with pages that aren't its window's) */
-    if (result.status == WINDOW_OK && *kept == 0 && range_take_out(range, piece)) end_unused(window);
+    if (result.status == WINDOW_OK && *kept == 0 && ranges_take_out(piece)) end_unused(piece->window);
     return result;
 }
 
@@ -170,11 +168,10 @@ enum sharing_left sharing_leave(void *from, size_t bytes, const char *why) {
     size_t kept = 0, all_kept = 0;
     if (!is_aligned(at)) return SHARING_LEFT; /* the system refuses it */
     enter();
-    for (struct range *range; result.status == WINDOW_OK && (range = ranges_next(at, end)) != NULL; all_kept += kept) {
-        struct piece piece = range_piece(range, at, end);
+    for (struct piece piece; result.status == WINDOW_OK && (piece = ranges_next(at, end)).range != NULL; all_kept += kept) {
         at = piece.at + piece.bytes;
         if (piece.bytes >= REPORT_BYTES) say("lending ends", piece.bytes, why);
-        result = cut(range, piece, &kept);
+        result = cut(&piece, &kept);
     }
     leave();
     if (result.status == WINDOW_OK) return all_kept == 0 ? SHARING_LEFT : SHARING_KEPT;
@@ -186,14 +183,12 @@ enum sharing_left sharing_leave(void *from, size_t bytes, const char *why) {
 /* What is left of ranges and windows after something else was put in the place of a range. The windows are paused. */
 static size_t forget(uint8_t *at, uint8_t *end, struct window **unused) {
     size_t count = 0;
-    for (struct range *range; (range = ranges_next(at, end)) != NULL;) {
-        struct piece piece = range_piece(range, at, end);
-        struct window *window = range->window;
+    for (struct piece piece; (piece = ranges_next(at, end)).range != NULL;) {
         at = piece.at + piece.bytes;
-        if (window) window_forget(window, range_first(range, piece), piece.bytes / PAGE);
-        bool is_out = range_take_out(range, piece);
-        if (!is_out && !window) ranges_remove(range);
-        if (window && ranges_of(window) == 0) unused[count++] = window;
+        if (piece.window) window_forget(piece.window, piece.first, piece.bytes / PAGE);
+        bool is_out = ranges_take_out(&piece);
+        if (!is_out && !piece.window) ranges_remove(&piece);
+        if (piece.window && !ranges_are_of(piece.window)) unused[count++] = piece.window;
     }
     return count;
 }
@@ -206,8 +201,7 @@ static bool are_mapped(uint8_t *at, size_t bytes) { return msync(at, bytes, MS_A
  */
 static size_t forget_unmapped(uint8_t *at, uint8_t *end, struct window **unused) {
     size_t count = 0;
-    for (struct range *range; (range = ranges_next(at, end)) != NULL;) {
-        struct piece piece = range_piece(range, at, end);
+    for (struct piece piece; (piece = ranges_next(at, end)).range != NULL;) {
         at = piece.at + piece.bytes;
         if (are_mapped(piece.at, piece.bytes)) continue;
         for (uint8_t *page = piece.at; page < at; page += PAGE)
@@ -241,16 +235,15 @@ long sharing_replace(void *from, size_t bytes, long (*call)(void *with), void *w
 int sharing_advise(void *from, size_t bytes, int advice) {
     uint8_t *at = from, *end = end_of(at, bytes);
     struct window_result result = {.status = WINDOW_OK};
-    struct range *range;
+    struct piece piece;
     size_t kept = 0;
     enter();
-    while (result.status == WINDOW_OK && (range = ranges_next(at, end)) != NULL) {
-        struct piece piece = range_piece(range, at, end);
+    while (result.status == WINDOW_OK && (piece = ranges_next(at, end)).range != NULL) {
         at = piece.at + piece.bytes;
-        range->said_ns = now_ns();
-        if (!range->window) continue;
-        bool is_all = piece.bytes == range->bytes && ranges_of(range->window) == 1;
-        result = is_all ? window_advise(range->window, advice) : cut(range, piece, &kept);
+        piece.range->said = now_ns();
+        if (!piece.window) continue;
+        bool is_all = ranges_are_all(&piece);
+        result = is_all ? window_advise(piece.window, advice) : cut(&piece, &kept);
         /* (a child may not have pages over frames: nobody would keep it from uncovering them) */
         if (!is_all && advice == MADV_DOFORK && kept > 0)
             result = (struct window_result){.status = WINDOW_PINNED, .cause = EAGAIN};
@@ -269,13 +262,12 @@ int sharing_say_huge(void *from, size_t bytes, bool may) {
     if (!is_aligned(at)) return (errno = EINVAL, -1);
     enter();
     while (at < end) {
-        struct range *range = ranges_next(at, end);
-        struct piece piece = range ? range_piece(range, at, end) : (struct piece){end, 0};
+        const struct piece piece = ranges_next(at, end);
         if (piece.at > at && syscall(SYS_madvise, at, (size_t)(piece.at - at), advice) != 0) cause = errno;
         int refused = 0;
-        if (range && range->window) refused = window_say_huge(range->window, range_first(range, piece), piece.bytes / PAGE, may);
-        else if (range && syscall(SYS_madvise, piece.at, piece.bytes, advice) != 0) refused = errno;
-        if (range) range->said_ns = now_ns();
+        if (piece.window) refused = window_say_huge(piece.window, piece.first, piece.bytes / PAGE, may);
+        else if (piece.range && syscall(SYS_madvise, piece.at, piece.bytes, advice) != 0) refused = errno;
+        if (piece.range) piece.range->said = now_ns();
         if (refused != 0) cause = refused;
         at = piece.at + piece.bytes;
     }
@@ -290,8 +282,8 @@ static struct window_result leave_all(void) {
     struct window_result result = {.status = WINDOW_OK};
     size_t kept;
     for (size_t i = ranges_count(); i-- > 0 && result.status == WINDOW_OK;) {
-        struct range *range = ranges_at(i);
-        result = cut(range, (struct piece){range->at, range->bytes}, &kept);
+        const struct piece piece = ranges_at(i);
+        result = cut(&piece, &kept);
     }
     return result;
 }
@@ -301,7 +293,7 @@ bool sharing_end(const char *why) {
     if (inside || !is_owner() || atomic_load(&all_home)) return true;
     enter();
     size_t bytes = 0;
-    for (size_t i = 0; i < ranges_count(); i++) bytes += ranges_at(i)->bytes;
+    for (size_t i = 0; i < ranges_count(); i++) bytes += ranges_at(i).bytes;
     if (atomic_compare_exchange_strong(&over, &none, true)) say("lending ends for good", bytes, why);
     struct windows *set = atomic_load(&windows);
     if (set) windows_end(set);
@@ -377,14 +369,16 @@ void ranges_open(unsigned flags) {
     enter();
     bool may = !atomic_load(&over) && atomic_load(&worst) < DEVICES_WRITE_ALL;
     for (size_t i = ranges_count(); i-- > 0 && may;) {
-        struct range *range = ranges_at(i);
-        if (range->window || now_ns() - range->said_ns < settled_ns) continue;
-        struct window_result result = window_make(&range->window, atomic_load(&windows), range->at, range->bytes, flags);
-        range->begin = range->at;
-        if (result.status == WINDOW_OK) continue;
-        if (range->bytes >= REPORT_BYTES) say("nothing is lent", range->bytes, window_status_words(result.status));
-        range->window = NULL;
-        ranges_remove(range);
+        const struct piece piece = ranges_at(i);
+        struct window *made = NULL;
+        if (piece.window || now_ns() - piece.range->said < settled_ns) continue;
+        struct window_result result = window_make(&made, atomic_load(&windows), piece.at, piece.bytes, flags);
+        if (result.status == WINDOW_OK) {
+            ranges_become(piece.range, made);
+            continue;
+        }
+        if (piece.bytes >= REPORT_BYTES) say("nothing is lent", piece.bytes, window_status_words(result.status));
+        ranges_remove(&piece);
     }
     leave();
 }
@@ -430,11 +424,11 @@ bool sharing_offer(void *at, size_t bytes) {
     if (!is_owner()) return false; /* a child after a fork, where the lock may be another thread's for ever */
     bool is_range = false, is_window = false, good = true;
     enter();
-    struct range *met = ranges_next(at, (uint8_t *)at + bytes);
-    if (met) {
+    const struct piece met = ranges_next(at, (uint8_t *)at + bytes);
+    if (met.range) {
         is_range = true;
-        is_window = met->window != NULL;
-        met->said_ns = now_ns();
+        is_window = met.window != NULL;
+        met.range->said = now_ns();
     } else if (bytes >= LEAST_BYTES) {
         is_range = ranges_add(at, bytes, now_ns());
     }
