@@ -84,6 +84,7 @@ BODIES = {
     "lends what is locked": Body("belief.c", ".locked = windows->is_locked,", ".locked = false,", ["pages"]),
     "lends what has left": Body("belief.c", ".left = page->out == 1,", ".left = false,", ["parts"]),
     "lends after the end": Body("belief.c", ".ended = window->ends || windows->is_over};", ".ended = false};", ["leaves"]),
+    "takes an empty transfer for none": Body("windows.c", ".is_there = true,", ".is_there = at != NULL,", ["leaves"]),
     "hears no discard": Body("belief.c", DISCARDED, "", ["pages"]),
     "counts a refused release as done": Body("belief.c", REFUSED, f"{REFUSED} note_done(window, number); return;", ["pages"]),
     "frees what is held": Body("set.h", "return is_loan || page->belief >= PAGESHARE_WINDOW_HELD_ZEROS;", "return is_loan;", ["pages"]),

@@ -3,6 +3,7 @@
 #include "bytes.h"
 #include "set.h"
 #include <errno.h>
+#include <signal.h>
 #include <string.h>
 #include <sys/mman.h>
 
@@ -143,7 +144,7 @@ static void note_homing(struct window *window, size_t number, struct pageshare_w
 static int begin_home(struct home *home) {
     const struct window *window = home->window;
     const int kind = MAP_PRIVATE | MAP_ANONYMOUS | MAP_NORESERVE;
-    home->at = mmap(NULL, bytes_of(home->count), PROT_READ | PROT_WRITE, kind, NO_FILE, 0);
+    home->at = map_apart(bytes_of(home->count), PROT_READ | PROT_WRITE, kind, NO_FILE);
     if (home->at == MAP_FAILED) return errno;
     int cause = advice_begin(home->at, home->count);
     if (cause == 0) cause = advice_set(&window->advice, home->at, home->count, MEMORY_SMALL);
@@ -184,12 +185,10 @@ static int bring(struct home *home, size_t from, size_t count) {
     return 0;
 }
 
-/* Brings pages home but for those that stay. Returns 0, or the errno of what was refused: then some are still over frames. */
-static int bring_home(struct home *home) {
-    int cause = begin_home(home);
-    if (cause != 0) return cause;
+/* Brings guarded pages home but for those that stay, and ends the guard. Returns 0, or the errno of what was refused. */
+static int bring_guarded(struct home *home) {
     struct window *window = home->window;
-    cause = faults_protect(&window->windows->faults, address_of(window, home->first), home->count);
+    int cause = faults_protect(&window->windows->faults, address_of(window, home->first), home->count);
     if (cause == 0) cause = find_staying(home);
     for (size_t i = 0, end = 0; i < home->count; i = end) {
         for (end = i + 1; end < home->count && home->stays[end] == home->stays[i]; end++) {
@@ -199,6 +198,19 @@ static int bring_home(struct home *home) {
     }
     int kept = let_waiters_go(window, home->first, home->count);
     return kept != 0 ? kept : cause;
+}
+
+/* Brings pages home but for those that stay. Returns 0, or the errno of what was refused: then some are still over frames. */
+static int bring_home(struct home *home) {
+    sigset_t all, before;
+    int cause = begin_home(home);
+    if (cause != 0) return cause;
+    /* (a signal's handler that writes to one of the pages would wait for its own thread) */
+    sigfillset(&all);
+    pthread_sigmask(SIG_SETMASK, &all, &before);
+    cause = bring_guarded(home);
+    pthread_sigmask(SIG_SETMASK, &before, NULL);
+    return cause;
 }
 
 /* Gives pages over frames, at most PART, a copy of their own, where they are. Returns 0 or an errno. */

@@ -4,6 +4,7 @@
 #include <fcntl.h>
 #include <linux/userfaultfd.h>
 #include <sched.h>
+#include <stdatomic.h>
 #include <stdio.h>
 #include <string.h>
 #include <sys/ioctl.h>
@@ -19,6 +20,10 @@
 
 /* Tries of a call that the system asks to make again. */
 enum { TRIES = 64 };
+
+/* Where memory of the library itself is: 16 TiB in the middle of the addresses, where the system maps nothing by itself. */
+#define APART_BEGIN UINT64_C(0x200000000000)
+#define APART_END UINT64_C(0x300000000000)
 
 /* From Linux 6.8 on; older headers lack it. */
 enum { FEATURE_MOVE = 1 << 16, MOVE_DONT_WAKE = 1 };
@@ -247,9 +252,19 @@ bool pagemap_is_own(const struct pagemap *pagemap, const void *at) {
     return read_entries(pagemap->fd, at, 1, &entry) == 0 && kind_of(entry) != PAGE_NONE;
 }
 
+void *map_apart(size_t bytes, int protection, int flags, int file) {
+    static _Atomic uintptr_t next = APART_BEGIN;
+    uintptr_t at = atomic_fetch_add(&next, (bytes + WINDOW_PAGE_BYTES - 1) / WINDOW_PAGE_BYTES * WINDOW_PAGE_BYTES);
+    if (at >= APART_END) {
+        atomic_store(&next, APART_BEGIN);
+        at = APART_BEGIN;
+    }
+    return mmap((void *)at, bytes, protection, flags, file, 0); /* (where that place is taken, the system chooses another) */
+}
+
 void *table_make(size_t count, size_t bytes_each) {
     if (count == 0 || count > SIZE_MAX / bytes_each) return NULL;
-    void *at = mmap(NULL, count * bytes_each, PROT_READ | PROT_WRITE, MAP_PRIVATE | MAP_ANONYMOUS, NO_FILE, 0);
+    void *at = map_apart(count * bytes_each, PROT_READ | PROT_WRITE, MAP_PRIVATE | MAP_ANONYMOUS, NO_FILE);
     return at == MAP_FAILED ? NULL : at;
 }
 
@@ -257,9 +272,31 @@ void table_free(void *table, size_t count, size_t bytes_each) {
     if (table != NULL) munmap(table, count * bytes_each);
 }
 
+/* Whether the system may refuse this process a mapping by its limits. */
+static bool is_limited(void) {
+    struct rlimit all = {.rlim_cur = RLIM_INFINITY}, data = all;
+    getrlimit(RLIMIT_AS, &all);
+    getrlimit(RLIMIT_DATA, &data);
+    return all.rlim_cur != RLIM_INFINITY || data.rlim_cur != RLIM_INFINITY;
+}
+
+/* The system unmaps a place before it looks whether limits leave room for a copy there. So the copy is made elsewhere, and moved. */
+static int copy_and_move(void *at, void *from, size_t bytes) {
+    const int how = MREMAP_MAYMOVE | MREMAP_FIXED;
+    void *aside = map_apart(bytes, PROT_NONE, MAP_PRIVATE | MAP_ANONYMOUS | MAP_NORESERVE, NO_FILE);
+    if (aside == MAP_FAILED) return errno;
+    bool is_copied = mremap(from, bytes, bytes, how | MREMAP_DONTUNMAP, aside) != MAP_FAILED;
+    if (is_copied && mremap(aside, bytes, bytes, how, at) != MAP_FAILED) return 0;
+    int cause = errno;
+    munmap(aside, bytes);
+    return cause;
+}
+
 int mapping_copy(void *at, const void *from, size_t pages) {
-    const int how = MREMAP_MAYMOVE | MREMAP_FIXED | MREMAP_DONTUNMAP;
-    return mremap((void *)(uintptr_t)from, bytes_of(pages), bytes_of(pages), how, at) == MAP_FAILED ? errno : 0;
+    const size_t bytes = bytes_of(pages);
+    void *source = (void *)(uintptr_t)from;
+    if (is_limited()) return copy_and_move(at, source, bytes);
+    return mremap(source, bytes, bytes, MREMAP_MAYMOVE | MREMAP_FIXED | MREMAP_DONTUNMAP, at) == MAP_FAILED ? errno : 0;
 }
 
 size_t locked_kib(void) {

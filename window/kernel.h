@@ -118,6 +118,11 @@ bool locked_any(bool (*is_it)(void *opaque, const uint8_t *begin, const uint8_t 
 int mapping_copy(void *at, const void *from, size_t pages);
 
 /*
+ * Maps memory for the library itself, as mmap does, far from the places that the system chooses by itself. A process may leave a hole in a
+ * range, and unmap the whole range later: what was mapped into the hole meanwhile would go along.
+ */
+void *map_apart(size_t bytes, int protection, int flags, int file);
+/*
  * Memory of zeros for a table, in a mapping of its own: the process's malloc may be busy, or another's. NULL if there is none. Its pages take
  * memory as they are written.
  */

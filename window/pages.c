@@ -21,7 +21,7 @@ bool is_in_transfer(const struct window *window, size_t page) {
     const uint8_t *at = address_of(window, page);
     for (size_t i = 0, left = windows->transfers_count; left > 0 && i < TRANSFERS_MOST; i++) {
         const struct transfer *transfer = &windows->transfers[i];
-        if (transfer->begin == NULL) continue;
+        if (!transfer->is_there) continue;
         if (at < transfer->end && transfer->begin < at + WINDOW_PAGE_BYTES) return true;
         left--;
     }
@@ -134,8 +134,9 @@ void say_again(struct window *window, size_t first, size_t count, bool is_file) 
 }
 
 int make_scratch(struct windows *windows) {
-    const int kind = MAP_PRIVATE | MAP_ANONYMOUS | MAP_NORESERVE | (windows->scratch != NULL ? MAP_FIXED : 0);
-    uint8_t *at = mmap(windows->scratch, bytes_of(SCRATCH), PROT_READ | PROT_WRITE, kind, NO_FILE, 0);
+    const int rights = PROT_READ | PROT_WRITE, kind = MAP_PRIVATE | MAP_ANONYMOUS | MAP_NORESERVE;
+    uint8_t *at = windows->scratch == NULL ? map_apart(bytes_of(SCRATCH), rights, kind, NO_FILE)
+                                           : mmap(windows->scratch, bytes_of(SCRATCH), rights, kind | MAP_FIXED, NO_FILE, 0);
     if (at == MAP_FAILED) return errno;
     windows->scratch = at;
     windows->scratch_used = 0;

@@ -110,7 +110,7 @@ static void split(struct window *window, size_t first, bool is_huge) {
 static uint8_t *make_room(const struct window *window) {
     const int kind = MAP_PRIVATE | MAP_ANONYMOUS | MAP_NORESERVE;
     const size_t bytes = bytes_of(PART);
-    uint8_t *all = mmap(NULL, 2 * bytes, PROT_READ | PROT_WRITE, kind, NO_FILE, 0);
+    uint8_t *all = map_apart(2 * bytes, PROT_READ | PROT_WRITE, kind, NO_FILE);
     if (all == MAP_FAILED) return NULL;
     size_t before = (bytes - (uintptr_t)all % bytes) % bytes;
     uint8_t *room = all + before;

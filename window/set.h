@@ -102,8 +102,9 @@ struct window {
     bool ended;      /* the range is the caller's again; only slots are left to release */
 };
 
-/* Memory of which a transfer by O_DIRECT is under way, which may have pinned its pages. `begin` is NULL if there is none. */
+/* Memory of which a transfer by O_DIRECT is under way, which may have pinned its pages. */
 struct transfer {
+    bool is_there;
     const uint8_t *begin, *end;
 };
 

@@ -37,7 +37,7 @@ static bool is_kept_back(void *at, size_t pages) {
 
 /* Makes pages that nobody touches, between two that nobody can touch: joined with other memory they would join no window any more. */
 static void make_zeros(struct windows *windows) {
-    uint8_t *at = mmap(NULL, bytes_of(PART + 2), PROT_NONE, MAP_PRIVATE | MAP_ANONYMOUS | MAP_NORESERVE, NO_FILE, 0);
+    uint8_t *at = map_apart(bytes_of(PART + 2), PROT_NONE, MAP_PRIVATE | MAP_ANONYMOUS | MAP_NORESERVE, NO_FILE);
     if (at == MAP_FAILED) return;
     uint8_t *zeros = at + bytes_of(1);
     if (is_kept_back(at, PART + 2) && mprotect(zeros, bytes_of(PART), PROT_READ | PROT_WRITE) == 0) windows->zeros = zeros;
@@ -46,11 +46,11 @@ static void make_zeros(struct windows *windows) {
 
 /* Maps the frames' file; for reading alone if the system, which may count each byte that could be written, refuses it otherwise. */
 static uint8_t *map_frames(size_t frames, int fd, bool *are_given) {
-    void *at = mmap(NULL, bytes_of(frames), PROT_READ | PROT_WRITE, MAP_PRIVATE | MAP_NORESERVE, fd, 0);
+    void *at = map_apart(bytes_of(frames), PROT_READ | PROT_WRITE, MAP_PRIVATE | MAP_NORESERVE, fd);
     *are_given = at != MAP_FAILED && is_kept_back(at, frames) && madvise(at, bytes_of(frames), MADV_DONTDUMP) == 0;
     if (*are_given) return at;
     if (at != MAP_FAILED) munmap(at, bytes_of(frames));
-    at = mmap(NULL, bytes_of(frames), PROT_READ, MAP_SHARED | MAP_NORESERVE, fd, 0);
+    at = map_apart(bytes_of(frames), PROT_READ, MAP_SHARED | MAP_NORESERVE, fd);
     return at == MAP_FAILED ? NULL : at;
 }
 
@@ -223,9 +223,9 @@ void windows_set_pins(struct windows *windows, enum windows_pins pins) {
 size_t windows_transfer_begin(struct windows *windows, const void *at, size_t bytes) {
     size_t place = 0;
     lock_set(windows);
-    while (place < TRANSFERS_MOST && windows->transfers[place].begin != NULL) place++;
+    while (place < TRANSFERS_MOST && windows->transfers[place].is_there) place++;
     if (place < TRANSFERS_MOST) {
-        windows->transfers[place] = (struct transfer){.begin = at, .end = (const uint8_t *)at + bytes};
+        windows->transfers[place] = (struct transfer){.is_there = true, .begin = at, .end = (const uint8_t *)at + bytes};
         windows->transfers_count++;
     } else {
         windows->transfers_elsewhere++;
@@ -237,7 +237,7 @@ size_t windows_transfer_begin(struct windows *windows, const void *at, size_t by
 void windows_transfer_end(struct windows *windows, size_t transfer) {
     lock_set(windows);
     if (transfer < TRANSFERS_MOST) {
-        windows->transfers[transfer].begin = NULL;
+        windows->transfers[transfer].is_there = false;
         windows->transfers_count--;
     } else {
         windows->transfers_elsewhere--;

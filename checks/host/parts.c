@@ -14,6 +14,7 @@
 #include <stdatomic.h>
 #include <sys/ioctl.h>
 #include <sys/resource.h>
+#include <sys/time.h>
 #include <sys/wait.h>
 #include <time.h>
 
@@ -164,6 +165,113 @@ static void refused_hole(void) {
     check(madvise(at, 100 * PAGE, MADV_DONTNEED) == 0 && is_full_of(at, 100 * PAGE, 0), "a discard before the hole");
     check(madvise(at + 150 * PAGE, 100 * PAGE, MADV_DONTNEED) == 0 && is_full_of(at + 150 * PAGE, 100 * PAGE, 0), "and behind it");
     check(munmap(at, PAGES * PAGE) == 0, "munmap of all, with the hole");
+}
+
+/* Leaves no room above a range, so that the system maps what comes into a hole of the range. */
+static void fill_above(const uint8_t *at) {
+    for (size_t bytes = (size_t)1 << 30; bytes >= PAGE; bytes /= 2) {
+        uint8_t *found;
+        while ((found = mmap(NULL, bytes, PROT_NONE, MAP_PRIVATE | MAP_ANONYMOUS | MAP_NORESERVE, -1, 0)) != MAP_FAILED && found > at) {
+        }
+        if (found != MAP_FAILED) munmap(found, bytes);
+    }
+}
+
+/* A hole is left in a range, and all of it is unmapped later. What the library has mapped meanwhile isn't in the hole. */
+static void late_hole(void) {
+    uint8_t *at = lent(PAGES);
+    fill_above(at);
+    check(munmap(at + 100 * PAGE, HALF * PAGE) == 0, "munmap");
+    uint8_t *other = offered(PAGES);
+    check(wait_for_count("lent", PAGES - HALF + PAGES, SECONDS), "all pages of both ranges are lent");
+    check(munmap(at, PAGES * PAGE) == 0, "munmap of all, with the hole");
+    check(madvise(other, HALF * PAGE, MADV_DONTNEED) == 0 && is_full_of(other, HALF * PAGE, 0), "a discard in the other range");
+    fill(other, HALF, 1);
+    check(wait_for_count("lent", PAGES, SECONDS), "it is lent again");
+    check(differing(other, 0, PAGES, 1) == 0, "all is there");
+}
+
+/* ---- where and when calls come ---- */
+
+/* The limit of the address space is below what is used: the system refuses each mapping, and nothing is lost. */
+static void limited(void) {
+    struct rlimit before, low;
+    uint8_t *at = lent(PAGES);
+    getrlimit(RLIMIT_AS, &before);
+    low = (struct rlimit){.rlim_cur = PAGES * PAGE, .rlim_max = before.rlim_max};
+    setrlimit(RLIMIT_AS, &low);
+    check(madvise(at, HALF * PAGE, MADV_DONTNEED) == 0 && is_full_of(at, HALF * PAGE, 0), "a discard");
+    fill(at, HALF, 1);
+    sleep(2); /* (by now they would be lent again) */
+    check(differing(at, 0, PAGES, 1) == 0, "all is there");
+    fill(at, PAGES, 30);
+    setrlimit(RLIMIT_AS, &before);
+    check(differing(at, 0, PAGES, 30) == 0, "all can be written");
+}
+
+/* KiB of this process that are locked. */
+static long locked_kib(void) {
+    char line[256];
+    long kib = -1;
+    FILE *file = fopen("/proc/self/status", "r");
+    while (file && kib < 0 && fgets(line, sizeof line, file))
+        if (sscanf(line, "VmLck: %ld", &kib) != 1) kib = -1;
+    if (file) fclose(file);
+    return kib;
+}
+
+/* Addresses within pages: mlock takes them, and means the whole pages; other calls refuse them, and change nothing. */
+static void within_pages(void) {
+    uint8_t *at = lent(PAGES);
+    int status = 0;
+    check(madvise(at + 1, PAGES * PAGE - 1, MADV_DOFORK) == -1 && errno == EINVAL, "advice on no page");
+    pid_t child = fork();
+    if (child == 0) _exit(mincore(at + HALF * PAGE, PAGE, &(unsigned char){0}) == 0 ? 1 : 0);
+    check(waitpid(child, &status, 0) == child && status == 0, "a child doesn't have what it shouldn't");
+    check(mlock(at + 100 * PAGE + 1, 2 * PAGE) == 0, "mlock");
+    sleep(2);
+    check(locked_kib() == 3 * PAGE / 1024 && library_count("lent") == PAGES - 3, "three pages are locked, and stay so");
+    check(close_range(500, 400, 0) == -1 && errno == EINVAL, "no range of descriptors");
+}
+
+static uint8_t *handled;
+static void write_some(int number) {
+    (void)number;
+    for (size_t page = 0; page < PAGES; page += 4) *(volatile uint8_t *)(handled + page * PAGE) = (uint8_t)(1 + page / 2 % 100);
+}
+
+/* A signal's handler writes to pages, with the bytes that they have, while its thread has them taken home. */
+static void interrupted(void) {
+    handled = lent(PAGES);
+    signal(SIGALRM, write_some);
+    for (size_t page = 0; page < PAGES; page += 16) {
+        const struct itimerval once = {.it_value = {.tv_usec = 20 + (suseconds_t)page / 5}};
+        setitimer(ITIMER_REAL, &once, NULL);
+        check(mprotect(handled + page * PAGE, 16 * PAGE, PROT_READ | PROT_WRITE) == 0, "mprotect");
+    }
+    usleep(10000); /* (by now the last signal has come) */
+    check(differing(handled, 0, PAGES, 1) == 0, "all is there");
+}
+
+static void *is_cancelled(void *at) {
+    pthread_setcancelstate(PTHREAD_CANCEL_DISABLE, NULL);
+    usleep(100000); /* (by now it has been asked to end) */
+    pthread_setcancelstate(PTHREAD_CANCEL_ENABLE, NULL);
+    mprotect(at, HALF * PAGE, PROT_READ | PROT_WRITE); /* (a call in which no thread ends) */
+    return NULL;
+}
+
+/* A thread is to end while it makes a call: other threads' calls go on. */
+static void cancelled(void) {
+    pthread_t thread;
+    uint8_t *at = lent(PAGES);
+    if (pthread_create(&thread, NULL, is_cancelled, at) != 0) exit(2);
+    pthread_cancel(thread);
+    pthread_join(thread, NULL);
+    alarm(SECONDS / 2);
+    check(madvise(at + HALF * PAGE, PAGE, MADV_DONTNEED) == 0, "a discard");
+    alarm(0);
+    check(differing(at, 0, HALF, 1) == 0, "all is there");
 }
 
 /* ---- forks ---- */
@@ -503,6 +611,7 @@ static const struct way {
     {"forked", forked}, {"inherited", inherited},    {"late", noticed_late}, {"direct", direct},
     {"locked", locked}, {"mappings", many_mappings}, {"ended", ended},       {"not-opened", not_opened},
     {"pairs", pairs},   {"newcomer", newcomer},      {"refused-hole", refused_hole},
+    {"late-hole", late_hole}, {"limited", limited}, {"within-pages", within_pages}, {"interrupted", interrupted}, {"cancelled", cancelled},
 };
 
 int main(int count, char **words) {

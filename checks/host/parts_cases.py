@@ -68,7 +68,12 @@ def follow(ran: subprocess.Popen[str], host: Host, during: During) -> tuple[int,
 
 def case_parts() -> None:
     """Parts of a window leave it, in each order; advice on a part; calls that the kernel refuses."""
-    run_parts(("kept", "foreign", "hole", "used-later", "moved", "advised", "refused", "refused-hole"))
+    run_parts(("kept", "foreign", "hole", "used-later", "moved", "advised", "refused", "refused-hole", "late-hole"))
+
+
+def case_calls() -> None:
+    """Calls of a monitor where the system has no room, within pages, in a signal's handler, and of a thread that is to end."""
+    run_parts(("limited", "within-pages", "interrupted", "cancelled"))
 
 
 def case_forks() -> None:

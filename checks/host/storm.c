@@ -217,28 +217,31 @@ static void check_child(uint64_t *at) {
     for (size_t page = 0; page < LEAVING; page++) at[page * WORDS] = word_of(page);
 }
 
-/* A part leaves. Returns whether it is no more in its place. */
-static bool leave(enum leaving way, uint64_t *all, size_t from, size_t count) {
+/* What is in the place of a part that left: the part, something else, or nothing. */
+enum place { THE_PART, SOMETHING, NOTHING_THERE };
+
+/* A part leaves. */
+static enum place leave(enum leaving way, uint64_t *all, size_t from, size_t count) {
     const int rights = PROT_READ | PROT_WRITE, kind = MAP_PRIVATE | MAP_ANONYMOUS;
     uint64_t *at = all + from * WORDS, *to = NULL;
     size_t bytes = count * PAGE;
     switch (way) {
-    case PROTECTED: mprotect(at, bytes, PROT_READ); return false;
-    case PROTECTED_AND_BACK: mprotect(at, bytes, PROT_READ), mprotect(at, bytes, rights); return false;
-    case LOCKED: mlock2(at, bytes, 0); return false;
+    case PROTECTED: mprotect(at, bytes, PROT_READ); return THE_PART;
+    case PROTECTED_AND_BACK: mprotect(at, bytes, PROT_READ), mprotect(at, bytes, rights); return THE_PART;
+    case LOCKED: mlock2(at, bytes, 0); return THE_PART;
     case MOVED:
         to = mmap(NULL, bytes, PROT_NONE, kind, -1, 0);
-        if (mremap(at, bytes, bytes, MREMAP_MAYMOVE | MREMAP_FIXED, to) != to) return munmap(to, bytes), false;
+        if (mremap(at, bytes, bytes, MREMAP_MAYMOVE | MREMAP_FIXED, to) != to) return munmap(to, bytes), THE_PART;
         check_range("moved", to, from, from + count);
         munmap(to, bytes);
-        return true;
-    case UNMERGEABLE: madvise(all, LEAVING * PAGE, MADV_UNMERGEABLE); return false;
-    case INHERITED: madvise(all, LEAVING * PAGE, MADV_DOFORK), check_child(all); return false;
-    case INHERITED_IN_PART: madvise(at, bytes, MADV_DOFORK); return false;
-    case WIPED: madvise(at, bytes, MADV_WIPEONFORK); return false;
-    case REPLACED: mmap(at, bytes, rights, kind | MAP_FIXED, -1, 0); return true;
-    case UNMAPPED: munmap(at, bytes); return true;
-    default: return false;
+        return NOTHING_THERE;
+    case UNMERGEABLE: madvise(all, LEAVING * PAGE, MADV_UNMERGEABLE); return THE_PART;
+    case INHERITED: madvise(all, LEAVING * PAGE, MADV_DOFORK), check_child(all); return THE_PART;
+    case INHERITED_IN_PART: madvise(at, bytes, MADV_DOFORK); return THE_PART;
+    case WIPED: madvise(at, bytes, MADV_WIPEONFORK); return THE_PART;
+    case REPLACED: mmap(at, bytes, rights, kind | MAP_FIXED, -1, 0); return SOMETHING;
+    case UNMAPPED: munmap(at, bytes); return NOTHING_THERE;
+    default: return THE_PART;
     }
 }
 
@@ -252,11 +255,14 @@ static void *come_and_go(void *of) {
         madvise(all, LEAVING * PAGE, MADV_DONTFORK);
         usleep((useconds_t)(1200000 + draw(&seed, 800000)));
         size_t from = draw(&seed, LEAVING - 40), count = 1 + draw(&seed, 32);
-        bool is_gone = leave((enum leaving)draw(&seed, LEAVINGS), all, from, count);
+        enum place part = leave((enum leaving)draw(&seed, LEAVINGS), all, from, count);
         check_range("before a part", all, 0, from);
-        if (!is_gone) check_range("a part", all + from * WORDS, from, from + count);
+        if (part == THE_PART) check_range("a part", all + from * WORDS, from, from + count);
         check_range("behind a part", all + (from + count) * WORDS, from + count, LEAVING);
-        munmap(all, LEAVING * PAGE);
+        /* (by now another thread may have mapped something where nothing was left) */
+        size_t first = part == NOTHING_THERE ? from : LEAVING, rest = part == NOTHING_THERE ? LEAVING - from - count : 0;
+        if (first > 0) munmap(all, first * PAGE);
+        if (rest > 0) munmap(all + (LEAVING - rest) * WORDS, rest * PAGE);
         atomic_fetch_add(&leaves, 1);
     }
     return NULL;

@@ -169,10 +169,18 @@ PUBLIC int pkey_mprotect(void *at, size_t bytes, int protection, int key) {
 
 /* ---- locked memory ---- */
 
-PUBLIC int mlock(const void *at, size_t bytes) { return leaves(at, bytes, "mlock") ? (int)syscall(SYS_mlock, at, bytes) : -1; }
+/* Whether whole pages may be locked: these calls take any address in them. */
+static bool leaves_to_lock(const void *at, size_t bytes, const char *why) {
+    size_t before = (uintptr_t)at % PAGE;
+    return bytes == 0 || leaves((const uint8_t *)at - before, bytes + before, why);
+}
+
+PUBLIC int mlock(const void *at, size_t bytes) {
+    return leaves_to_lock(at, bytes, "mlock") ? (int)syscall(SYS_mlock, at, bytes) : -1;
+}
 
 PUBLIC int mlock2(const void *at, size_t bytes, unsigned flags) {
-    return leaves(at, bytes, "mlock2") ? (int)syscall(SYS_mlock2, at, bytes, flags) : -1;
+    return leaves_to_lock(at, bytes, "mlock2") ? (int)syscall(SYS_mlock2, at, bytes, flags) : -1;
 }
 
 PUBLIC int mlockall(int flags) {
@@ -291,6 +299,7 @@ PUBLIC int close(int descriptor) {
 /* Closes a range of descriptors but for the library's own. */
 PUBLIC int close_range(unsigned first, unsigned last, int flags) {
     unsigned from = first;
+    if (first > last) return (int)syscall(SYS_close_range, first, last, flags); /* the system refuses it */
     devices_closed();
     for (unsigned at = first; at <= last && at < DESCRIPTORS_MOST; at++) {
         if (!sharing_owns((int)at)) continue;

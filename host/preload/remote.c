@@ -1,5 +1,6 @@
 #define _GNU_SOURCE
 #include "remote.h"
+#include "kernel.h"
 #include "sharing.h"
 #include "trouble.h"
 #include <sys/mman.h>
@@ -172,8 +173,9 @@ static bool say_hello(struct remote *remote) {
 
 /* Maps the buffer, in the place of the last one, whose address the windows know. */
 static bool map_buffer(struct remote *remote, int buffer) {
-    int fixed = remote->pages ? MAP_FIXED : 0;
-    void *at = mmap(remote->pages, buffer_bytes, PROT_READ | PROT_WRITE, MAP_SHARED | fixed, buffer, 0);
+    const int rights = PROT_READ | PROT_WRITE;
+    void *at = remote->pages ? mmap(remote->pages, buffer_bytes, rights, MAP_SHARED | MAP_FIXED, buffer, 0)
+                             : map_apart(buffer_bytes, rights, MAP_SHARED, buffer);
     if (at == MAP_FAILED) return false;
     remote->pages = at;
     return true;

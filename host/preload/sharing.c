@@ -76,14 +76,22 @@ void sharing_disown(int descriptor) {
 
 /* ---- ranges ---- */
 
-/* All that concerns ranges is done between these two. */
+/* Whether this thread could be cancelled before it took the lock. */
+static _Thread_local int could_cancel __attribute__((tls_model("initial-exec")));
+
+/* All that concerns ranges is done between these two. A thread that was cancelled there would keep the lock for ever. */
 static void enter(void) {
+    int before = PTHREAD_CANCEL_ENABLE;
     inside++;
+    pthread_setcancelstate(PTHREAD_CANCEL_DISABLE, &before);
     pthread_mutex_lock(&lock);
+    could_cancel = before;
 }
 
 static void leave(void) {
+    int before = could_cancel;
     pthread_mutex_unlock(&lock);
+    pthread_setcancelstate(before, NULL);
     inside--;
 }
 
@@ -237,6 +245,7 @@ int sharing_advise(void *from, size_t bytes, int advice) {
     struct window_result result = {.status = WINDOW_OK};
     struct piece piece;
     size_t kept = 0;
+    if (!is_aligned(at)) return (errno = EINVAL, -1);
     enter();
     while (result.status == WINDOW_OK && (piece = ranges_next(at, end)).range != NULL) {
         at = piece.at + piece.bytes;
@@ -330,15 +339,16 @@ bool sharing_devices(enum devices devices) {
     return true;
 }
 
-/* The memory from the first byte of some buffers to the last. */
+/* The memory from the first byte of some buffers to the last. Empty ones may be anywhere. */
 static struct iovec around(const struct iovec *buffers, int count) {
     uintptr_t low = UINTPTR_MAX, high = 0;
     for (int i = 0; i < count; i++) {
         uintptr_t at = (uintptr_t)buffers[i].iov_base;
+        if (buffers[i].iov_len == 0) continue;
         low = at < low ? at : low;
         high = at + buffers[i].iov_len > high ? at + buffers[i].iov_len : high;
     }
-    return (struct iovec){.iov_base = (void *)low, .iov_len = high - low};
+    return high == 0 ? (struct iovec){.iov_base = NULL} : (struct iovec){.iov_base = (void *)low, .iov_len = high - low};
 }
 
 void sharing_transfers_begin(struct sharing_transfers *transfers, const struct iovec *buffers, int count) {

@@ -152,7 +152,9 @@ static void transfers(void) {
     fill(at, PAGES, 1);
     check(look_until(&fixture, PAGES) == PAGES, "all pages are lent");
     memset(at, 1, 4 * PAGE);
+    begun[1] = windows_transfer_begin(fixture.windows, NULL, 0); /* (an empty one may be anywhere) */
     begun[0] = windows_transfer_begin(fixture.windows, at + PAGE + 100, PAGE);
+    windows_transfer_end(fixture.windows, begun[1]);
     check(look_until(&fixture, PAGES - 2) == PAGES - 2, "all are lent again but for the two of the transfer");
     lender_count(fixture.lender, &totals, &counts);
     check(totals.slots == PAGES, "whose slots aren't released");

@@ -6,7 +6,8 @@
  *
  *     stress [--writes N] [--seconds N] [--trace FILE] [--move 0] [--scan 0] [--pins 1] [--rest N] [--pages N] [--seed N] [--huge N]
  *
- * Ends after so many checked writes, or so many seconds. Prints figures, and "stress: ok" (status 0) or "stress: WRONG" (1).
+ * Ends after so many checked writes, or so many seconds, but not before a page was lent and written. Prints figures, and "stress: ok" (status
+ * 0) or "stress: WRONG" (1).
  */
 #define _GNU_SOURCE
 #include "../lender/domain_lender.h"
@@ -101,14 +102,19 @@ static void *write_words(void *opaque) {
     return NULL;
 }
 
+static atomic_bool has_shared; /* a page was lent, and one was written that had been */
+
 static void *looks(void *opaque) {
     const struct timespec rest = {.tv_nsec = 100000};
+    struct windows_counts counts;
     (void)opaque;
     while (!atomic_load(&stop)) {
         struct window_result result = look(windows);
         if (result.status != WINDOW_OK && atomic_fetch_add(&failures, 1) < 5)
             fprintf(stderr, "look: %s: %s\n", window_status_words(result.status), strerror(result.cause));
         lender_trim(lender);
+        windows_count(windows, &counts); /* (here, since looks write some counts without the lock) */
+        if (counts.lends > 0 && counts.copied > 0) atomic_store(&has_shared, true);
         nanosleep(&rest, NULL);
     }
     return NULL;
@@ -241,6 +247,14 @@ static void make(const struct windows_config *config) {
     make_guests();
 }
 
+/* It takes a minute more at most until a page was lent and written: the computer may be busy. */
+static bool goes_on(time_t begun, uint64_t seconds) {
+    enum { MORE_SECONDS = 60 };
+    const uint64_t spent = (uint64_t)(time(NULL) - begun);
+    if (atomic_load(&writes_done) < writes_most && spent < seconds) return true;
+    return !atomic_load(&has_shared) && spent < seconds + MORE_SECONDS;
+}
+
 static uint64_t end(void) {
     uint64_t wrong = 0;
     struct pageshare_domain_totals totals;
@@ -304,7 +318,7 @@ int main(int count, char **words) {
         check(pthread_create(&writer->thread, NULL, write_words, writer) == 0, "a thread that writes");
     }
     time_t begun = time(NULL);
-    while (atomic_load(&writes_done) < writes_most && (uint64_t)(time(NULL) - begun) < seconds) disturb(&state);
+    while (goes_on(begun, seconds)) disturb(&state);
     atomic_store(&stop, true);
     pthread_join(looker, NULL);
     for (unsigned i = 0; i < GUESTS * WRITERS; i++) pthread_join(writers[i / WRITERS][i % WRITERS].thread, NULL);
