@@ -32,7 +32,7 @@ POSIX = ["-D_POSIX_C_SOURCE=200809L"]
 FREESTANDING = "-ffreestanding -fno-pic -fno-stack-protector -fcf-protection=none -mgeneral-regs-only -mno-red-zone".split()
 # How the C files of each folder, or a file, are compiled: the longest path that a file's begins with counts.
 FLAGS: dict[str, list[str]] = {
-    "benches/": [], "checks/embed/": POSIX, "checks/host/": [], "checks/host/descriptors.c": ["-Ihost"],
+    "benches/": [], "checks/embed/": POSIX, "checks/host/": [], "checks/host/descriptors.c": ["-Ihost"], "checks/host/lines.c": ["-Iwindow"],
     "checks/host/paced.c": PRELOAD, "checks/host/ranges.c": PRELOAD, "checks/host/remote.c": PRELOAD,
     "examples/": POSIX, "host/": ["-Iwindow", "-Ihost"],
     "lib/src/": ["-DPAGESHARE_BUILT_LEVEL=2", "-fPIC"], "monitor/": [], "monitor/guest.c": FREESTANDING, "monitor/standin.c": FREESTANDING,

@@ -1,7 +1,7 @@
 #define _GNU_SOURCE
 #include "devices.h"
+#include "lines.h"
 #include "trouble.h"
-#include <dirent.h>
 #include <fcntl.h>
 #include <linux/kvm.h>
 #include <linux/nvme_ioctl.h>
@@ -174,15 +174,14 @@ static int open_of(const char *process, const char *name, int flags) {
 
 /* Whether a process has called io_setup: then it has a mapping of that name. */
 static bool has_requests_mapped(const char *process) {
-    char line[512];
+    struct lines lines;
     bool has = false;
     int maps = open_of(process, "maps", 0);
-    FILE *file = maps >= 0 ? fdopen(maps, "r") : NULL;
-    if (!file && maps >= 0) syscall(SYS_close, maps);
-    if (!file) return true;
-    while (!has && fgets(line, sizeof line, file) != NULL) has = strstr(line, "/[aio]") != NULL;
-    fclose(file);
-    return has;
+    if (maps < 0) return true;
+    lines_of(&lines, maps);
+    for (const char *line; !has && (line = lines_next(&lines)) != NULL;) has = strstr(line, "/[aio]") != NULL;
+    syscall(SYS_close, maps);
+    return has || lines.cause != 0;
 }
 
 /* The mappings are read only if the system's number has changed, since that takes long if there are many. */
@@ -218,16 +217,38 @@ static long descriptors_count(void) {
     return stat("/proc/self/fd", &folder) == 0 ? (long)folder.st_size : 0;
 }
 
+/* As getdents64 returns it. */
+struct entry {
+    uint64_t inode;
+    int64_t next;
+    unsigned short length; /* of this one, until the next one */
+    unsigned char type;
+    char name[];
+};
+
+/*
+ * Looks at each descriptor in a folder. Returns false if they can't be seen. opendir would take memory of malloc: a thread of the monitor
+ * that is in malloc may wait for a lock that is held here.
+ */
+static bool add_all(struct seen *seen, int folder) {
+    _Alignas(struct entry) char entries[4096];
+    long got;
+    while ((got = syscall(SYS_getdents64, folder, entries, sizeof entries)) > 0) {
+        const struct entry *entry;
+        for (long at = 0; at < got; at += entry->length) {
+            entry = (const struct entry *)(const void *)(entries + at);
+            if (*entry->name != '.') add(seen, folder, entry->name);
+        }
+    }
+    return got == 0;
+}
+
 /* Looks at all descriptors of a process. Returns false if they can't be seen. */
 static bool see(struct seen *seen, const char *process) {
     int fds = open_of(process, "fd", O_DIRECTORY);
     *seen = (struct seen){.info = open_of(process, "fdinfo", O_DIRECTORY)};
-    DIR *folder = fds >= 0 ? fdopendir(fds) : NULL;
-    bool can_see = seen->info >= 0 && folder;
-    for (const struct dirent *entry; can_see && (entry = readdir(folder)) != NULL;)
-        if (*entry->d_name != '.') add(seen, dirfd(folder), entry->d_name);
-    if (folder) closedir(folder);
-    else if (fds >= 0) syscall(SYS_close, fds);
+    bool can_see = fds >= 0 && seen->info >= 0 && add_all(seen, fds);
+    if (fds >= 0) syscall(SYS_close, fds);
     if (seen->info >= 0) syscall(SYS_close, seen->info);
     return can_see;
 }

@@ -1,5 +1,6 @@
 #define _GNU_SOURCE
 #include "kernel.h"
+#include "lines.h"
 #include <errno.h>
 #include <fcntl.h>
 #include <linux/userfaultfd.h>
@@ -272,6 +273,17 @@ void table_free(void *table, size_t count, size_t bytes_each) {
     if (table != NULL) munmap(table, count * bytes_each);
 }
 
+/* The number that a file begins with, or `otherwise`. */
+static size_t number_in(const char *path, size_t otherwise) {
+    struct lines lines;
+    size_t number = otherwise;
+    if (lines_open(&lines, path) != 0) return otherwise;
+    const char *line = lines_next(&lines);
+    if (line == NULL || sscanf(line, "%zu", &number) != 1) number = otherwise;
+    lines_close(&lines);
+    return number;
+}
+
 /* Whether the system may refuse this process a mapping by its limits. */
 static bool is_limited(void) {
     struct rlimit all = {.rlim_cur = RLIM_INFINITY}, data = all;
@@ -300,33 +312,19 @@ int mapping_copy(void *at, const void *from, size_t pages) {
 }
 
 size_t locked_kib(void) {
-    char line[256];
+    struct lines lines;
     size_t kib = 0;
-    FILE *file = fopen("/proc/self/status", "re");
-    if (file == NULL) return 0;
-    while (fgets(line, sizeof line, file) != NULL)
-        if (sscanf(line, "VmLck: %zu", &kib) == 1) break;
-    fclose(file);
+    if (lines_open(&lines, "/proc/self/status") != 0) return 0;
+    for (const char *line; (line = lines_next(&lines)) != NULL && sscanf(line, "VmLck: %zu", &kib) != 1;) kib = 0;
+    lines_close(&lines);
     return kib;
 }
 
-size_t merged_kib(void) {
-    size_t pages = 0;
-    FILE *file = fopen("/proc/self/ksm_merging_pages", "re");
-    if (file == NULL) return 0;
-    if (fscanf(file, "%zu", &pages) != 1) pages = 0;
-    fclose(file);
-    return bytes_of(pages) / 1024;
-}
+size_t merged_kib(void) { return bytes_of(number_in("/proc/self/ksm_merging_pages", 0)) / 1024; }
 
 size_t mappings_limit(void) {
     enum { DEFAULT_LIMIT = 65530 };
-    size_t most = DEFAULT_LIMIT;
-    FILE *file = fopen("/proc/sys/vm/max_map_count", "re");
-    if (file == NULL) return most;
-    if (fscanf(file, "%zu", &most) != 1) most = DEFAULT_LIMIT;
-    fclose(file);
-    return most;
+    return number_in("/proc/sys/vm/max_map_count", DEFAULT_LIMIT);
 }
 
 static uint64_t clock_ns(clockid_t clock) {

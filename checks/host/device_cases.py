@@ -20,8 +20,9 @@ REQUESTS = {"vfio-map": "write-all", "sg-io": "write-all", "nvme-io": "write-all
 
 def build() -> pathlib.Path:
     program = OUT / "descriptors"
-    found = [TOP / "checks/host/descriptors.c", TOP / "checks/host/breaker/ring.c", TOP / "host/devices.c"]
-    must(subprocess.run([CC, *FLAGS, f"-I{TOP / 'host'}", "-o", program, *found]).returncode == 0, "descriptors.c doesn't compile")
+    found = [TOP / it for it in ("checks/host/descriptors.c", "checks/host/breaker/ring.c", "host/devices.c", "window/lines.c")]
+    words: list[StrPath] = [CC, *FLAGS, f"-I{TOP / 'host'}", f"-I{TOP / 'window'}", "-o", program, *found]
+    must(subprocess.run(words).returncode == 0, "descriptors.c doesn't compile")
     return program
 
 
@@ -73,3 +74,11 @@ def by_names(program: StrPath) -> tuple[dict[str, str], dict[str, str]]:
     make = 'mount -t tmpfs none /dev && for name in $NAMES; do mkdir -p "$(dirname "/dev/$name")" && touch "/dev/$name"; done && exec "$@"'
     names = " ".join((*WRITE_ALL, *HARMLESS))
     return verdicts([program, *due], ["env", f"NAMES={names}", "unshare", "-m", "sh", "-c", make, "sh"]), due
+
+
+def case_lines() -> None:
+    """Text files are read line by line without malloc, as a plain reading finds them."""
+    program = HERE.place.room / "lines"
+    words: list[StrPath] = [CC, *FLAGS, "-fsanitize=address,undefined", f"-I{TOP / 'window'}", "-o", program]
+    must(subprocess.run([*words, TOP / "checks/host/lines.c", TOP / "window/lines.c"]).returncode == 0, "lines.c doesn't compile")
+    must(subprocess.run([program]).returncode == 0, "a line is another one")

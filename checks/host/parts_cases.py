@@ -9,7 +9,7 @@ from collections.abc import Callable, Mapping, Sequence
 
 from harness import StrPath
 import hostile
-from places import AS_NOBODY, CC, FLAGS, HERE, NOBODY, TOP, Host, LeftOut, all_released, must, preloaded
+from places import AS_NOBODY, CC, FLAGS, HERE, NOBODY, TOP, Host, LeftOut, all_released, compile_c, must, preloaded
 import raw_client
 
 LEFT_OUT, PATIENCE_SECONDS = 77, 150
@@ -24,18 +24,23 @@ def compile_parts() -> pathlib.Path:
     return program
 
 
-def start(program: StrPath, way: str, host: Host) -> subprocess.Popen[str]:
+def start(
+    program: StrPath, way: str, host: Host, more: Mapping[str, str] | tuple[()] = (), user: Sequence[str] = AS_NOBODY,
+) -> subprocess.Popen[str]:
     counts = {"PAGESHARE_PERIOD_MS": "50", "PAGESHARE_CPU": "100", "PAGESHARE_COUNTS": str(HERE.place.room / f"{way}.json"), "MALLOC_PERTURB_": "165"}
-    return subprocess.Popen([*AS_NOBODY, program, way], env=preloaded(host, counts), text=True, stdin=subprocess.PIPE, stdout=subprocess.PIPE,
-                            stderr=subprocess.STDOUT)
+    env = preloaded(host, counts | dict(more))
+    return subprocess.Popen([*user, program, way], env=env, text=True, stdin=subprocess.PIPE, stdout=subprocess.PIPE, stderr=subprocess.STDOUT)
 
 
-def run_parts(ways: Sequence[str], during: During | None = None) -> None:
+def run_parts(
+    ways: Sequence[str], during: During | None = None, more: Mapping[str, str] | tuple[()] = (), user: Sequence[str] = AS_NOBODY,
+    host: Host | None = None,
+) -> None:
     """Runs parts.c for each way, one after the other, beside a host."""
-    program, host = compile_parts(), Host(memory="512M")
+    program, host = compile_parts(), host or Host(memory="512M")
     failed, left = [], []
     for way in ways:
-        status, said = follow(start(program, way, host), host, during or {})
+        status, said = follow(start(program, way, host, more, user), host, during or {})
         print(f"  {way}: {'good' if status == 0 else 'left out' if status == LEFT_OUT else f'WRONG, status {status}'}", flush=True)
         for line in said:
             if line.startswith(("  ", "left out: ")):
@@ -74,6 +79,16 @@ def case_parts() -> None:
 def case_calls() -> None:
     """Calls of a monitor where the system has no room, within pages, in a signal's handler, and of a thread that is to end."""
     run_parts(("limited", "within-pages", "interrupted", "cancelled"))
+
+
+def case_malloc() -> None:
+    """A monitor whose malloc gives memory back with its own lock: the library calls no malloc with a lock of its own."""
+    program, host = compile_c("own_malloc"), Host(memory="64M")
+    status, said = follow(start(program, "own-malloc", host), host, {})
+    print("".join(it for it in said if it.startswith("  ")), end="")
+    must(status == 0, f"status {status}: {''.join(said)[-1500:]}")
+    all_released(host)
+    host.stop()
 
 
 def case_forks() -> None:

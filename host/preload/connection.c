@@ -204,6 +204,7 @@ static bool connect_host(void) {
     if (my.remote.socket >= 0) return my.is_attached;
     if (my.is_refused || now_ns() < my.next_try_ns) return false;
     my.next_try_ns = now_ns() + retry_ns;
+    devices_closed(); /* (with the last connection; a descriptor may have come to the monitor instead, so that there are as many) */
     enum remote_found found = remote_connect(&my.remote, settings.socket);
     if (found == REMOTE_NONE) {
         if (!my.was_reported) report_no_host(errno);

@@ -1,19 +1,20 @@
 #define _GNU_SOURCE
 #include "memory.h"
+#include "lines.h"
 #include "trouble.h"
 
 static const double short_percent = 10;
 
 /* The number behind a word in the first line of a file that begins so; -1 if there is none. */
 static double number_behind(const char *path, const char *line_begin, const char *word) {
-    char line[256];
+    struct lines lines;
     double number = -1;
-    FILE *file = fopen(path, "re");
-    while (file && number < 0 && fgets(line, sizeof line, file)) {
+    if (lines_open(&lines, path) != 0) return number;
+    for (const char *line; number < 0 && (line = lines_next(&lines));) {
         const char *at = strncmp(line, line_begin, strlen(line_begin)) == 0 ? strstr(line, word) : NULL;
         if (at && sscanf(at + strlen(word), "%lf", &number) != 1) number = -1;
     }
-    if (file) fclose(file);
+    lines_close(&lines);
     return number;
 }
 

@@ -289,10 +289,11 @@ PUBLIC int fcntl64(int descriptor, int command, ...) {
 
 /* ---- descriptors ---- */
 
+/* (the library's own are no devices; it closes some at each look, and would look at all descriptors each time) */
 PUBLIC int close(int descriptor) {
     if (sharing_is_inside()) sharing_disown(descriptor);
     if (sharing_owns(descriptor)) return 0;
-    devices_closed();
+    if (!sharing_is_inside()) devices_closed();
     return (int)syscall(SYS_close, descriptor);
 }
 
