@@ -61,12 +61,24 @@ static struct uffdio_range range_of(const void *at, size_t pages) {
     return (struct uffdio_range){.start = (uintptr_t)at, .len = bytes_of(pages)};
 }
 
+/*
+ * A userfaultfd by the system call. A library that interposes functions of the C library hears of its second descriptor, which it may give a
+ * number that the process's own files don't get. Where there is no second one it goes on by the first.
+ */
+static int call_for_faults(void) {
+    int first = (int)syscall(SYS_userfaultfd, O_CLOEXEC | O_NONBLOCK);
+    int second = first >= 0 ? fcntl(first, F_DUPFD_CLOEXEC, 0) : NO_FILE;
+    if (second < 0) return first;
+    close(first);
+    return second;
+}
+
 static int open_faults(int device) {
     int opened = device > 0 ? device : open("/dev/userfaultfd", O_RDWR | O_CLOEXEC);
     int fd = opened >= 0 ? ioctl(opened, USERFAULTFD_IOC_NEW, O_CLOEXEC | O_NONBLOCK) : NO_FILE;
     int cause = errno;
     if (device <= 0 && opened >= 0) close(opened);
-    if (fd < 0 && device <= 0) fd = (int)syscall(SYS_userfaultfd, O_CLOEXEC | O_NONBLOCK);
+    if (fd < 0 && device <= 0) fd = call_for_faults();
     if (fd < 0 && opened >= 0) errno = cause;
     return fd;
 }

@@ -163,7 +163,8 @@ static void refused_hole(void) {
     check(mmap(at, PAGES * PAGE, PROT_READ, MAP_PRIVATE | MAP_FIXED, 9999, 0) == MAP_FAILED && errno == EBADF, "mmap of no file");
     check(differing(at, 0, 100, 1) == 0 && differing(at, 150, PAGES, 1) == 0, "all is there");
     check(madvise(at, 100 * PAGE, MADV_DONTNEED) == 0 && is_full_of(at, 100 * PAGE, 0), "a discard before the hole");
-    check(madvise(at + 150 * PAGE, 100 * PAGE, MADV_DONTNEED) == 0 && is_full_of(at + 150 * PAGE, 100 * PAGE, 0), "and behind it");
+    check(madvise(at + 150 * PAGE, 100 * PAGE, MADV_DONTNEED) == 0 && is_full_of(at + 150 * PAGE, 100 * PAGE, 0),
+          "and behind it");
     check(munmap(at, PAGES * PAGE) == 0, "munmap of all, with the hole");
 }
 
@@ -171,7 +172,8 @@ static void refused_hole(void) {
 static void fill_above(const uint8_t *at) {
     for (size_t bytes = (size_t)1 << 30; bytes >= PAGE; bytes /= 2) {
         uint8_t *found;
-        while ((found = mmap(NULL, bytes, PROT_NONE, MAP_PRIVATE | MAP_ANONYMOUS | MAP_NORESERVE, -1, 0)) != MAP_FAILED && found > at) {
+        while ((found = mmap(NULL, bytes, PROT_NONE, MAP_PRIVATE | MAP_ANONYMOUS | MAP_NORESERVE, -1, 0)) != MAP_FAILED &&
+               found > at) {
         }
         if (found != MAP_FAILED) munmap(found, bytes);
     }
@@ -272,6 +274,19 @@ static void cancelled(void) {
     check(madvise(at + HALF * PAGE, PAGE, MADV_DONTNEED) == 0, "a discard");
     alarm(0);
     check(differing(at, 0, HALF, 1) == 0, "all is there");
+}
+
+/* ---- arrays of buffers, and descriptors ---- */
+
+/* The monitor closes all that it doesn't know, where the library got its userfaultfd by the system call. */
+static void closed_all(void) {
+    enum { FIRST = 3, END = 500 };
+    uint8_t *at = lent(PAGES);
+    for (int number = FIRST; number < END; number++) close(number);
+    long lends = library_count("lends");
+    fill(at, HALF, 1);
+    check(wait_for_count("lends", lends + HALF, SECONDS), "pages are lent again");
+    check(differing(at, 0, PAGES, 1) == 0, "all is there");
 }
 
 /* ---- forks ---- */
@@ -606,12 +621,31 @@ static const struct way {
     const char *name;
     void (*run)(void);
 } ways[] = {
-    {"kept", kept},     {"foreign", foreign},        {"hole", hole},         {"used-later", used_later},
-    {"moved", moved},   {"advised", advised},        {"refused", refused},   {"children", children},
-    {"forked", forked}, {"inherited", inherited},    {"late", noticed_late}, {"direct", direct},
-    {"locked", locked}, {"mappings", many_mappings}, {"ended", ended},       {"not-opened", not_opened},
-    {"pairs", pairs},   {"newcomer", newcomer},      {"refused-hole", refused_hole},
-    {"late-hole", late_hole}, {"limited", limited}, {"within-pages", within_pages}, {"interrupted", interrupted}, {"cancelled", cancelled},
+    {"kept", kept},
+    {"foreign", foreign},
+    {"hole", hole},
+    {"used-later", used_later},
+    {"moved", moved},
+    {"advised", advised},
+    {"refused", refused},
+    {"children", children},
+    {"forked", forked},
+    {"inherited", inherited},
+    {"late", noticed_late},
+    {"direct", direct},
+    {"locked", locked},
+    {"mappings", many_mappings},
+    {"ended", ended},
+    {"not-opened", not_opened},
+    {"pairs", pairs},
+    {"newcomer", newcomer},
+    {"refused-hole", refused_hole},
+    {"late-hole", late_hole},
+    {"limited", limited},
+    {"within-pages", within_pages},
+    {"interrupted", interrupted},
+    {"cancelled", cancelled},
+    {"closed-all", closed_all},
 };
 
 int main(int count, char **words) {

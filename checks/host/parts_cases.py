@@ -81,6 +81,12 @@ def case_calls() -> None:
     run_parts(("limited", "within-pages", "interrupted", "cancelled"))
 
 
+def case_closed() -> None:
+    """The monitor closes all that it doesn't know, where the library has its userfaultfd by the system call: the host has no device to give."""
+    host = Host(memory="64M", user=(), before=["setpriv", "--reuid=daemon", f"--regid={NOBODY}", "--clear-groups"])
+    run_parts(("closed-all",), user=[*AS_NOBODY, "--inh-caps=+sys_ptrace", "--ambient-caps=+sys_ptrace"], host=host)
+
+
 def case_malloc() -> None:
     """A monitor whose malloc gives memory back with its own lock: the library calls no malloc with a lock of its own."""
     program, host = compile_c("own_malloc"), Host(memory="64M")
