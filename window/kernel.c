@@ -296,11 +296,26 @@ static size_t number_in(const char *path, size_t otherwise) {
     return number;
 }
 
+/* Whether the system refuses memory that could be written where it has too little for all of it (vm.overcommit_memory is 2). */
+enum { UNREAD = -1, ALL_COUNTS = 2 };
+static atomic_int overcommit = UNREAD;
+
+/* (where it can't be read the longer way is taken, which is right as well) */
+static bool read_overcommit(void) {
+    int found = (int)number_in("/proc/sys/vm/overcommit_memory", ALL_COUNTS);
+    atomic_store(&overcommit, found);
+    return found == ALL_COUNTS;
+}
+
+static bool counts_all(void) {
+    int found = atomic_load(&overcommit);
+    return found == UNREAD ? read_overcommit() : found == ALL_COUNTS;
+}
+
 /* Whether the system may refuse this process a mapping by its limits. */
 static bool is_limited(void) {
     struct rlimit all = {.rlim_cur = RLIM_INFINITY}, data = all;
-    getrlimit(RLIMIT_AS, &all);
-    getrlimit(RLIMIT_DATA, &data);
+    if (counts_all() || getrlimit(RLIMIT_AS, &all) != 0 || getrlimit(RLIMIT_DATA, &data) != 0) return true;
     return all.rlim_cur != RLIM_INFINITY || data.rlim_cur != RLIM_INFINITY;
 }
 
@@ -336,6 +351,7 @@ size_t merged_kib(void) { return bytes_of(number_in("/proc/self/ksm_merging_page
 
 size_t mappings_limit(void) {
     enum { DEFAULT_LIMIT = 65530 };
+    read_overcommit();
     return number_in("/proc/sys/vm/max_map_count", DEFAULT_LIMIT);
 }
 

@@ -11,7 +11,7 @@ import time
 from collections.abc import Callable, Iterable, Mapping, Sequence
 
 from harness import StrPath
-from places import AS_NOBODY, CC, FLAGS, HERE, TOP, WINDOW_LIBRARY, Host, LeftOut, all_released, in_time, must, preloaded, sources
+from places import AS_NOBODY, CC, FLAGS, HERE, TOP, WINDOW_LIBRARY, Host, LeftOut, all_released, compile_shim, in_time, must, preloaded, sources
 
 BESIDE = 4  # so many run at once, with contents that others have, too
 HUGE = ("--huge", "--pages", "1536")
@@ -120,9 +120,7 @@ REFUSE_EACH = 61  # (a prime, so that calls that come again and again are refuse
 
 def case_refusals() -> None:
     """Each call of the system by the library is refused in turn, and each 61st one after it: SEEDS=N first ones."""
-    program, host, shim = compile_folder("breaker"), Host(memory="256M"), HERE.place.room / "refuse.so"
-    words: list[StrPath] = [CC, *FLAGS, "-fPIC", "-shared", "-fvisibility=hidden", "-o", shim, TOP / "checks/host/refuse_in_monitor.c", "-ldl"]
-    must(subprocess.run(words).returncode == 0, "refuse_in_monitor.c doesn't compile")
+    program, host, shim = compile_folder("breaker"), Host(memory="256M"), compile_shim("refuse_in_monitor")
     firsts, seconds = int(os.environ.get("SEEDS", "16")), int(os.environ.get("SECONDS", "6"))
 
     def refuse(seed: int) -> dict[str, str]:

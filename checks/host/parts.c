@@ -289,6 +289,25 @@ static void closed_all(void) {
     check(differing(at, 0, PAGES, 1) == 0, "all is there");
 }
 
+/* ---- lines on standard error, and room that comes late ---- */
+
+/* Of checks/host/count_memory.c, where that is preloaded: the system has no memory left to promise. */
+extern int memory_is_promised __attribute__((weak));
+
+/* As `limited`, where the system promises no more memory than it has: what it refuses to copy has lost its place by then. */
+static void counted(void) {
+    if (&memory_is_promised == NULL) return left_out("count_memory.c isn't preloaded");
+    uint8_t *at = lent(PAGES);
+    memory_is_promised = 1;
+    check(madvise(at, HALF * PAGE, MADV_DONTNEED) == 0 && is_full_of(at, HALF * PAGE, 0), "a discard");
+    fill(at, HALF, 1);
+    sleep(2); /* (by now they would be lent again) */
+    check(differing(at, 0, PAGES, 1) == 0, "all is there");
+    memory_is_promised = 0;
+    fill(at, PAGES, 30);
+    check(differing(at, 0, PAGES, 30) == 0, "all can be written");
+}
+
 /* ---- forks ---- */
 
 static atomic_bool over;
@@ -646,6 +665,7 @@ static const struct way {
     {"interrupted", interrupted},
     {"cancelled", cancelled},
     {"closed-all", closed_all},
+    {"counted", counted},
 };
 
 int main(int count, char **words) {

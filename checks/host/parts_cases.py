@@ -9,7 +9,7 @@ from collections.abc import Callable, Mapping, Sequence
 
 from harness import StrPath
 import hostile
-from places import AS_NOBODY, CC, FLAGS, HERE, NOBODY, TOP, Host, LeftOut, all_released, compile_c, must, preloaded
+from places import AS_NOBODY, CC, FLAGS, HERE, NOBODY, TOP, Host, LeftOut, all_released, compile_c, compile_shim, must, preloaded
 import raw_client
 
 LEFT_OUT, PATIENCE_SECONDS = 77, 150
@@ -79,6 +79,7 @@ def case_parts() -> None:
 def case_calls() -> None:
     """Calls of a monitor where the system has no room, within pages, in a signal's handler, and of a thread that is to end."""
     run_parts(("limited", "within-pages", "interrupted", "cancelled"))
+    run_parts(("counted",), more={"LD_PRELOAD": f"{compile_shim('count_memory')} {HERE.library}"})
 
 
 def case_closed() -> None:

@@ -185,6 +185,14 @@ def compile_c(name: str, folder: str = "checks/host") -> pathlib.Path:
     return program
 
 
+def compile_shim(name: str) -> pathlib.Path:
+    """Compiles a library that is preloaded before the one that is checked."""
+    shim = HERE.place.room / f"{name}.so"
+    words: list[StrPath] = [CC, *FLAGS, "-fPIC", "-shared", "-fvisibility=hidden", "-o", shim, TOP / f"checks/host/{name}.c", "-ldl"]
+    must(subprocess.run(words).returncode == 0, f"{name}.c doesn't compile")
+    return shim
+
+
 def preloaded(host: Host, more: Mapping[str, str] | Iterable[tuple[str, str]] = ()) -> dict[str, str]:
     words = {**os.environ, "PAGESHARE_SOCKET": str(host.socket), "LD_PRELOAD": str(HERE.library), "PAGESHARE_PERIOD_MS": "10"}
     return {**words, **dict(more)}

@@ -421,6 +421,7 @@ static void report_denied(void) {
                                         "/proc/self/fdinfo",
                                         "/proc/sys/fs/aio-nr",
                                         "/proc/sys/vm/max_map_count",
+                                        "/proc/sys/vm/overcommit_memory",
                                         "/proc/meminfo",
                                         "/proc/pressure/memory",
                                         "/proc/self/ksm_merging_pages",
