@@ -15,6 +15,7 @@
 #include <sys/ioctl.h>
 #include <sys/resource.h>
 #include <sys/time.h>
+#include <sys/uio.h>
 #include <sys/wait.h>
 #include <time.h>
 
@@ -276,7 +277,63 @@ static void cancelled(void) {
     check(differing(at, 0, HALF, 1) == 0, "all is there");
 }
 
+/* Threads are to end while they read by O_DIRECT, from pipes that nobody writes to: their pages are lent again. */
+static int empty[2];
+static void *reads_for_ever(void *at) {
+    if (read(empty[0], at, PAGE) != 0) exit(2);
+    return NULL;
+}
+
+static void *reads_parts_for_ever(void *at) {
+    const struct iovec parts[] = {{at, PAGE}, {(uint8_t *)at + 2 * PAGE, PAGE}};
+    if (readv(empty[0], parts, 2) != 0) exit(2);
+    return NULL;
+}
+
+static void cancelled_reads(void) {
+    pthread_t threads[2];
+    uint8_t *at = lent(PAGES);
+    if (pipe2(empty, O_CLOEXEC) != 0 || fcntl(empty[0], F_SETFL, O_DIRECT) != 0) exit(2);
+    if (pthread_create(&threads[0], NULL, reads_for_ever, at) != 0) exit(2);
+    if (pthread_create(&threads[1], NULL, reads_parts_for_ever, at + 4 * PAGE) != 0) exit(2);
+    usleep(200000); /* (by now they read) */
+    for (size_t i = 0; i < 2; i++) {
+        void *status = NULL;
+        pthread_cancel(threads[i]);
+        check(pthread_join(threads[i], &status) == 0 && status == PTHREAD_CANCELED, "a thread ends while it reads");
+    }
+    long lends = library_count("lends");
+    fill(at, 8, 1);
+    check(wait_for_count("lends", lends + 8, 10), "the pages that they read to are lent again");
+    check(differing(at, 0, PAGES, 1) == 0, "all is there");
+}
+
 /* ---- arrays of buffers, and descriptors ---- */
+
+static int with_direct(void);
+
+/* Arrays of buffers that aren't there, or are too long: calls are refused as the system refuses them. */
+static void bad_buffers(void) {
+    uint8_t *at = lent(PAGES), *two = mmap(NULL, 2 * PAGE, PROT_READ | PROT_WRITE, MAP_PRIVATE | MAP_ANONYMOUS, -1, 0);
+    volatile int fewer = -1;
+    struct iovec *volatile nowhere = (struct iovec *)8, *edge = (struct iovec *)(void *)(two + PAGE) - 1;
+    const int files[] = {with_direct(), open("/proc/self/exe", O_RDONLY | O_CLOEXEC)};
+    if (files[0] < 0) return left_out("there is no O_DIRECT on /var/tmp");
+    munmap(two + PAGE, PAGE);
+    *edge = (struct iovec){at, PAGE};
+    for (size_t i = 0; i < 2; i++) {
+        check(readv(files[i], nowhere, 2) == -1 && errno == EFAULT, "there is no array");
+        check(preadv(files[i], edge, 2, 0) == -1 && errno == EFAULT, "a part of the array isn't there");
+        check(preadv2(files[i], nowhere, 1025, 0, 0) == -1 && errno == EINVAL, "too many buffers");
+        check(writev(files[i], nowhere, fewer) == -1 && (errno == EINVAL || errno == EBADF), "fewer than no buffers");
+        check(readv(files[i], nowhere, 0) == 0, "no buffers");
+    }
+    check(readv(-1, nowhere, 2) == -1 && errno == EBADF, "no file");
+    const struct iovec good[] = {{at + PAGE, PAGE}, {at + 9 * PAGE, PAGE}, {NULL, 0}, {at, PAGE}};
+    check(preadv(files[0], good, 4, 0) == 3 * PAGE && is_full_of(at, 2 * PAGE, 'd') && is_full_of(at + 9 * PAGE, PAGE, 'd'),
+          "good ones are read to");
+    check(differing(at, 2, 9, 1) == 0 && differing(at, 10, PAGES, 1) == 0, "all others are there");
+}
 
 /* The monitor closes all that it doesn't know, where the library got its userfaultfd by the system call. */
 static void closed_all(void) {
@@ -664,6 +721,8 @@ static const struct way {
     {"within-pages", within_pages},
     {"interrupted", interrupted},
     {"cancelled", cancelled},
+    {"cancelled-reads", cancelled_reads},
+    {"bad-buffers", bad_buffers},
     {"closed-all", closed_all},
     {"counted", counted},
 };

@@ -3,10 +3,11 @@
  * The functions of the C library that read and write files, interposed in a virtual machine monitor. A call on a file that was opened with
  * O_DIRECT pins the pages of its buffers until it ends; of those the windows hear. All other calls go on as they are.
  */
+#include "buffers.h"
 #include "sharing.h"
 #include "trouble.h"
 #include <dlfcn.h>
-#include <fcntl.h>
+#include <pthread.h>
 #include <stdlib.h>
 #include <sys/syscall.h>
 #include <sys/uio.h>
@@ -50,92 +51,108 @@ __attribute__((constructor)) static void find_next(void) {
 
 /* ---- what the windows hear ---- */
 
-/* Counts a call, if it is one by O_DIRECT on memory of a window. */
-static struct sharing_transfers begin_vector(int descriptor, const struct iovec *buffers, int count) {
+/* (apart, since the copies take 16 KiB of stack, and few calls need them) */
+__attribute__((noinline)) static void begin_copied(struct sharing_transfers *transfers, const struct iovec *buffers, int count) {
+    struct iovec copies[BUFFERS_MOST];
+    if (buffers_copy(copies, buffers, (size_t)count) && buffers_meet(copies, (size_t)count))
+        sharing_transfers_begin(transfers, copies, count);
+}
+
+/* Counts a call, if it is one by O_DIRECT on memory of a window, and one that the system takes. */
+static struct sharing_transfers begin_vector(int file, const struct iovec *buffers, int count) {
     struct sharing_transfers transfers = {.count = 0};
-    bool meets = false;
-    for (int i = 0; i < count && !meets; i++) meets = sharing_meets(buffers[i].iov_base, buffers[i].iov_len);
-    if (!meets) return transfers;
-    int cause = errno, flags = (int)syscall(SYS_fcntl, descriptor, F_GETFL);
-    if (flags >= 0 && (flags & O_DIRECT) != 0) sharing_transfers_begin(&transfers, buffers, count);
+    if (count <= 0 || count > BUFFERS_MOST || !buffers_may_meet() || !buffers_are_pinned_by(file)) return transfers;
+    int cause = errno;
+    begin_copied(&transfers, buffers, count);
     errno = cause;
     return transfers;
 }
 
-static struct sharing_transfers begin(int descriptor, const void *buffer, size_t bytes) {
-    const struct iovec whole = {(void *)(uintptr_t)buffer, bytes};
-    return begin_vector(descriptor, &whole, 1);
+static struct sharing_transfers begin(int file, void *buffer, size_t bytes) {
+    const struct iovec whole = {buffer, bytes};
+    struct sharing_transfers transfers = {.count = 0};
+    int cause = errno;
+    if (buffers_meet(&whole, 1) && buffers_are_pinned_by(file)) sharing_transfers_begin(&transfers, &whole, 1);
+    errno = cause;
+    return transfers;
 }
 
-static ssize_t end(const struct sharing_transfers *transfers, ssize_t status) {
+static void end(void *transfers) {
     int cause = errno;
-    if (transfers->count > 0) sharing_transfers_end(transfers);
+    sharing_transfers_end(transfers);
     errno = cause;
-    return status;
 }
+
+/*
+ * Makes a call between the beginning and the end of its transfers. A thread that is cancelled in the call ends them, too: else their pages
+ * would never be lent again.
+ */
+#define TRANSFER(BEGIN, CALL)                                                                                                    \
+    struct sharing_transfers transfers = BEGIN;                                                                                  \
+    ssize_t status;                                                                                                              \
+    if (transfers.count == 0) return CALL;                                                                                       \
+    pthread_cleanup_push(end, &transfers);                                                                                       \
+    status = CALL;                                                                                                               \
+    pthread_cleanup_pop(1);                                                                                                      \
+    return status
 
 /* ---- one buffer ---- */
 
 PUBLIC ssize_t read(int file, void *buffer, size_t bytes) {
-    struct sharing_transfers transfers = begin(file, buffer, bytes);
-    return end(&transfers, next.read ? next.read(file, buffer, bytes) : syscall(SYS_read, file, buffer, bytes));
+    TRANSFER(begin(file, buffer, bytes), next.read ? next.read(file, buffer, bytes) : syscall(SYS_read, file, buffer, bytes));
 }
 
 PUBLIC ssize_t write(int file, const void *buffer, size_t bytes) {
-    struct sharing_transfers transfers = begin(file, buffer, bytes);
-    return end(&transfers, next.write ? next.write(file, buffer, bytes) : syscall(SYS_write, file, buffer, bytes));
+    TRANSFER(begin(file, (void *)(uintptr_t)buffer, bytes),
+             next.write ? next.write(file, buffer, bytes) : syscall(SYS_write, file, buffer, bytes));
 }
 
 PUBLIC ssize_t pread64(int file, void *buffer, size_t bytes, off_t from) {
-    struct sharing_transfers transfers = begin(file, buffer, bytes);
-    return end(&transfers, next.pread ? next.pread(file, buffer, bytes, from) : syscall(SYS_pread64, file, buffer, bytes, from));
+    TRANSFER(begin(file, buffer, bytes),
+             next.pread ? next.pread(file, buffer, bytes, from) : syscall(SYS_pread64, file, buffer, bytes, from));
 }
 PUBLIC ssize_t pread(int file, void *buffer, size_t bytes, off_t from) __attribute__((alias("pread64")));
 
 PUBLIC ssize_t pwrite64(int file, const void *buffer, size_t bytes, off_t to) {
-    struct sharing_transfers transfers = begin(file, buffer, bytes);
-    return end(&transfers, next.pwrite ? next.pwrite(file, buffer, bytes, to) : syscall(SYS_pwrite64, file, buffer, bytes, to));
+    TRANSFER(begin(file, (void *)(uintptr_t)buffer, bytes),
+             next.pwrite ? next.pwrite(file, buffer, bytes, to) : syscall(SYS_pwrite64, file, buffer, bytes, to));
 }
 PUBLIC ssize_t pwrite(int file, const void *buffer, size_t bytes, off_t to) __attribute__((alias("pwrite64")));
 
 /* ---- several buffers ---- */
 
 PUBLIC ssize_t readv(int file, const struct iovec *buffers, int count) {
-    struct sharing_transfers transfers = begin_vector(file, buffers, count);
-    return end(&transfers, next.readv ? next.readv(file, buffers, count) : syscall(SYS_readv, file, buffers, count));
+    TRANSFER(begin_vector(file, buffers, count),
+             next.readv ? next.readv(file, buffers, count) : syscall(SYS_readv, file, buffers, count));
 }
 
 PUBLIC ssize_t writev(int file, const struct iovec *buffers, int count) {
-    struct sharing_transfers transfers = begin_vector(file, buffers, count);
-    return end(&transfers, next.writev ? next.writev(file, buffers, count) : syscall(SYS_writev, file, buffers, count));
+    TRANSFER(begin_vector(file, buffers, count),
+             next.writev ? next.writev(file, buffers, count) : syscall(SYS_writev, file, buffers, count));
 }
 
 PUBLIC ssize_t preadv64(int file, const struct iovec *buffers, int count, off_t from) {
-    struct sharing_transfers transfers = begin_vector(file, buffers, count);
-    return end(&transfers,
-               next.preadv ? next.preadv(file, buffers, count, from) : syscall(SYS_preadv, file, buffers, count, from, 0L));
+    TRANSFER(begin_vector(file, buffers, count),
+             next.preadv ? next.preadv(file, buffers, count, from) : syscall(SYS_preadv, file, buffers, count, from, 0L));
 }
 PUBLIC ssize_t preadv(int file, const struct iovec *buffers, int count, off_t from) __attribute__((alias("preadv64")));
 
 PUBLIC ssize_t pwritev64(int file, const struct iovec *buffers, int count, off_t to) {
-    struct sharing_transfers transfers = begin_vector(file, buffers, count);
-    return end(&transfers,
-               next.pwritev ? next.pwritev(file, buffers, count, to) : syscall(SYS_pwritev, file, buffers, count, to, 0L));
+    TRANSFER(begin_vector(file, buffers, count),
+             next.pwritev ? next.pwritev(file, buffers, count, to) : syscall(SYS_pwritev, file, buffers, count, to, 0L));
 }
 PUBLIC ssize_t pwritev(int file, const struct iovec *buffers, int count, off_t to) __attribute__((alias("pwritev64")));
 
 PUBLIC ssize_t preadv64v2(int file, const struct iovec *buffers, int count, off_t from, int flags) {
-    struct sharing_transfers transfers = begin_vector(file, buffers, count);
-    return end(&transfers, next.preadv2 ? next.preadv2(file, buffers, count, from, flags)
-                                        : syscall(SYS_preadv2, file, buffers, count, from, 0L, flags));
+    TRANSFER(begin_vector(file, buffers, count), next.preadv2 ? next.preadv2(file, buffers, count, from, flags)
+                                                              : syscall(SYS_preadv2, file, buffers, count, from, 0L, flags));
 }
 PUBLIC ssize_t preadv2(int file, const struct iovec *buffers, int count, off_t from, int flags)
     __attribute__((alias("preadv64v2")));
 
 PUBLIC ssize_t pwritev64v2(int file, const struct iovec *buffers, int count, off_t to, int flags) {
-    struct sharing_transfers transfers = begin_vector(file, buffers, count);
-    return end(&transfers, next.pwritev2 ? next.pwritev2(file, buffers, count, to, flags)
-                                         : syscall(SYS_pwritev2, file, buffers, count, to, 0L, flags));
+    TRANSFER(begin_vector(file, buffers, count), next.pwritev2 ? next.pwritev2(file, buffers, count, to, flags)
+                                                               : syscall(SYS_pwritev2, file, buffers, count, to, 0L, flags));
 }
 PUBLIC ssize_t pwritev2(int file, const struct iovec *buffers, int count, off_t to, int flags)
     __attribute__((alias("pwritev64v2")));

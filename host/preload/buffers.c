@@ -1,0 +1,33 @@
+#define _GNU_SOURCE
+#include "buffers.h"
+#include "ranges.h"
+#include "sharing.h"
+#include "trouble.h"
+#include <fcntl.h>
+#include <sys/syscall.h>
+#include <unistd.h>
+
+bool buffers_may_meet(void) { return !sharing_is_inside() && ranges_near(NULL, (const uint8_t *)UINTPTR_MAX); }
+
+/* The system copies it, as it does at the call itself: an array that isn't there must not end the process. */
+bool buffers_copy(struct iovec to[BUFFERS_MOST], const struct iovec *from, size_t count) {
+    const struct iovec there = {(void *)(uintptr_t)from, count * sizeof *from}, here = {to, count * sizeof *to};
+    int before = errno;
+    long got = syscall(SYS_process_vm_readv, getpid(), &here, 1L, &there, 1L, 0L);
+    bool can_ask = got >= 0 || errno == EFAULT;
+    errno = before;
+    if (!can_ask) memcpy(to, from, count * sizeof *to); /* (it may be forbidden, or left out of the kernel) */
+    return !can_ask || got == (long)(count * sizeof *to);
+}
+
+bool buffers_meet(const struct iovec *buffers, size_t count) {
+    bool meet = false;
+    for (size_t i = 0; i < count && !meet; i++) meet = sharing_meets(buffers[i].iov_base, buffers[i].iov_len);
+    return meet;
+}
+
+bool buffers_are_pinned_by(int file) {
+    int before = errno, flags = (int)syscall(SYS_fcntl, file, F_GETFL);
+    errno = before;
+    return flags >= 0 && (flags & O_DIRECT) != 0;
+}
