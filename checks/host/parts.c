@@ -6,6 +6,7 @@
 #define _GNU_SOURCE
 #include "breaker/ring.h"
 #include "offered.h"
+#include <aio.h>
 #include <errno.h>
 #include <fcntl.h>
 #include <linux/vfio.h>
@@ -539,6 +540,33 @@ static void noticed_late(void) {
     }
 }
 
+/* Waits for a request that a thread of the C library makes. Returns how many bytes it has read, or -1. */
+static ssize_t end_of_request(struct aiocb *request) {
+    for (unsigned i = 0; i < SECONDS * 100 && aio_error(request) == EINPROGRESS; i++) usleep(10000);
+    return aio_error(request) == 0 ? aio_return(request) : -1;
+}
+
+/* Threads of the C library read, by calls that aren't seen: with a file by O_DIRECT they may pin pages from then on. */
+static void by_requests(bool are_many) {
+    enum { PIN_PAGES = 2 };
+    uint8_t *at = lent(PAGES);
+    int file = with_direct(), plain = open("/proc/self/exe", O_RDONLY | O_CLOEXEC);
+    struct aiocb harmless = {.aio_fildes = plain, .aio_buf = at + 20 * PAGE, .aio_nbytes = PAGE, .aio_lio_opcode = LIO_READ};
+    struct aiocb pinning = {.aio_fildes = file, .aio_buf = at + 10 * PAGE, .aio_nbytes = PAGE, .aio_lio_opcode = LIO_READ};
+    struct aiocb *all[] = {NULL, &pinning, NULL};
+    if (file < 0) return left_out("there is no O_DIRECT on /var/tmp");
+    check(aio_read(&harmless) == 0 && end_of_request(&harmless) == PAGE, "a request without O_DIRECT");
+    sleep(1);
+    check(library_count("devices") < PIN_PAGES, "which pins nothing");
+    int status = are_many ? lio_listio(LIO_WAIT, all, 3, NULL) : aio_read(&pinning);
+    check(status == 0 && end_of_request(&pinning) == PAGE && is_full_of(at + 10 * PAGE, PAGE, 'd'), "a request with it");
+    check(wait_for_count("devices", PIN_PAGES, 5), "which may pin pages");
+    check(differing(at, 0, 10, 1) == 0 && differing(at, 21, PAGES, 1) == 0, "all others are there");
+}
+
+static void by_request(void) { by_requests(false); }
+static void by_list(void) { by_requests(true); }
+
 static int direct_file = -1;
 static void *read_always(void *aside) {
     while (!atomic_load(&over))
@@ -725,6 +753,8 @@ static const struct way {
     {"bad-buffers", bad_buffers},
     {"closed-all", closed_all},
     {"counted", counted},
+    {"request", by_request},
+    {"requests", by_list},
 };
 
 int main(int count, char **words) {

@@ -1,7 +1,7 @@
 #define _GNU_SOURCE
 /*
  * libpageshare-window.so, preloaded into a virtual machine monitor: the functions of the C library that it interposes, but for those that
- * read and write files (transfers.c), and nothing else.
+ * read and write files (transfers.c, aio.c), and nothing else.
  * sharing.c has what they do. Where a call has nothing to do with a window it goes to the system as it is.
  *
  * Interposed are calls

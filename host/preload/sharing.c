@@ -333,9 +333,8 @@ bool sharing_devices(enum devices devices) {
     windows_set_pins(set, WINDOWS_PINS_POSSIBLE);
     inside--;
     if (before < (int)devices)
-        log_line(
-            "devices may have pinned pages (io_uring or io_submit with O_DIRECT, or vmx): those that were lent and written stay "
-            "private from now on");
+        log_line("devices may have pinned pages (io_uring, io_submit or aio_read with O_DIRECT, or vmx): those that were lent "
+                 "and written stay private from now on");
     return true;
 }
 
