@@ -15,6 +15,7 @@
 #include <stdatomic.h>
 #include <sys/ioctl.h>
 #include <sys/resource.h>
+#include <sys/syscall.h>
 #include <sys/time.h>
 #include <sys/uio.h>
 #include <sys/wait.h>
@@ -334,6 +335,44 @@ static void bad_buffers(void) {
     check(preadv(files[0], good, 4, 0) == 3 * PAGE && is_full_of(at, 2 * PAGE, 'd') && is_full_of(at + 9 * PAGE, PAGE, 'd'),
           "good ones are read to");
     check(differing(at, 2, 9, 1) == 0 && differing(at, 10, PAGES, 1) == 0, "all others are there");
+}
+
+/* (the C library has it from 2.36 on, and libpageshare-window.so always) */
+ssize_t process_madvise(int, const struct iovec *, size_t, int, unsigned) __attribute__((weak));
+
+/* The process gives up pages by a descriptor of itself, and by the number that stands for one. */
+static void by_process(void) {
+    uint8_t *at = lent(PAGES), *own = mmap(NULL, PAGE, PROT_READ | PROT_WRITE, MAP_PRIVATE | MAP_ANONYMOUS, -1, 0);
+    const int selves[] = {(int)syscall(SYS_pidfd_open, getpid(), 0U), -10000};
+    if (process_madvise == NULL || selves[0] < 0) return left_out("the system has no process_madvise");
+    for (size_t i = 0; i < 2; i++) {
+        uint8_t *from = at + i * 100 * PAGE;
+        const struct iovec parts[] = {{from, 10 * PAGE}, {own, PAGE}, {from + 50 * PAGE, 20 * PAGE}, {from + 1, PAGE}};
+        *own = 'o';
+        ssize_t done = process_madvise(selves[i], parts, 3, MADV_DONTNEED, 0);
+        if (i > 0 && done == -1 && errno == EBADF) continue; /* (an older system) */
+        check(done == 31 * PAGE && *own == 0, "all is given up");
+        check(is_full_of(from, 10 * PAGE, 0) && is_full_of(from + 50 * PAGE, 20 * PAGE, 0), "what is given up is zeros");
+        check(process_madvise(selves[i], parts + 2, 2, MADV_DONTNEED, 0) == 20 * PAGE, "until one is refused");
+        check(process_madvise(selves[i], parts + 3, 1, MADV_DONTNEED, 0) == -1 && errno == EINVAL, "one is refused");
+        check(process_madvise(selves[i], parts, 2, MADV_DONTNEED, 1) == -1 && errno == EINVAL, "there are no such flags");
+        check(differing(at, i * 100 + 10, i * 100 + 50, 1) == 0 && differing(at, i * 100 + 70, PAGES, 1) == 0, "all is there");
+    }
+    check(process_madvise(selves[0], (struct iovec *)8, 2, MADV_DONTNEED, 0) == -1 && errno == EFAULT, "there is no array");
+}
+
+/* Advice on another process concerns nothing here, though it is about the same addresses. */
+static void by_another(void) {
+    uint8_t *at = lent(PAGES);
+    const struct iovec all = {at, PAGES * PAGE};
+    pid_t child = fork();
+    if (child == 0) pause(), _exit(0);
+    int other = (int)syscall(SYS_pidfd_open, child, 0U);
+    if (process_madvise == NULL || other < 0) left_out("the system has no process_madvise");
+    else check(process_madvise(other, &all, 1, MADV_DONTNEED, 0) == -1, "no other process's pages are given up");
+    kill(child, SIGKILL);
+    waitpid(child, NULL, 0);
+    check(differing(at, 0, PAGES, 1) == 0, "all is there");
 }
 
 /* The monitor closes all that it doesn't know, where the library got its userfaultfd by the system call. */
@@ -751,6 +790,8 @@ static const struct way {
     {"cancelled", cancelled},
     {"cancelled-reads", cancelled_reads},
     {"bad-buffers", bad_buffers},
+    {"by-process", by_process},
+    {"by-another", by_another},
     {"closed-all", closed_all},
     {"counted", counted},
     {"request", by_request},

@@ -5,12 +5,14 @@
  * sharing.c has what they do. Where a call has nothing to do with a window it goes to the system as it is.
  *
  * Interposed are calls
- * - that would show what lies under a window: madvise, munmap, mmap, mremap;
+ * - that would show what lies under a window: madvise, process_madvise, munmap, mmap, mremap;
  * - that a window's mappings can't follow: mprotect, mlock, a userfaultfd of the monitor's own;
  * - that let devices write to memory: open with O_DIRECT, VFIO;
  * - that close descriptors of which the monitor doesn't know.
  */
+#include "buffers.h"
 #include "kvm_offer.h"
+#include "lines.h"
 #include "sharing.h"
 #include "trouble.h"
 #include <dlfcn.h>
@@ -93,6 +95,57 @@ static int advise_window(void *at, size_t bytes, int advice) {
 PUBLIC int madvise(void *at, size_t bytes, int advice) {
     if (advice == MADV_MERGEABLE && !sharing_is_inside() && sharing_offer(at, bytes)) return 0;
     return sharing_meets(at, bytes) ? advise_window(at, bytes, advice) : system_madvise(at, bytes, advice);
+}
+
+/* ---- advice by the descriptor of a process ---- */
+
+/* The process of a descriptor as the system numbers it, or 0: it isn't one of a process, or the system doesn't say. */
+static long process_of(int descriptor) {
+    struct lines lines;
+    char path[64];
+    long process = 0;
+    snprintf(path, sizeof path, "/proc/self/fdinfo/%d", descriptor);
+    int info = (int)syscall(SYS_openat, AT_FDCWD, path, O_RDONLY | O_CLOEXEC, 0);
+    if (info < 0) return 0;
+    lines_of(&lines, info);
+    for (const char *line; process == 0 && (line = lines_next(&lines));)
+        if (sscanf(line, "Pid: %ld", &process) != 1) process = 0;
+    syscall(SYS_close, info);
+    return process > 0 ? process : 0;
+}
+
+/* Whether a descriptor is of this process, or of a thread of it. A negative number that the system takes stands for these. */
+static bool is_self(int descriptor) {
+    char path[64];
+    if (descriptor < 0) return syscall(SYS_process_madvise, descriptor, NULL, 0L, MADV_COLD, 0L) == 0;
+    long process = process_of(descriptor);
+    snprintf(path, sizeof path, "/proc/self/task/%ld", process);
+    return process == getpid() || (process != 0 && syscall(SYS_faccessat, AT_FDCWD, path, F_OK) == 0);
+}
+
+/* Whether advice is on a window's memory. Then `copies` are the buffers. errno stays as it is. */
+static bool is_on_window(int process, const struct iovec *buffers, size_t count, struct iovec copies[BUFFERS_MOST]) {
+    int cause = errno;
+    bool is_it = count <= BUFFERS_MOST && buffers_may_meet() && buffers_copy(copies, buffers, count) &&
+                 buffers_meet(copies, count) && is_self(process);
+    errno = cause;
+    return is_it;
+}
+
+/*
+ * Linux takes advice of this process on itself as madvise does from 6.13 on. Older ones refuse most of it with EINVAL, or all of it with
+ * EPERM. Here it is followed then, too, which is harmless: the monitor asked for it.
+ */
+PUBLIC ssize_t process_madvise(int process, const struct iovec *buffers, size_t count, int advice, unsigned flags);
+PUBLIC ssize_t process_madvise(int process, const struct iovec *buffers, size_t count, int advice, unsigned flags) {
+    struct iovec copies[BUFFERS_MOST];
+    size_t done = 0;
+    if (flags != 0 || !is_on_window(process, buffers, count, copies))
+        return syscall(SYS_process_madvise, process, buffers, count, advice, flags);
+    for (size_t i = 0; i < count; done += copies[i++].iov_len)
+        if (copies[i].iov_len > 0 && madvise(copies[i].iov_base, copies[i].iov_len, advice) != 0)
+            return done > 0 ? (ssize_t)done : -1;
+    return (ssize_t)done;
 }
 
 /* ---- mappings ---- */
