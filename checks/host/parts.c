@@ -7,6 +7,7 @@
 #include "breaker/ring.h"
 #include "offered.h"
 #include <aio.h>
+#include <dirent.h>
 #include <errno.h>
 #include <fcntl.h>
 #include <linux/vfio.h>
@@ -372,6 +373,41 @@ static void by_another(void) {
     else check(process_madvise(other, &all, 1, MADV_DONTNEED, 0) == -1, "no other process's pages are given up");
     kill(child, SIGKILL);
     waitpid(child, NULL, 0);
+    check(differing(at, 0, PAGES, 1) == 0, "all is there");
+}
+
+/* Puts a file in the place of each descriptor from a number on. Returns how many were refused with EBUSY; `*taken`: how many weren't. */
+static unsigned put_over(int file, int first, unsigned *taken) {
+    unsigned busy = 0;
+    DIR *folder = opendir("/proc/self/fd");
+    for (const struct dirent *entry; folder != NULL && (entry = readdir(folder)) != NULL;) {
+        int number = atoi(entry->d_name);
+        if (number < first) continue;
+        bool is_busy = dup2(file, number) == -1 && errno == EBUSY && dup3(file, number, O_CLOEXEC) == -1 && errno == EBUSY;
+        busy += is_busy;
+        *taken += !is_busy;
+    }
+    if (folder) closedir(folder);
+    return busy;
+}
+
+/* A file in the place of a descriptor that the library has: there it isn't put, and a child puts it there. */
+static void put_over_own(void) {
+    enum { FIRST = 100 };
+    unsigned taken = 0;
+    int status = 0, null = open("/dev/null", O_RDWR | O_CLOEXEC);
+    uint8_t *at = lent(PAGES);
+    check(put_over(null, FIRST, &taken) >= 4 && taken == 0, "the library's descriptors stay");
+    check(dup2(null, FIRST) == FIRST && dup3(null, FIRST + 1, O_CLOEXEC) == FIRST + 1, "others can be taken");
+    check(dup2(null, null) == null && dup3(null, null, 0) == -1 && errno == EINVAL, "one in its own place");
+    check(dup2(FIRST + 2, FIRST + 2) == -1 && errno == EBADF && dup2(FIRST + 2, FIRST) == -1 && errno == EBADF, "no descriptor");
+    check(fcntl(FIRST, F_GETFD) == 0 && fcntl(FIRST + 1, F_GETFD) == FD_CLOEXEC, "one is closed by exec, and one isn't");
+    pid_t child = fork();
+    if (child == 0) _exit(put_over(null, FIRST + 2, &taken) == 0 && taken >= 4 ? 0 : 1);
+    check(waitpid(child, &status, 0) == child && status == 0, "a child takes them");
+    long lends = library_count("lends");
+    fill(at, HALF, 1);
+    check(wait_for_count("lends", lends + HALF, SECONDS), "pages are lent again");
     check(differing(at, 0, PAGES, 1) == 0, "all is there");
 }
 
@@ -792,6 +828,7 @@ static const struct way {
     {"bad-buffers", bad_buffers},
     {"by-process", by_process},
     {"by-another", by_another},
+    {"put-over", put_over_own},
     {"closed-all", closed_all},
     {"counted", counted},
     {"request", by_request},

@@ -346,8 +346,9 @@ PUBLIC int fcntl64(int descriptor, int command, ...) {
 PUBLIC int close(int descriptor) {
     if (sharing_is_inside()) sharing_disown(descriptor);
     if (sharing_owns(descriptor)) return 0;
+    int status = (int)syscall(SYS_close, descriptor);
     if (!sharing_is_inside()) devices_closed();
-    return (int)syscall(SYS_close, descriptor);
+    return status;
 }
 
 /* Closes a range of descriptors but for the library's own. */
@@ -364,3 +365,21 @@ PUBLIC int close_range(unsigned first, unsigned last, int flags) {
 }
 
 PUBLIC void closefrom(int first) { close_range(first < 0 ? 0 : (unsigned)first, ~0u, 0); }
+
+/*
+ * A descriptor in the place of another one, which is closed by that. In the place of one of the library's own there comes none: EBUSY, as the
+ * system itself answers where another thread is just opening a file of that number.
+ */
+static int put_in_place(int descriptor, int place, int flags) {
+    if (!sharing_is_inside() && sharing_owns(place)) return (errno = EBUSY, -1);
+    int status = (int)syscall(SYS_dup3, descriptor, place, flags);
+    devices_closed();
+    return status;
+}
+
+PUBLIC int dup3(int descriptor, int place, int flags) { return put_in_place(descriptor, place, flags); }
+
+PUBLIC int dup2(int descriptor, int place) {
+    if (descriptor != place) return put_in_place(descriptor, place, 0);
+    return syscall(SYS_fcntl, descriptor, F_GETFD) < 0 ? -1 : place; /* (nothing is put anywhere; the descriptor must be open) */
+}
