@@ -424,6 +424,50 @@ static void closed_all(void) {
 
 /* ---- lines on standard error, and room that comes late ---- */
 
+/* The system has no room for the host's frames at first. */
+static void late_room(void) {
+    struct rlimit before, low;
+    long pages = 0;
+    FILE *file = fopen("/proc/self/statm", "r");
+    if (!file || fscanf(file, "%ld", &pages) != 1) exit(2);
+    fclose(file);
+    getrlimit(RLIMIT_AS, &before);
+    low = (struct rlimit){.rlim_cur = (rlim_t)pages * PAGE + (256u << 20), .rlim_max = before.rlim_max};
+    setrlimit(RLIMIT_AS, &low);
+    uint8_t *at = offered(PAGES);
+    check(wait_for_count("looks", 20, SECONDS), "there are looks");
+    check(library_count("connected") == 1 && library_count("lent") == 0, "nothing is lent without the host's frames");
+    setrlimit(RLIMIT_AS, &before);
+    check(wait_for_count("lent", PAGES, 10), "all is lent when there is room");
+    check(differing(at, 0, PAGES, 1) == 0, "all is there");
+}
+
+/* How often a text is in what was written to a file. */
+static unsigned times_said(int file, const char *what) {
+    static char text[1 << 16];
+    unsigned times = 0;
+    ssize_t got = pread(file, text, sizeof text - 1, 0);
+    text[got > 0 ? got : 0] = 0;
+    for (const char *at = text; (at = strstr(at, what)) != NULL; at++) times++;
+    if (times != 1) printf("said: %s\n", text);
+    return times;
+}
+
+/* Looks fail now and then for the same cause: it is said once. */
+static void said_once(void) {
+    uint8_t *at = lent(PAGES);
+    int said = memfd_create("said", MFD_CLOEXEC);
+    if (dup2(said, STDERR_FILENO) < 0) exit(2);
+    for (unsigned i = 0; i < 4; i++) {
+        if (syscall(SYS_mlock, at, PAGE) != 0) return left_out("no memory can be locked"); /* (past the library) */
+        usleep(600000);
+        syscall(SYS_munlock, at, PAGE);
+        usleep(600000);
+    }
+    check(times_said(said, "pageshare: a look: ") == 1, "it is said once");
+    check(differing(at, 0, PAGES, 1) == 0, "all is there");
+}
+
 /* Of checks/host/count_memory.c, where that is preloaded: the system has no memory left to promise. */
 extern int memory_is_promised __attribute__((weak));
 
@@ -830,6 +874,8 @@ static const struct way {
     {"by-another", by_another},
     {"put-over", put_over_own},
     {"closed-all", closed_all},
+    {"late-room", late_room},
+    {"said-once", said_once},
     {"counted", counted},
     {"request", by_request},
     {"requests", by_list},

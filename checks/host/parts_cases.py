@@ -79,7 +79,7 @@ def case_parts() -> None:
 def case_calls() -> None:
     """Calls of a monitor where the system has no room, within pages, in a signal's handler, of threads that are to end, and odd ones."""
     run_parts(("limited", "within-pages", "interrupted", "cancelled", "cancelled-reads", "bad-buffers", "by-process", "by-another",
-               "put-over", "request", "requests"))
+               "put-over", "late-room", "said-once", "request", "requests"))
     run_parts(("counted",), more={"LD_PRELOAD": f"{compile_shim('count_memory')} {HERE.library}"})
 
 

@@ -33,8 +33,9 @@ enum {
     HUGE_FROM = 64,  /* pages of a huge page that could be shared, until which it stays whole */
     TURNS_LEAST = 4, /* looks until a page that nobody else has is asked about again, if looks are short; and at most */
     TURNS_MOST = 512,
-    AGAIN_NS = 250, /* processor time that asking about a page again takes, about */
-    REST_MOST = 7,  /* idle pages that a look leaves out for one at which it glances, where nothing changes */
+    FORGET_LOOKS = 64, /* looks that fail with nothing, after which a failure is printed again */
+    AGAIN_NS = 250,    /* processor time that asking about a page again takes, about */
+    REST_MOST = 7,     /* idle pages that a look leaves out for one at which it glances, where nothing changes */
     /* processor time that may be used at the burst's rate. FIRST_NS: for each page of a new window, or beside a new host; FRESH_NS: for
      * one that is new in its window; SHARED_NS: for one that was lent or given back */
     FIRST_NS = 2000,
@@ -60,7 +61,7 @@ static struct {
 static struct {
     struct remote remote;
     struct windows *windows;
-    bool is_attached, was_reported, is_refused, was_crowded, was_short;
+    bool is_attached, was_reported, is_refused, was_crowded, was_short, was_unattached;
     uint64_t next_try_ns, next_chores_ns, look_begun_ns;
     bool was_connected; /* when the look under way began */
     bool is_memory_short;
@@ -68,7 +69,8 @@ static struct {
     struct windows_counts before, at_chores;
     unsigned period_ms, calm, eager, turns;
     size_t windows_before;
-    enum window_status trouble; /* of the last look, so that it is printed once */
+    unsigned printed;    /* a bit for each status of a look that was printed, so that each is printed once */
+    unsigned good_looks; /* in turn, that failed with nothing */
 } my = {.remote = REMOTE_CLOSED, .turns = TURNS_LEAST};
 
 bool connection_is_wanted(void) {
@@ -174,14 +176,22 @@ static bool make_windows(void) {
     return false;
 }
 
+/* Pages are lent by this host from now on. Where that can't be it is tried again later, not too often. */
 static void attach(void) {
     struct window_lender lender = remote_lender(&my.remote);
     if (my.is_attached) windows_detach(my.windows);
     struct window_result result = windows_attach(my.windows, &lender);
+    bool was_unattached = my.was_unattached;
     my.is_attached = result.status == WINDOW_OK;
-    my.eager = EAGER_LOOKS;
-    budget_give_credit(&my.budget, FIRST_NS * (uint64_t)my.before.pages);
-    if (!my.is_attached) log_line("the host's frames can't be used: %s", window_status_words(result.status));
+    my.was_unattached = !my.is_attached;
+    my.next_try_ns = now_ns() + retry_ns;
+    if (my.is_attached) {
+        my.eager = EAGER_LOOKS;
+        budget_give_credit(&my.budget, FIRST_NS * (uint64_t)my.before.pages);
+    } else if (!was_unattached) {
+        log_line("the host's frames can't be used: %s (%s); it is tried again each second", window_status_words(result.status),
+                 strerror(result.cause));
+    }
 }
 
 static void report_no_host(int cause) {
@@ -199,11 +209,16 @@ static void set_budget(void) {
     budget_set(&my.budget, said && granted ? both : one, BURST_PERCENT);
 }
 
-/* Connects if there is no connection, not too often. Returns whether there is one. */
+/* Connects if there is no connection, and attaches its lender, not too often. Returns whether pages are lent by a host. */
 static bool connect_host(void) {
-    if (my.remote.socket >= 0) return my.is_attached;
+    bool is_connected = my.remote.socket >= 0;
+    if (is_connected && my.is_attached) return true;
     if (my.is_refused || now_ns() < my.next_try_ns) return false;
     my.next_try_ns = now_ns() + retry_ns;
+    if (is_connected) {
+        attach();
+        return my.is_attached;
+    }
     devices_closed(); /* (with the last connection; a descriptor may have come to the monitor instead, so that there are as many) */
     enum remote_found found = remote_connect(&my.remote, settings.socket);
     if (found == REMOTE_NONE) {
@@ -221,9 +236,11 @@ static bool connect_host(void) {
 
 /* ---- looks ---- */
 
+/* Prints what a look failed with: each status once, until many looks in turn have failed with nothing. */
 static void report_look(struct window_result result) {
-    bool is_news = result.status != my.trouble && result.status != WINDOW_OK;
-    my.trouble = result.status;
+    bool is_good = result.status == WINDOW_OK, is_news = !is_good && (my.printed >> result.status & 1) == 0;
+    my.good_looks = is_good ? my.good_looks + 1 : 0;
+    if (my.good_looks >= FORGET_LOOKS) my.printed = 0;
     if (result.status == WINDOW_LENDER_FAILED) {
         if (my.remote.socket < 0 && !my.was_reported) {
             log_line("the host at %s doesn't answer (%s); what is shared stays, and it is tried again each second",
@@ -233,6 +250,7 @@ static void report_look(struct window_result result) {
     } else if (is_news) {
         log_line("a look: %s%s%s", window_status_words(result.status), result.cause ? ": " : "",
                  result.cause ? strerror(result.cause) : "");
+        my.printed |= 1u << result.status;
     }
 }
 
