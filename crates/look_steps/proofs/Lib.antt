@@ -1,2 +1,4 @@
-mod Looked
-mod Rested
+mod Few
+mod Ordered
+mod Popped
+mod Stepped

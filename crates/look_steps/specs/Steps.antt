@@ -1,72 +1,60 @@
--- What a thread that looks at a window does next.
-use Rattle.std.specs.Prelude.{ℕ, zero, suc, Bool, false, nat_eq, if◌then◌else◌, List, [], ◌∷◌, Option, Some, None}
-use Rattle.idle_pages.specs.Rests.{is_left_out, left_out, looked}
-use Rattle.idle_pages.specs.declared.look.LookConfig.{LookConfig}
-use Rattle.idle_pages.specs.declared.look.PartRest.{PartRest}
-use Rattle.look_order.specs.Choices.{choice, chosen, heated}
-use Rattle.look_order.specs.declared.mark.PartMark.{PartMark}
+-- What a look comes to next.
+use Rattle.std.specs.Prelude.{ℕ, ◌+◌, ◌-◌, ◌^◌, min, Bool, ◌&&◌, nat_le, nat_lt, if◌then◌else◌, List, [], ◌∷◌, ◌++◌, length, take, Option, Some, None}
+use Rattle.look_steps.specs.declared.step.LookSteps.{LookSteps}
+use Rattle.look_steps.specs.declared.step.PartReturn.{PartReturn}
 use Rattle.look_steps.specs.declared.step.Step.{Step}
-use Rattle.look_steps.specs.declared.step.Step.TheVariants.{Wait, Look, LeaveOut, End}
-use Rattle.work_budget.specs.Budgets.{Ledger, settled, wait_of}
+use Rattle.look_steps.specs.declared.step.Step.TheVariants.{Look, Return, Over}
+use Rattle.look_steps.specs.declared.step.TheConstants.{MANY_YOUNG, RETURN_NS, RETURNS_MOST}
 
--- the thread's budget, and the parts' turns and rests
-pub record Looks : Type 0 where
-  pub ledger : Ledger
-  pub marks : List PartMark
-  pub rests : List PartRest
-  pub config : LookConfig
+-- where a look is: how many parts there are, which one comes next, and which ones it comes back to
+pub record Steps : Type 0 where
+  pub parts : ℕ
+  pub next_part : ℕ
+  pub returns : List PartReturn
 
--- a part that doesn't rest
-abbrev pub fresh : PartRest
-fresh = record { rest = 0; left = 0; own = 0; is_still = false }
+abbrev pub steps_of : LookSteps → Steps
+steps_of s = record { parts = s.parts; next_part = s.next_part; returns = take s.count s.returns }
 
--- this look leaves the part out
-abbrev pub is_out : List PartRest → ℕ → Bool
-is_out [] p = false
-is_out (r ∷ rs) zero = is_left_out r
-is_out (r ∷ rs) (suc p) = is_out rs p
+abbrev pub begun : ℕ → Steps
+begun parts = record { parts = parts; next_part = 0; returns = [] }
 
--- and then fewer do
-abbrev pub left_at : List PartRest → ℕ → List PartRest
-left_at [] p = []
-left_at (r ∷ rs) zero = left_out r ∷ rs
-left_at (r ∷ rs) (suc p) = r ∷ left_at rs p
+-- the first part to come back to, if it is time to
+abbrev pub due_part : List PartReturn → ℕ → Option ℕ
+due_part [] now = None
+due_part (r ∷ rs) now = if nat_le r.due_ns now then Some r.part else None
 
--- a look has found this in the part
-abbrev pub looked_at : LookConfig → List PartRest → ℕ → ℕ → ℕ → List PartRest
-looked_at config [] p changes own = []
-looked_at config (r ∷ rs) zero changes own = looked config r changes own ∷ rs
-looked_at config (r ∷ rs) (suc p) changes own = r ∷ looked_at config rs p changes own
+-- and the others
+abbrev pub without_due : List PartReturn → ℕ → List PartReturn
+without_due [] now = []
+without_due (r ∷ rs) now = if nat_le r.due_ns now then rs else r ∷ rs
 
--- its rest has ended
-abbrev pub woken_at : List PartRest → ℕ → List PartRest
-woken_at [] p = []
-woken_at (r ∷ rs) zero = record r { left = 0 } ∷ rs
-woken_at (r ∷ rs) (suc p) = r ∷ woken_at rs p
+abbrev pub after_due : Steps → ℕ → Steps
+after_due s now = record { parts = s.parts; next_part = s.next_part; returns = without_due s.returns now }
 
--- what is to be done with the part that was chosen
-abbrev pub part_step : Option ℕ → List PartRest → Step
-part_step None rests = End
-part_step (Some p) rests = if is_out rests p then LeaveOut p else Look p
+-- what comes next, and where the look is then, if this part is due, or none is
+abbrev pub step_by : Option ℕ → Steps → Step
+step_by None s = if nat_lt s.next_part s.parts then Look s.next_part else Over
+step_by (Some part) s = Return part
 
-abbrev pub rests_then : Option ℕ → List PartRest → List PartRest
-rests_then None rests = rests
-rests_then (Some p) rests = left_at rests p
+abbrev pub next_by : Option ℕ → Steps → ℕ
+next_by None s = if nat_lt s.next_part s.parts then s.next_part + 1 else s.next_part
+next_by (Some part) s = s.next_part
 
--- what the thread does next: it waits, if its budget says so, or else it goes on with the next part
-abbrev pub step_of : Looks → ℕ → ℕ → Step
-step_of s now spent = if nat_eq (wait_of (settled s.ledger now spent)) 0 then part_step (choice s.marks) s.rests else Wait (wait_of (settled s.ledger now spent))
+abbrev pub step_of : Steps → ℕ → Step
+step_of s now = step_by (due_part s.returns now) s
 
-abbrev pub stepped : Looks → ℕ → ℕ → Looks
-stepped s now spent = record {
-  ledger = settled s.ledger now spent;
-  marks = if nat_eq (wait_of (settled s.ledger now spent)) 0 then chosen s.marks (choice s.marks) else s.marks;
-  rests = if nat_eq (wait_of (settled s.ledger now spent)) 0 then rests_then (choice s.marks) s.rests else s.rests;
-  config = s.config;
-}
+abbrev pub stepped : Steps → ℕ → Steps
+stepped s now = record { parts = s.parts; next_part = next_by (due_part s.returns now) s; returns = without_due s.returns now }
 
-abbrev pub looked_then : Looks → ℕ → ℕ → ℕ → Looks
-looked_then s p changes own = record s { rests = looked_at s.config s.rests p changes own }
+-- the look comes back to a part that rests, if many of its pages may be idle soon, and while it comes back to few others
+abbrev pub is_added : Steps → Bool → ℕ → Bool
+is_added s rests young = rests && nat_le MANY_YOUNG young && nat_lt (length s.returns) RETURNS_MOST
 
-abbrev pub found_then : Looks → ℕ → Looks
-found_then s p = record s { marks = heated s.marks p; rests = woken_at s.rests p }
+abbrev pub return_to : ℕ → ℕ → PartReturn
+return_to part now = record { part = part; due_ns = min (now + RETURN_NS) (2 ^ 64 - 1) }
+
+abbrev pub added : Steps → ℕ → ℕ → Steps
+added s part now = record s { returns = s.returns ++ return_to part now ∷ [] }
+
+abbrev pub looked_then : Steps → ℕ → ℕ → Bool → ℕ → Steps
+looked_then s part now rests young = record s { returns = if is_added s rests young then (added s part now).returns else s.returns }

@@ -1,13 +1,24 @@
-//! That each part is looked at. The functions' bodies are empty: the contract is all there is.
-ghost use Rattle.look_steps.specs.Laws.{EachIsLookedAt, FoundIsAwake};
+//! That each part has its turn, once. The functions' bodies are empty: the contract is all there is.
+ghost use Rattle.look_steps.specs.Laws.{EachComesOnce, OverIsAll, NoneIsLost, ReturnsAreDue, ReturnsComeFirst, AllComeBack, ReturnsAreFew, NoneComesAtOnce};
 
-/// Whatever the clocks say and whatever looks find: each part is looked at within so many calls that return no wait. It is twice the number
-/// of parts, times one more than the looks that may leave the part out in a row.
+/// Whatever was asked and found, the look has come to the parts before the next one, each once and in order. Once it is over, it has come to
+/// all.
 pub fn each_law()
-    ensures { EachIsLookedAt }
+    ensures once { EachComesOnce }
+    ensures all { OverIsAll }
 {}
 
-/// A part where something to be shared was found isn't left out before it is looked at.
-pub fn found_law()
-    ensures { FoundIsAwake }
+/// The look comes back to a part only if it was to, and only when it is time; to those first that were added first. None is lost. By a clock
+/// that never goes back, no part comes while it is time to come back to another one. And once it is time for all, all of them come.
+pub fn return_law()
+    ensures kept { NoneIsLost }
+    ensures due { ReturnsAreDue }
+    ensures first { ReturnsComeFirst }
+    ensures all { AllComeBack }
+{}
+
+/// It comes back to 64 parts at most at a time. And while the clock stands no more returns come than there were before, so the next part comes.
+pub fn few_law()
+    ensures few { ReturnsAreFew }
+    ensures still { NoneComesAtOnce }
 {}

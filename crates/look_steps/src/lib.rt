@@ -1,10 +1,8 @@
-//! What the thread that looks at the parts of a window does next: wait, look at a part, leave one out, or begin another look.
+//! Which part of a window a look comes to next: the parts from the first to the last, and again those where pages may be idle soon.
 #![tactic(auto)]
 
 pub mod laws;
-mod looks;
-mod rests;
 mod step;
+mod steps;
 
-pub use looks::WindowLooks;
-pub use step::Step;
+pub use step::{LookSteps, MANY_YOUNG, PartReturn, RETURN_NS, RETURNS_MOST, Step};

@@ -1,7 +1,6 @@
-//! Traces of windows, lenders of one page and of a window beside the protocol of windows, the budget of their thread, its looks and
-//! their order, the mappings that windows take, and the ranges that become windows. It is by the public calls of `page_lender`,
-//! `window_lender`, `window_events`, `work_budget`, `idle_pages`, `look_order`, `look_steps`, `mapping_room` and `offered_ranges`. This
-//! crate has only tests.
+//! Traces of windows, lenders of one page and of a window beside the protocol of windows, the budget of their thread, its looks, the
+//! mappings that windows take, and the ranges that become windows. It is by the public calls of `page_lender`, `window_lender`,
+//! `window_events`, `work_budget`, `idle_pages`, `look_steps`, `mapping_room` and `offered_ranges`. This crate has only tests.
 #![tactic(auto)]
 
 #[cfg(test)]
@@ -18,8 +17,6 @@ mod lives;
 mod moves;
 #[cfg(test)]
 mod numbers;
-#[cfg(test)]
-mod orders;
 #[cfg(test)]
 mod parts;
 #[cfg(test)]

@@ -1,5 +1,8 @@
-use Rattle.look_steps.proofs.Looked.{each_is_looked_at}
+use Rattle.look_steps.proofs.Stepped.{each_comes_once, over_is_all}
 use Rattle.look_steps.proofs.laws.each_law.Goals as goal
 
-pub returns : goal.returns
-returns c = each_is_looked_at
+pub returns-clause-once : goal.returns-clause-once
+returns-clause-once c = each_comes_once
+
+pub returns-clause-all : goal.returns-clause-all
+returns-clause-all c = over_is_all

@@ -1,5 +1,0 @@
-pub mod Chosen
-mod Cleared
-mod Hinted
-pub mod Marked
-pub mod Turned
