@@ -1,4 +1,6 @@
 mod Alike
 mod Rested
+mod Sampled
+mod Stayed
 mod Turned
 mod Went

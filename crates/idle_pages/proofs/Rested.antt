@@ -1,31 +1,38 @@
--- Rests end.
-use Rattle.std.proofs.Common.{◌≡◌, ℕ, zero, suc, ◌+◌, ◌*◌, ◌≤◌, Bool, true, false, cond, not, ap, arith}
-use Rattle.std.specs.Prelude.{min, nat_eq}
-use Rattle.std.proofs.lemmas.Bool.{lt-leb}
+-- What a rest is.
+use Rattle.std.proofs.Common.{◌≡◌, ◌∙◌, ℕ, ◌+◌, ◌-◌, ◌%◌, ◌≤◌, Bool, true, false, cond, [], ◌∷◌, ap, arith}
+use Rattle.std.specs.Prelude.{nat_eq}
+use Rattle.std.proofs.lemmas.Bool.{lt-leb, eq-eqb}
 use Rattle.idle_pages.specs.declared.look.LookConfig.{LookConfig}
-use Rattle.idle_pages.specs.declared.look.PartRest.{PartRest}
-use Rattle.idle_pages.specs.Rests.{is_left_out, left_out, is_calm, rest_then, looked, after_looks, RestsEnd, ChangesAreSeen}
+use Rattle.idle_pages.specs.declared.look.PartLooks.{PartLooks}
+use Rattle.idle_pages.specs.Rests.{is_calm, longer, rest_then, finds, wakes, turned, RestsWithin, ChangesEndRests, AllAreSampled, EachIsGlancedAt}
+use Rattle.idle_pages.proofs.Sampled.{each_is_sampled}
+use Rattle.idle_pages.proofs.Went.{idle_is_glanced_at}
 
--- each of these looks takes one from what is left
-left_after : (n : ℕ) (p : PartRest) → p.left ≤ n → (after_looks n p).left ≡ 0
-left_after zero p h = omega arith
-left_after (suc n) p h = left_after n (left_out p) (omega (arith, h))
-
-none_left : (p : PartRest) → p.left ≡ 0 → is_left_out p ≡ false
-none_left p e = ap (λ k. not (nat_eq k 0)) e
-
-rest_at_most : (config : LookConfig) (p : PartRest) (changes own : ℕ) → rest_then config p changes own ≤ config.rest_most
-rest_at_most config p changes own = pick (is_calm config p changes own) where
-  pick : (b : Bool) → cond b (min (p.rest * 2 + 1) config.rest_most) 0 ≤ config.rest_most
+rest_within : (config : LookConfig) (part : PartLooks) (calm : Bool) → part.rest ≤ config.rest_most → (rest_then config part calm).0 ≤ config.rest_most
+rest_within config part false h = omega arith
+rest_within config part true h = pick (nat_eq part.left 0) where
+  pick : (b : Bool) → (cond {A = ℕ × ℕ} b (longer part.rest config.rest_most, longer part.rest config.rest_most) (part.rest, part.left - 1)).0 ≤ config.rest_most
   pick true = omega arith
-  pick false = omega arith
+  pick false = h
 
-pub rests_end : RestsEnd
-rests_end config p changes own n h =
-    let most : rest_then config p changes own ≤ config.rest_most = rest_at_most config p changes own in
-    none_left (after_looks n (looked config p changes own)) (left_after n (looked config p changes own) (omega (arith, most, h)))
+pub rests_within : RestsWithin
+rests_within config part [] h = h
+rests_within config part (finds changes own ∷ xs) h =
+    rest_within config (turned config part xs) (is_calm (turned config part xs) changes own) (rests_within config part xs h)
+rests_within config part (wakes ∷ xs) h = omega arith
 
-pub changes_are_seen : ChangesAreSeen
-changes_are_seen config p changes own h =
-    let not_calm : is_calm config p changes own ≡ false = lt-leb _ _ h in
-    none_left (looked config p changes own) (ap (λ b. cond b (min (p.rest * 2 + 1) config.rest_most) 0) not_calm)
+pub changes_end_rests : ChangesEndRests
+changes_end_rests config part changes own h =
+    let not_calm : is_calm part changes own ≡ false = lt-leb _ _ h in
+    ap (λ b. (rest_then config part b).0) not_calm
+
+by_one : (n : ℕ) → n % 1 ≡ 0
+by_one n = omega arith
+
+pub all_are_sampled : AllAreSampled
+all_are_sampled part look number e = eq-eqb _ _ (ap (λ r. (look + number) % (r + 1)) e ∙ by_one (look + number))
+
+pub each_is_glanced_at : EachIsGlancedAt
+each_is_glanced_at config part p look number i =
+    let s = each_is_sampled part look number in
+    (s.0, (s.1.0, (s.1.1, idle_is_glanced_at config part p (look + s.0) number i s.1.1)))

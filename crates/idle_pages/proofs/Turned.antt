@@ -1,12 +1,14 @@
 -- Each page has its turn.
-use Rattle.std.proofs.Common.{◌≡◌, ◌∙◌, ℕ, zero, suc, ◌+◌, ◌-◌, ◌*◌, ◌/◌, ◌%◌, ◌<◌, ◌≤◌, Bool, true, false, cond, refl, ap, arith}
-use Rattle.std.specs.Prelude.{max, nat_eq, nat_le, ◌&&◌}
+use Rattle.std.proofs.Common.{◌≡◌, ◌∙◌, ℕ, zero, suc, ◌+◌, ◌-◌, ◌*◌, ◌/◌, ◌%◌, ◌<◌, ◌≤◌, Bool, true, false, cond, not, refl, ap, arith}
+use Rattle.std.specs.Prelude.{max, nat_eq, nat_lt, ◌&&◌}
 use Rattle.std.proofs.lemmas.Bool.{eq-eqb}
 use Rattle.std.proofs.Math.Nat.{add-mul, add-mul-div_right, add-mul-mod_self_right, mod-eq_of_lt, mod-lt, mod-eq-sub-div-mul, div-mul-le_self}
 use Rattle.idle_pages.specs.declared.look.LookConfig.{LookConfig}
 use Rattle.idle_pages.specs.declared.look.PageLooks.{PageLooks}
-use Rattle.idle_pages.specs.declared.look.TheConstants.{STILL, ASKS_MOST}
-use Rattle.idle_pages.specs.Turns.{power, longest_apart, looks_apart, turn_at, EachHasItsTurn}
+use Rattle.idle_pages.specs.declared.look.PartLooks.{PartLooks}
+use Rattle.idle_pages.specs.declared.look.TheConstants.{WHOLE_TURNS, TOGETHER, PASSING_LOOKS, PASSING_EACH}
+use Rattle.idle_pages.specs.Idle.{is_again}
+use Rattle.idle_pages.specs.Turns.{power, turns_of, idle_apart, looks_apart, turn_at, EachHasItsTurn, EachIsNoted}
 
 -- from a number on, one of so many is divided by it
 whole : (q a : ℕ) → 1 ≤ a → (q * a + a) % a ≡ 0
@@ -27,21 +29,50 @@ found at a h = pick (at % a) refl where
       let sum : at + (a - suc r) ≡ at / a * a + a = omega (arith, below, rest, under, e) in
       (a - suc r, (omega (arith, h), ap (λ n. n % a) sum ∙ whole (at / a) a h))
 
-pub apart_some : (config : LookConfig) (p : PageLooks) (rest : ℕ) (whole : Bool) → 1 ≤ looks_apart config p rest whole
-apart_some config p rest whole = pick (nat_eq p.looks 0) where
-  pick : (b : Bool) → 1 ≤ cond b 1 (max ((cond (nat_le STILL p.looks && nat_le ASKS_MOST p.asks) (longest_apart config whole) (power p.asks)) / (rest + 1)) 1)
+pub idle_some : (config : LookConfig) (part : PartLooks) → 1 ≤ idle_apart config part
+idle_some config part = pick part.whole where
+  pick : (w : Bool) → 1 ≤ max (cond w (turns_of config * WHOLE_TURNS) (turns_of config)) (part.rest + 1)
   pick true = omega arith
   pick false = omega arith
 
-pub later : (look k rest row : ℕ) → (look + k * (rest + 1)) / (rest + 1) + row ≡ look / (rest + 1) + row + k
-later look k rest row =
-    let moved : (look + k * (rest + 1)) / (rest + 1) ≡ look / (rest + 1) + k = add-mul-div_right look k {z = rest + 1} (omega arith) in
-    omega (arith, moved)
+power_some : (asks : ℕ) → 1 ≤ power asks
+power_some asks = pick (nat_eq asks 0) (nat_eq asks 1) (nat_eq asks 2) where
+  pick : (a b c : Bool) → 1 ≤ cond a 1 (cond b 2 (cond c 4 8))
+  pick true b c = omega arith
+  pick false true c = omega arith
+  pick false false true = omega arith
+  pick false false false = omega arith
+
+pub apart_some : (config : LookConfig) (part : PartLooks) (p : PageLooks) → 1 ≤ looks_apart config part p
+apart_some config part p = pick (nat_eq p.looks 0) (is_again p) where
+  pick : (b c : Bool) → 1 ≤ cond b 1 (cond c (idle_apart config part) (power p.asks))
+  pick true c = omega arith
+  pick false true = idle_some config part
+  pick false false = power_some p.asks
+
+pub later : (look k row : ℕ) → look + k + row ≡ look + row + k
+later look k row = omega arith
 
 pub each_has_its_turn : EachHasItsTurn
-each_has_its_turn config p rest whole look number =
-    let at : ℕ = turn_at config rest look number in
-    let a : ℕ = looks_apart config p rest whole in
-    let f = found at a (apart_some config p rest whole) in
-    let moved : turn_at config rest (look + f.0 * (rest + 1)) number ≡ at + f.0 = later look f.0 rest (number / max config.together 1) in
-    (f.0, (f.1.0, eq-eqb _ _ (ap (λ n. n % a) moved ∙ f.1.1)))
+each_has_its_turn config part p look number =
+    let a : ℕ = looks_apart config part p in
+    let f = found (turn_at look number) a (apart_some config part p) in
+    (f.0, (f.1.0, eq-eqb _ _ (ap (λ n. n % a) (later look f.0 (number / TOGETHER)) ∙ f.1.1)))
+
+-- a row of looks later
+rows_on : (look k row : ℕ) → (look + k * 8) / 8 + row ≡ look / 8 + row + k
+rows_on look k row =
+    let moved : (look + k * 8) / 8 ≡ look / 8 + k = add-mul-div_right look k {z = 8} (omega arith) in
+    omega (arith, moved)
+
+pub each_is_noted : EachIsNoted
+each_is_noted part p look number =
+    let f = found (look / PASSING_LOOKS + number / TOGETHER) 4 (omega arith) in
+    let moved : ((look + f.0 * 8) / PASSING_LOOKS + number / TOGETHER) % PASSING_EACH ≡ 0 = ap (λ n. n % 4) (rows_on look f.0 (number / TOGETHER)) ∙ f.1.1 in
+    let noted : nat_eq (((look + f.0 * 8) / PASSING_LOOKS + number / TOGETHER) % PASSING_EACH) 0 ≡ true = eq-eqb _ _ moved in
+    (f.0 * 8, (omega (arith, f.1.0), ap (λ b. part.whole && nat_lt 0 p.asks && not b) noted ∙ off part.whole (nat_lt 0 p.asks)))
+  where
+    off : (a b : Bool) → (a && b && false) ≡ false
+    off true true = refl
+    off true false = refl
+    off false b = refl

@@ -1,57 +1,95 @@
 -- What a look does with a page.
 use Rattle.std.proofs.Common.{◌≡◌, ◌∙◌, ℕ, ◌+◌, ◌-◌, ◌*◌, ◌/◌, ◌%◌, ◌≤◌, Bool, true, false, cond, not, ◌&&◌, refl, ap, sym, arith}
-use Rattle.std.specs.Prelude.{max, nat_eq, nat_le}
+use Rattle.std.specs.Prelude.{nat_eq}
 use Rattle.std.proofs.lemmas.Bool.{eq-eqb}
 use Rattle.std.proofs.Math.Nat.{mul-mod_left, mul-div_left, mod-eq-sub-div-mul, div-mul-le_self, mul_assoc, mul_comm, mul-le-mul}
-use Rattle.idle_pages.specs.declared.look.Glance.{Glance}
-use Rattle.idle_pages.specs.declared.look.LookConfig.{LookConfig}
+use Rattle.idle_pages.specs.declared.look.Act.{Act}
+use Rattle.idle_pages.specs.declared.look.Act.TheVariants.{Pass, Meet, Keep, Read}
 use Rattle.idle_pages.specs.declared.look.PageLooks.{PageLooks}
-use Rattle.idle_pages.specs.declared.look.Way.TheVariants.{Pass, Keep, Read}
+use Rattle.idle_pages.specs.declared.look.PartLooks.{PartLooks}
+use Rattle.idle_pages.specs.declared.look.TheConstants.{READ_EACH_OVER, TOGETHER}
+use Rattle.idle_pages.specs.Idle.{is_again}
 use Rattle.idle_pages.specs.Turns.{turn_at, looks_apart, has_turn}
-use Rattle.idle_pages.specs.declared.look.TheConstants.{STILL, ASKS_MOST}
-use Rattle.idle_pages.specs.Ways.{is_last, has_changed, read_each, way, ChangesAreRead, KeptIsIdle, EachIsRead}
+use Rattle.idle_pages.specs.Ways.{read_each, is_kept, turn_of, act_of, glances, way, ChangesAreMet, IdleIsGlancedAt, GlancesBeforeReads, OverIsNeverMet, KeptIsIdle, NewIsMet, EachIsRead}
+use Rattle.idle_pages.proofs.Sampled.{idle_is_not_new, again_is_idle}
 use Rattle.idle_pages.proofs.Turned.{found, apart_some, later}
 
-pub changes_are_read : ChangesAreRead
-changes_are_read config p rest whole glance look number c =
-    ap (λ b. cond b Read (cond (not (has_turn config p rest whole look number)) Pass (cond (nat_eq (turn_at config rest look number / looks_apart config p rest whole % read_each config p glance) 0) Read Keep))) c
+pub changes_are_met : ChangesAreMet
+changes_are_met w e = ap (λ b. cond (b && true) Meet w.act) e
 
--- any number is divided by one
-by_one : (n : ℕ) → n % 1 ≡ 0
-by_one n = omega arith
+-- what comes of a look, by what it depends on
+abbrev pub acts : Bool → Bool → Bool → Act
+acts fresh turn kept = cond fresh Meet (cond (not turn) Pass (cond kept Keep Read))
 
-never : (b i : Bool) → cond (not b) Pass Read ≡ Keep → i ≡ true
-never true i h = cc
-never false i h = cc
+pub idle_is_glanced_at : IdleIsGlancedAt
+idle_is_glanced_at config part p look number i s =
+    let old : (nat_eq p.looks 0 && true) ≡ false = ap (λ b. b && true) (idle_is_not_new p.looks i) in
+    pick (nat_eq p.looks 0 && true) (has_turn config part p look number) (is_kept part p false (turn_of config part p look number)) old where
+      pick : (fresh turn kept : Bool) → fresh ≡ false → glances part p (acts fresh turn kept) look number ≡ true
+      pick true turn kept e = cc
+      pick false false kept e = i
+      pick false true true e = s
+      pick false true false e = refl
+
+reads_glance : (part : PartLooks) (p : PageLooks) (look number : ℕ) (a : Act) → a ≡ Read → glances part p a look number ≡ true
+reads_glance part p look number Pass e = cc
+reads_glance part p look number Meet e = cc
+reads_glance part p look number Keep e = cc
+reads_glance part p look number Read e = refl
+
+pub glances_before_reads : GlancesBeforeReads
+glances_before_reads config part p look number e = reads_glance part p look number (act_of config part p false look number) e
+
+-- over a frame a page is never new
+over_acts : (b turn kept : Bool) → acts (b && false) turn kept ≡ Meet → ⊥
+over_acts true false kept e = cc
+over_acts true true true e = cc
+over_acts true true false e = cc
+over_acts false false kept e = cc
+over_acts false true true e = cc
+over_acts false true false e = cc
+
+pub over_is_never_met : OverIsNeverMet
+over_is_never_met config part p look number same =
+    (refl, λ e. over_acts (nat_eq p.looks 0) (has_turn config part p look number) (is_kept part p true (turn_of config part p look number)) e)
+
+keeps_by : (fresh turn kept glance same : Bool) → cond (glance && not same) Meet (acts fresh turn kept) ≡ Keep → kept ≡ true
+keeps_by fresh turn true glance same e = refl
+keeps_by true turn false true true e = cc
+keeps_by true turn false true false e = cc
+keeps_by true turn false false same e = cc
+keeps_by false true false true true e = cc
+keeps_by false true false true false e = cc
+keeps_by false true false false same e = cc
+keeps_by false false false true true e = cc
+keeps_by false false false true false e = cc
+keeps_by false false false false same e = cc
+
+and_left : (a b : Bool) → (a && b) ≡ true → a ≡ true
+and_left true b e = refl
+and_left false b e = e
 
 pub kept_is_idle : KeptIsIdle
-kept_is_idle config p rest whole glance look number e = pick (nat_le STILL p.looks) refl where
-  t : ℕ
-  t = turn_at config rest look number / looks_apart config p rest whole
+kept_is_idle config part p over look number same e =
+    let kept = keeps_by (nat_eq p.looks 0 && not over) (has_turn config part p look number) (is_kept part p over (turn_of config part p look number)) (way config part p over look number).glances same e in
+    again_is_idle p (and_left (is_again p) _ kept)
 
-  -- a page that isn't idle is read at each of its turns
-  reads : (i : Bool) → nat_le STILL p.looks ≡ i → i ≡ false → way config p rest whole glance look number ≡ Keep → i ≡ true
-  reads i f g k =
-      let none : has_changed p glance ≡ false = ap (λ b. b && not glance.is_over && glance.differs) (f ∙ g) in
-      let first : is_last p ≡ false = ap (λ b. b && nat_le ASKS_MOST p.asks) (f ∙ g) in
-      let one : read_each config p glance ≡ 1 = ap (λ b. cond (not b) 1 (cond (not glance.is_over) (max config.read_each 1) (cond glance.is_still (max config.read_each_over 1) 1))) first in
-      let whole_turn : nat_eq (t % read_each config p glance) 0 ≡ true = ap (λ n. nat_eq (t % n) 0) one ∙ eq-eqb _ _ (by_one t) in
-      let is : way config p rest whole glance look number ≡ cond (not (has_turn config p rest whole look number)) Pass Read =
-      ap (λ b. cond b Read (cond (not (has_turn config p rest whole look number)) Pass (cond (nat_eq (t % read_each config p glance) 0) Read Keep))) none
-      ∙ ap (λ b. cond (not (has_turn config p rest whole look number)) Pass (cond b Read Keep)) whole_turn in
-      never (has_turn config p rest whole look number) i (sym is ∙ k)
+pub new_is_met : NewIsMet
+new_is_met config part p look number same e =
+    let fresh : (nat_eq p.looks 0 && true) ≡ true = ap (λ n. nat_eq n 0 && true) e in
+    pick (nat_eq p.looks 0 && true) fresh where
+      pick : (b : Bool) → b ≡ true →
+          cond (glances part p (acts b (has_turn config part p look number) (is_kept part p false (turn_of config part p look number))) look number && not same) Meet
+          (acts b (has_turn config part p look number) (is_kept part p false (turn_of config part p look number))) ≡ Meet
+      pick true f = refl
+      pick false f = cc
 
-  pick : (i : Bool) → nat_le STILL p.looks ≡ i → i ≡ true
-  pick true f = refl
-  pick false f = reads false f refl e
-
-each_some : (config : LookConfig) (p : PageLooks) (glance : Glance) → 1 ≤ read_each config p glance
-each_some config p glance = pick (not (is_last p)) (not glance.is_over) glance.is_still where
-  pick : (a b c : Bool) → 1 ≤ cond a 1 (cond b (max config.read_each 1) (cond c (max config.read_each_over 1) 1))
-  pick true b c = omega arith
-  pick false true c = omega arith
-  pick false false true = omega arith
-  pick false false false = omega arith
+each_some : (part : PartLooks) (over : Bool) → 1 ≤ read_each part over
+each_some part false = omega arith
+each_some part true = pick part.is_still where
+  pick : (b : Bool) → 1 ≤ cond b READ_EACH_OVER 1
+  pick true = omega arith
+  pick false = omega arith
 
 -- what a product divides, both of its factors divide, one after the other
 in_turn : (n a e : ℕ) → 1 ≤ a → n % (a * e) ≡ 0 → (q : ℕ) × (n ≡ q * e * a)
@@ -71,20 +109,26 @@ product_some : (a e : ℕ) → 1 ≤ a → 1 ≤ e → 1 ≤ a * e
 product_some a e h k = mul-le-mul {n₁ = 1} {m₁ = 1} {n₂ = a} {m₂ = e} h k
 
 pub each_is_read : EachIsRead
-each_is_read config p rest whole glance look number =
-    let at : ℕ = turn_at config rest look number in
-    let a : ℕ = looks_apart config p rest whole in
-    let e : ℕ = read_each config p glance in
-    let some : 1 ≤ a = apart_some config p rest whole in
-    let f = found at (a * e) (product_some a e some (each_some config p glance)) in
-    let moved : turn_at config rest (look + f.0 * (rest + 1)) number ≡ at + f.0 = later look f.0 rest (number / max config.together 1) in
+each_is_read config part p over look number old =
+    let at : ℕ = turn_at look number in
+    let a : ℕ = looks_apart config part p in
+    let e : ℕ = read_each part over in
+    let some : 1 ≤ a = apart_some config part p in
+    let f = found at (a * e) (product_some a e some (each_some part over)) in
+    let moved : turn_at (look + f.0) number ≡ at + f.0 = later look f.0 (number / TOGETHER) in
     let q = in_turn (at + f.0) a e some f.1.1 in
-    let turn : has_turn config p rest whole (look + f.0 * (rest + 1)) number ≡ true = eq-eqb _ _ (ap (λ n. n % a) moved ∙ turn_is (at + f.0) a q.0 e some q.1) in
-    let reads : nat_eq (turn_at config rest (look + f.0 * (rest + 1)) number / a % e) 0 ≡ true = eq-eqb _ _ (ap (λ n. n / a % e) moved ∙ read_is (at + f.0) a q.0 e some q.1) in
-    (f.0, (f.1.0, pick (has_changed p glance) (has_turn config p rest whole (look + f.0 * (rest + 1)) number) (nat_eq (turn_at config rest (look + f.0 * (rest + 1)) number / a % e) 0) turn reads))
+    let turn : has_turn config part p (look + f.0) number ≡ true = eq-eqb _ _ (ap (λ n. n % a) moved ∙ turn_is (at + f.0) a q.0 e some q.1) in
+    let reads : nat_eq (turn_at (look + f.0) number / a % e) 0 ≡ true = eq-eqb _ _ (ap (λ n. n / a % e) moved ∙ read_is (at + f.0) a q.0 e some q.1) in
+    let kept : is_kept part p over (turn_of config part p (look + f.0) number) ≡ false = ap (λ b. is_again p && not b) reads ∙ none (is_again p) in
+    (f.0, (f.1.0, pick (nat_eq p.looks 0 && not over) (has_turn config part p (look + f.0) number) (is_kept part p over (turn_of config part p (look + f.0) number)) (way config part p over (look + f.0) number).glances old turn kept))
   where
-    pick : (c t r : Bool) → t ≡ true → r ≡ true → cond c Read (cond (not t) Pass (cond r Read Keep)) ≡ Read
-    pick true t r g h = refl
-    pick false true true g h = refl
-    pick false true false g h = cc
-    pick false false r g h = cc
+    none : (b : Bool) → (b && false) ≡ false
+    none true = refl
+    none false = refl
+
+    pick : (fresh turn kept glance : Bool) → fresh ≡ false → turn ≡ true → kept ≡ false → cond (glance && false) Meet (acts fresh turn kept) ≡ Read
+    pick true turn kept glance f t k = cc
+    pick false false kept glance f t k = cc
+    pick false true true glance f t k = cc
+    pick false true false true f t k = refl
+    pick false true false false f t k = refl

@@ -1,40 +1,67 @@
--- Which looks leave a part out: where next to nothing changes, fewer looks look.
-use Rattle.std.specs.Prelude.{◌≡◌, ℕ, zero, suc, ◌+◌, ◌-◌, ◌*◌, ◌<◌, ◌≤◌, min, Bool, false, not, nat_eq, nat_le, if◌then◌else◌}
+-- Where next to nothing changes a look takes only some of the idle pages. They are fewer if that holds on.
+use Rattle.std.specs.Prelude.{◌≡◌, ℕ, ◌+◌, ◌-◌, ◌*◌, ◌<◌, ◌≤◌, min, Bool, true, false, not, nat_eq, nat_le, if◌then◌else◌, List, [], ◌∷◌}
 use Rattle.idle_pages.specs.declared.look.LookConfig.{LookConfig}
-use Rattle.idle_pages.specs.declared.look.PartRest.{PartRest}
-
--- the look leaves the part out
-abbrev pub is_left_out : PartRest → Bool
-is_left_out p = not (nat_eq p.left 0)
-
--- the part after a look that does, or doesn't
-abbrev pub left_out : PartRest → PartRest
-left_out p = record p { left = p.left - 1 }
+use Rattle.idle_pages.specs.declared.look.PageLooks.{PageLooks}
+use Rattle.idle_pages.specs.declared.look.PartLooks.{PartLooks}
+use Rattle.idle_pages.specs.declared.look.TheConstants.{CALM_PART}
+use Rattle.idle_pages.specs.Idle.{is_idle}
+use Rattle.idle_pages.specs.Samples.{is_in_sample}
+use Rattle.idle_pages.specs.Ways.{way}
 
 -- pages that have changed, and those that have memory of their own since
-abbrev pub changes_of : PartRest → ℕ → ℕ → ℕ
-changes_of p changes own = changes + (own - p.own)
+abbrev pub changes_of : PartLooks → ℕ → ℕ → ℕ
+changes_of part changes own = changes + (own - part.own)
 
 -- next to nothing has changed
-abbrev pub is_calm : LookConfig → PartRest → ℕ → ℕ → Bool
-is_calm config p changes own = nat_le (changes_of p changes own * config.calm_part) own
+abbrev pub is_calm : PartLooks → ℕ → ℕ → Bool
+is_calm part changes own = nat_le (changes_of part changes own * CALM_PART) own
 
--- how many looks leave the part out then: twice as many and one more, while it is calm
-abbrev pub rest_then : LookConfig → PartRest → ℕ → ℕ → ℕ
-rest_then config p changes own = if is_calm config p changes own then min (p.rest * 2 + 1) config.rest_most else 0
+abbrev pub longer : ℕ → ℕ → ℕ
+longer rest most = min (rest * 2 + 1) most
 
-abbrev pub looked : LookConfig → PartRest → ℕ → ℕ → PartRest
-looked config p changes own = record { rest = rest_then config p changes own; left = rest_then config p changes own; own = own; is_still = nat_eq (changes_of p changes own) 0 }
+-- Idle pages that are left out then for each that is taken, and looks until they may be more: as many, so that each page was taken before.
+abbrev pub rest_then : LookConfig → PartLooks → Bool → ℕ × ℕ
+rest_then config part calm =
+    if not calm then (0, 0)
+    else (if nat_eq part.left 0 then (longer part.rest config.rest_most, longer part.rest config.rest_most) else (part.rest, part.left - 1))
 
--- after so many looks that left it out
-abbrev pub after_looks : ℕ → PartRest → PartRest
-after_looks zero p = p
-after_looks (suc n) p = after_looks n (left_out p)
+abbrev pub found_then : LookConfig → PartLooks → ℕ → ℕ → PartLooks
+found_then config part changes own = record {
+  whole = part.whole;
+  rest = (rest_then config part (is_calm part changes own)).0;
+  left = (rest_then config part (is_calm part changes own)).1;
+  own = own;
+  is_still = nat_eq (changes_of part changes own) 0;
+}
 
--- After as many looks as the config has at most none leaves the part out any more.
-abbrev pub RestsEnd : Type 0
-RestsEnd = (config : LookConfig) (p : PartRest) (changes own n : ℕ) → config.rest_most ≤ n → is_left_out (after_looks n (looked config p changes own)) ≡ false
+abbrev pub woken : PartLooks → PartLooks
+woken part = record part { rest = 0; left = 0 }
 
--- Where more than next to nothing has changed the next look looks.
-abbrev pub ChangesAreSeen : Type 0
-ChangesAreSeen = (config : LookConfig) (p : PartRest) (changes own : ℕ) → own < changes_of p changes own * config.calm_part → is_left_out (looked config p changes own) ≡ false
+-- what happens to a part
+pub data Turned : Type 0 where
+  finds : (changes own : ℕ) → Turned
+  wakes : Turned
+
+-- the part after all this, of which the latest is the first
+abbrev pub turned : LookConfig → PartLooks → List Turned → PartLooks
+turned config part [] = part
+turned config part (finds changes own ∷ xs) = found_then config (turned config part xs) changes own
+turned config part (wakes ∷ xs) = woken (turned config part xs)
+
+-- A look leaves out at most as many idle pages for each as the config says.
+abbrev pub RestsWithin : Type 0
+RestsWithin = (config : LookConfig) (part : PartLooks) (xs : List Turned) → part.rest ≤ config.rest_most → (turned config part xs).rest ≤ config.rest_most
+
+-- Where more than next to nothing has changed the next look leaves none out.
+abbrev pub ChangesEndRests : Type 0
+ChangesEndRests = (config : LookConfig) (part : PartLooks) (changes own : ℕ) → own < changes_of part changes own * CALM_PART → (found_then config part changes own).rest ≡ 0
+
+-- Where no page is left out each page is in the sample of each look.
+abbrev pub AllAreSampled : Type 0
+AllAreSampled = (part : PartLooks) (look number : ℕ) → part.rest ≡ 0 → is_in_sample part look number ≡ true
+
+-- Where a part rests, from each look on, an idle page with memory of its own is glanced at within one look more than pages are left out.
+abbrev pub EachIsGlancedAt : Type 0
+EachIsGlancedAt =
+    (config : LookConfig) (part : PartLooks) (p : PageLooks) (look number : ℕ) → is_idle p ≡ true →
+    (k : ℕ) × ((k < part.rest + 1) × ((is_in_sample part (look + k) number ≡ true) × ((way config part p false (look + k) number).glances ≡ true)))

@@ -1,33 +1,51 @@
--- Which looks read a page, or ask about it.
-use Rattle.std.specs.Prelude.{◌≡◌, ℕ, ◌+◌, ◌*◌, ◌/◌, ◌%◌, ◌<◌, max, Bool, true, ◌&&◌, nat_eq, nat_le, if◌then◌else◌}
+-- Which looks ask about a page, or read it.
+use Rattle.std.specs.Prelude.{◌≡◌, ℕ, ◌+◌, ◌*◌, ◌/◌, ◌%◌, ◌<◌, max, Bool, true, false, not, ◌&&◌, nat_eq, nat_lt, if◌then◌else◌}
 use Rattle.idle_pages.specs.declared.look.LookConfig.{LookConfig}
 use Rattle.idle_pages.specs.declared.look.PageLooks.{PageLooks}
-use Rattle.idle_pages.specs.declared.look.TheConstants.{STILL, ASKS_MOST}
+use Rattle.idle_pages.specs.declared.look.PartLooks.{PartLooks}
+use Rattle.idle_pages.specs.declared.look.TheConstants.{TURNS, WHOLE_TURNS, TOGETHER, PASSING_LOOKS, PASSING_EACH}
+use Rattle.idle_pages.specs.Idle.{is_again}
 
 -- how many looks apart a page is asked about that was asked about so often in vain
 abbrev pub power : ℕ → ℕ
 power asks = if nat_eq asks 0 then 1 else (if nat_eq asks 1 then 2 else (if nat_eq asks 2 then 4 else 8))
 
--- and at most
-abbrev pub longest_apart : LookConfig → Bool → ℕ
-longest_apart config whole =
-    if whole then (if nat_eq config.turns 0 then 8 else config.turns) * config.whole_turns else (if nat_eq config.turns 0 then 8 else config.turns)
+-- and at most, in a part that isn't whole
+abbrev pub turns_of : LookConfig → ℕ
+turns_of config = if nat_eq config.turns 0 then TURNS else config.turns
 
--- Of so many looks that didn't leave the page's part out one reads the page. Those that left it out count.
-abbrev pub looks_apart : LookConfig → PageLooks → ℕ → Bool → ℕ
-looks_apart config p rest whole =
-    if nat_eq p.looks 0 then 1
-    else max ((if nat_le STILL p.looks && nat_le ASKS_MOST p.asks then longest_apart config whole else power p.asks) / (rest + 1)) 1
+-- Of so many looks one asks again about an idle page that was asked about most often. Where a part rests they are no fewer than it takes to
+-- glance at each of its pages.
+abbrev pub idle_apart : LookConfig → PartLooks → ℕ
+idle_apart config part = max (if part.whole then turns_of config * WHOLE_TURNS else turns_of config) (part.rest + 1)
+
+-- of so many looks one is the page's turn
+abbrev pub looks_apart : LookConfig → PartLooks → PageLooks → ℕ
+looks_apart config part p = if nat_eq p.looks 0 then 1 else (if is_again p then idle_apart config part else power p.asks)
 
 -- which turn a look is for a page: pages in a row have their turns together
-abbrev pub turn_at : LookConfig → ℕ → ℕ → ℕ → ℕ
-turn_at config rest look number = look / (rest + 1) + number / max config.together 1
+abbrev pub turn_at : ℕ → ℕ → ℕ
+turn_at look number = look + number / TOGETHER
 
-abbrev pub has_turn : LookConfig → PageLooks → ℕ → Bool → ℕ → ℕ → Bool
-has_turn config p rest whole look number = nat_eq (turn_at config rest look number % looks_apart config p rest whole) 0
+abbrev pub has_turn : LookConfig → PartLooks → PageLooks → ℕ → ℕ → Bool
+has_turn config part p look number = nat_eq (turn_at look number % looks_apart config part p) 0
 
--- From each look on, one of so many that don't leave the page's part out is its turn.
+-- the turn of an idle page that was asked about most often
+abbrev pub is_turn_of_idle : LookConfig → PartLooks → ℕ → ℕ → Bool
+is_turn_of_idle config part look number = nat_eq (turn_at look number % idle_apart config part) 0
+
+-- the question about it isn't noted, so that others don't find it
+abbrev pub is_asked_in_passing : PartLooks → PageLooks → ℕ → ℕ → Bool
+is_asked_in_passing part p look number = part.whole && nat_lt 0 p.asks && not (nat_eq ((look / PASSING_LOOKS + number / TOGETHER) % PASSING_EACH) 0)
+
+-- From each look on, one of so many is the page's turn.
 abbrev pub EachHasItsTurn : Type 0
 EachHasItsTurn =
-    (config : LookConfig) (p : PageLooks) (rest : ℕ) (whole : Bool) (look number : ℕ) →
-    (k : ℕ) × ((k < looks_apart config p rest whole) × (has_turn config p rest whole (look + k * (rest + 1)) number ≡ true))
+    (config : LookConfig) (part : PartLooks) (p : PageLooks) (look number : ℕ) →
+    (k : ℕ) × ((k < looks_apart config part p) × (has_turn config part p (look + k) number ≡ true))
+
+-- And one of so many would ask about it so that others find it.
+abbrev pub EachIsNoted : Type 0
+EachIsNoted =
+    (part : PartLooks) (p : PageLooks) (look number : ℕ) →
+    (k : ℕ) × ((k < PASSING_LOOKS * PASSING_EACH) × (is_asked_in_passing part p (look + k) number ≡ false))

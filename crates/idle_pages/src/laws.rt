@@ -1,31 +1,55 @@
-//! What it means that a page is idle, and that no page and no part waits for ever. The functions' bodies are empty: the contract is all
-//! there is.
-ghost use Rattle.idle_pages.specs.Idle.{IdleMeansAlike};
-ghost use Rattle.idle_pages.specs.Turns.{EachHasItsTurn};
-ghost use Rattle.idle_pages.specs.Ways.{ChangesAreRead, KeptIsIdle, EachIsRead};
-ghost use Rattle.idle_pages.specs.Rests.{RestsEnd, ChangesAreSeen};
+//! What it means that a page is idle, and that no page waits for ever. The functions' bodies are empty: the contract is all there is.
+ghost use Rattle.idle_pages.specs.Idle.{IdleIsAlike, IdleMeansAlike, IdleOverMeansAlike};
+ghost use Rattle.idle_pages.specs.Turns.{EachHasItsTurn, EachIsNoted};
+ghost use Rattle.idle_pages.specs.Samples.{LeftOutHasNoTurn, EachIsSampled};
+ghost use Rattle.idle_pages.specs.Ways.{ChangesAreMet, IdleIsGlancedAt, GlancesBeforeReads, OverIsNeverMet, KeptIsIdle, NewIsMet, EachIsRead, StaysIsIdle};
+ghost use Rattle.idle_pages.specs.Rests.{RestsWithin, ChangesEndRests, AllAreSampled, EachIsGlancedAt};
 
-/// A page is idle exactly if it was read at least three times since its content was last forgotten, and the last three reads found the same
-/// fingerprint.
+/// An idle page was read at least twice since it was last met or forgotten, and the last two reads found the same fingerprint. With memory
+/// of its own it is idle exactly if that is so. Over a frame it is idle exactly if the last three reads did.
 pub fn idle_law()
-    ensures { IdleMeansAlike }
+    ensures any { IdleIsAlike }
+    ensures own { IdleMeansAlike }
+    ensures over { IdleOverMeansAlike }
 {}
 
-/// Whatever the look, a page has its turn within as many looks that don't leave its part out as its turns are apart.
+/// Whatever the look, a page has its turn within as many looks as its turns are apart. Within 32 looks a question about it wouldn't be in
+/// passing.
 pub fn turn_law()
-    ensures { EachHasItsTurn }
+    ensures turns { EachHasItsTurn }
+    ensures noted { EachIsNoted }
 {}
 
-/// A page of which a glance finds that it has changed is read at this look. The fingerprint of the last read is taken only of an idle page.
-/// And each page is read: within as many looks that don't leave its part out as its turns are apart, times those of which one reads it.
+/// Only an idle page is left out, and never at its turn. Where a part rests, each page is taken by one of so many looks.
+pub fn sample_law()
+    ensures left_out { LeftOutHasNoTurn }
+    ensures taken { EachIsSampled }
+{}
+
+/// A page of which a glance finds that it has changed is met, and so is a new one. An idle page is glanced at by each look that takes it as
+/// a sample, and each page before it is read. Over a frame there are no glances. The fingerprint of the last read counts only of an idle
+/// page. And each page that stays as it is is read: within as many looks as its turns are apart, times those of which one reads it.
 pub fn way_law()
-    ensures changes { ChangesAreRead }
+    ensures changes { ChangesAreMet }
+    ensures idle { IdleIsGlancedAt }
+    ensures before { GlancesBeforeReads }
+    ensures over { OverIsNeverMet }
     ensures kept { KeptIsIdle }
+    ensures fresh { NewIsMet }
     ensures read { EachIsRead }
 {}
 
-/// No more looks in a row leave a part out than the most that the config has. A part of which more has changed isn't left out next.
+/// A new page that stays as it is is idle after three looks at it.
+pub fn stay_law()
+    ensures { StaysIsIdle }
+{}
+
+/// A look leaves out at most as many idle pages for each one as the config says, and none after a look that found that more than a calm
+/// share has changed. Where none is left out each page is in the sample. Where a part rests each idle page with memory of its own is glanced
+/// at within one look more than are left out for each.
 pub fn rest_law()
-    ensures ends { RestsEnd }
-    ensures changes { ChangesAreSeen }
+    ensures most { RestsWithin }
+    ensures changes { ChangesEndRests }
+    ensures all { AllAreSampled }
+    ensures glanced { EachIsGlancedAt }
 {}

@@ -1,11 +1,15 @@
-//! Which pages are idle, and which looks read them: by fingerprints, turns and rests, over no memory of a guest.
+//! Which pages are idle, and which looks read them: by fingerprints, glances, turns and rests, over no memory of a guest.
 #![tactic(auto)]
 
 pub mod laws;
 mod look;
 mod page;
 mod part;
+mod sample;
 mod turn;
 mod way;
 
-pub use look::{ASKS_MOST, Glance, LookConfig, PageLooks, PartRest, STILL, Way};
+pub use look::{
+    ASKS_MOST, Act, CALM_PART, LookConfig, PASSING_EACH, PASSING_LOOKS, PageLooks, PartLooks,
+    READ_EACH, READ_EACH_OVER, STILL, TOGETHER, TURNS, WHOLE_TURNS, Way,
+};

@@ -1,74 +1,93 @@
 //! What looks have found.
 
-/// Reads in a row with the same fingerprint that make a page idle.
+/// Findings in a row that make a page idle: a glance and two reads that are alike, or three reads that are.
 pub const STILL: u8 = 3;
 
 /// Questions about a page that were in vain are counted up to this number.
 pub const ASKS_MOST: u8 = 3;
 
+/// A page that was asked about most often is asked about again at one look in so many, if the config has no number.
+pub const TURNS: u64 = 8;
+
+/// In a part that is whole, that is this many times rarer.
+pub const WHOLE_TURNS: u64 = 2;
+
+/// This many pages in a row are asked about in the same looks.
+pub const TOGETHER: u32 = 64;
+
+/// A part is calm if at most one in so many of its pages has changed.
+pub const CALM_PART: u64 = 16;
+
+/// An idle page that was asked about most often is read at one of so many of its turns, if glances find most changes.
+pub const READ_EACH: u64 = 16;
+
+/// The same if glances can't find changes, since its memory lies over a frame, and nothing has changed in its part.
+pub const READ_EACH_OVER: u64 = 2;
+
+/// So many looks in a row are alike in whether a page is asked about in passing.
+pub const PASSING_LOOKS: u32 = 8;
+
+/// One of so many such rows of looks isn't in passing.
+pub const PASSING_EACH: u64 = 4;
+
 /// What looks have found of a page that has memory of its own.
+#[repr(C)]
 #[derive(Clone, Copy, Debug, PartialEq, Eq)]
 pub struct PageLooks {
-    /// Its fingerprint when it was read last, if `looks` isn't 0.
+    /// Its fingerprint when it was read last. If it wasn't read yet: any number, which says where glances look.
     pub fingerprint: u64,
-    /// Reads in a row with that fingerprint, up to `STILL`.
+    /// What the last glance at it found.
+    pub clue: u16,
+    /// Findings in a row that were alike, up to `STILL`. 0: the page is new, or its content was forgotten.
     pub looks: u8,
-    /// How often it was asked about in vain. If `looks` is 1: how often it has changed from one read to the next. Up to
-    /// `ASKS_MOST`.
+    /// How often it was asked about in vain. If it isn't idle: how often it has changed again. Up to `ASKS_MOST`.
     pub asks: u8,
 }
 
+/// What looks have found of a part.
+#[repr(C)]
+#[derive(Clone, Copy, Debug, PartialEq, Eq)]
+pub struct PartLooks {
+    /// Its memory is one huge page, or may become one.
+    pub whole: bool,
+    /// Idle pages that a look leaves out for each one that it takes, since next to nothing changes there.
+    pub rest: u8,
+    /// Looks until they may be more.
+    pub left: u8,
+    /// Pages that had memory of their own at the last look.
+    pub own: u32,
+    /// Nothing at all had changed there at the last look.
+    pub is_still: bool,
+}
+
 /// How often pages and parts are looked at.
+#[repr(C)]
 #[derive(Clone, Copy, Debug, PartialEq, Eq)]
 pub struct LookConfig {
-    /// A page with `ASKS_MOST` questions in vain is asked about again at one look in `turns`; 0 counts as 8.
-    pub turns: u32,
-    /// In a part that is whole, that is this many times rarer.
-    pub whole_turns: u32,
-    /// This many pages in a row are asked about in the same looks; 0 counts as 1.
-    pub together: u32,
-    /// A part is calm if at most one in `calm_part` of its pages has changed.
-    pub calm_part: u32,
-    /// At most this many looks in a row skip a calm part.
+    /// A page that was asked about most often is asked about again at one look in so many; 0 counts as `TURNS`.
+    pub turns: u16,
+    /// The most idle pages that a look leaves out for each one that it takes.
     pub rest_most: u8,
-    /// A page with `ASKS_MOST` questions in vain is read at one of `read_each` of its turns, if glances find most changes; 0
-    /// counts as 1.
-    pub read_each: u32,
-    /// The same if glances can't find changes, since its memory lies over a frame, and nothing has changed in its part.
-    pub read_each_over: u32,
 }
 
-/// What is known of a page without reading it.
+/// What comes of a look at a page.
 #[derive(Clone, Copy, Debug, PartialEq, Eq)]
-pub struct Glance {
-    /// Its memory lies over a frame, so that no glance says whether it has changed.
-    pub is_over: bool,
-    /// Nothing has changed in its part.
-    pub is_still: bool,
-    /// Some of its bytes differ from those that the last read found.
-    pub differs: bool,
-}
-
-/// What a look does with a page.
-#[derive(Clone, Copy, Debug, PartialEq, Eq)]
-pub enum Way {
+pub enum Act {
     /// Nothing.
     Pass,
-    /// It takes the fingerprint of the last read.
+    /// The page is new, or has changed. It isn't read before it stays as it is.
+    Meet,
+    /// The fingerprint of the last read counts.
     Keep,
-    /// It reads the page.
+    /// The page is read.
     Read,
 }
 
-/// When a part is looked at.
+/// What a look does with a page, before any byte of it is read.
 #[derive(Clone, Copy, Debug, PartialEq, Eq)]
-pub struct PartRest {
-    /// Looks that leave it out after each one that doesn't, since next to nothing changes there.
-    pub rest: u8,
-    /// How many of them are left.
-    pub left: u8,
-    /// Pages that had memory of their own when it was looked at last.
-    pub own: u32,
-    /// Nothing at all had changed there then.
-    pub is_still: bool,
+pub struct Way {
+    /// It glances at the page first. If the glance isn't the last one's, the page has changed.
+    pub glances: bool,
+    /// What comes of the look, if the glance is the last one's, or if there is none.
+    pub act: Act,
 }

@@ -1,29 +1,17 @@
-//! Which looks leave a part out.
+//! Where next to nothing changes a look takes only some of the idle pages.
 ghost use Rattle.std.specs.Prelude.{◌≡◌, ◌+◌, ◌*◌, min};
-ghost use Rattle.idle_pages.specs.Rests.{is_left_out, left_out, changes_of, is_calm, rest_then, looked};
+ghost use Rattle.idle_pages.specs.Rests.{changes_of, is_calm, longer, rest_then, found_then, woken};
 
-use crate::{LookConfig, PartRest};
+use crate::{CALM_PART, LookConfig, PartLooks};
 
-// Returns twice as many looks and one more, up to `most`.
+// Returns twice as many pages and one more, up to `most`.
 fn longer(rest: u8, most: u8) -> u8
-    ensures { result ≡ min (rest * 2 + 1) most }
+    ensures { result ≡ longer rest most }
 {
     (u32::from(rest) * 2 + 1).min(u32::from(most)) as u8
 }
 
-impl PartRest {
-    /// Returns whether this look leaves the part out.
-    pub fn is_left_out(&mut self) -> bool
-        ensures out { result ≡ is_left_out self.old }
-        ensures part { self.new ≡ left_out self.old }
-    {
-        if self.left == 0 {
-            return false;
-        }
-        self.left -= 1;
-        true
-    }
-
+impl PartLooks {
     // Returns how many pages have changed, those with them that have memory of their own since.
     fn changes(&self, changes: u32, own: u32) -> u64
         ensures { result ≡ changes_of self.now changes own }
@@ -32,33 +20,45 @@ impl PartRest {
     }
 
     // Returns whether next to nothing has changed.
-    fn is_calm(&self, config: &LookConfig, changes: u32, own: u32) -> bool
-        ensures { result ≡ is_calm config.now self.now changes own }
+    fn is_calm(&self, changes: u32, own: u32) -> bool
+        ensures { result ≡ is_calm self.now changes own }
     {
-        let all = u128::from(self.changes(changes, own));
-        all * u128::from(config.calm_part) <= u128::from(own)
+        self.changes(changes, own) * CALM_PART <= u64::from(own)
     }
 
-    // Returns how many looks leave the part out from now on.
-    fn rest_then(&self, config: &LookConfig, changes: u32, own: u32) -> u8
-        ensures { result ≡ rest_then config.now self.now changes own }
+    // Returns the part's rest, and how many looks are left until it is longer.
+    fn rest_then(&self, config: &LookConfig, is_calm: bool) -> (u8, u8)
+        ensures { result ≡ rest_then config.now self.now is_calm }
     {
-        if !self.is_calm(config, changes, own) {
-            return 0;
+        if !is_calm {
+            return (0, 0);
         }
-        longer(self.rest, config.rest_most)
+        if self.left > 0 {
+            return (self.rest, self.left - 1);
+        }
+        let rest = longer(self.rest, config.rest_most);
+        (rest, rest)
     }
 
-    /// Takes what a look found that didn't leave the part out: how many pages have changed, and how many have memory of their own.
-    pub fn looked(&mut self, config: &LookConfig, changes: u32, own: u32)
-        ensures { self.new ≡ looked config.now self.old changes own }
+    /// Takes what a look found: how many idle pages have changed, and how many have memory of their own.
+    pub fn set_rest(&mut self, config: &LookConfig, changes: u32, own: u32)
+        ensures { self.new ≡ found_then config.now self.old changes own }
     {
-        let rest = self.rest_then(config, changes, own);
-        *self = PartRest {
+        let (rest, left) = self.rest_then(config, self.is_calm(changes, own));
+        *self = PartLooks {
+            whole: self.whole,
             rest,
-            left: rest,
+            left,
             own,
             is_still: self.changes(changes, own) == 0,
         };
+    }
+
+    /// Ends the part's rest.
+    pub fn wake(&mut self)
+        ensures { self.new ≡ woken self.old }
+    {
+        self.rest = 0;
+        self.left = 0;
     }
 }

@@ -1,12 +1,15 @@
-//! Which looks read a page.
+//! Which looks ask about a page, or read it.
 ghost use Rattle.std.specs.Prelude.{◌≡◌, ◌≤◌};
-ghost use Rattle.idle_pages.specs.Turns.{power, longest_apart, looks_apart, turn_at, has_turn};
+ghost use Rattle.idle_pages.specs.Turns.{power, turns_of, idle_apart, looks_apart, turn_at, has_turn, is_turn_of_idle, is_asked_in_passing};
 
-use crate::{ASKS_MOST, LookConfig, PageLooks, STILL};
+use crate::{
+    LookConfig, PASSING_EACH, PASSING_LOOKS, PageLooks, PartLooks, TOGETHER, TURNS, WHOLE_TURNS,
+};
 
 // Returns how many looks apart a page is asked about that was asked about so often in vain.
 fn power(asks: u8) -> u64
-    ensures { result ≡ power asks }
+    ensures power { result ≡ power asks }
+    ensures some { 1 ≤ result }
 {
     match asks {
         0 => 1,
@@ -16,58 +19,78 @@ fn power(asks: u8) -> u64
     }
 }
 
-// Returns how many looks apart it is at most.
-fn longest_apart(config: &LookConfig, is_whole: bool) -> u64
-    ensures { result ≡ longest_apart config.now is_whole }
+// Returns how many looks apart it is at most in a part that isn't whole.
+fn turns_of(config: &LookConfig) -> u64
+    ensures turns { result ≡ turns_of config.now }
+    ensures some { 1 ≤ result }
 {
-    let turns = if config.turns == 0 { 8 } else { config.turns };
-    if is_whole {
-        u64::from(turns) * u64::from(config.whole_turns)
+    if config.turns == 0 {
+        TURNS
     } else {
-        u64::from(turns)
+        u64::from(config.turns)
+    }
+}
+
+// Returns which turn a look is for a page: pages in a row have their turns together.
+pub(crate) fn turn_at(look: u32, number: u32) -> u64
+    ensures { result ≡ turn_at look number }
+{
+    u64::from(look) + u64::from(number / TOGETHER)
+}
+
+impl PartLooks {
+    /// Returns of how many looks one asks again about an idle page that was asked about most often.
+    pub fn idle_apart(&self, config: &LookConfig) -> u64
+        ensures apart { result ≡ idle_apart config.now self.now }
+        ensures some { 1 ≤ result }
+    {
+        let turns = turns_of(config);
+        let apart = if self.whole {
+            turns * WHOLE_TURNS
+        } else {
+            turns
+        };
+        apart.max(u64::from(self.rest) + 1)
+    }
+
+    /// Returns whether it is this look's turn to ask again about such a page there. Pages with numbers in one row of `TOGETHER` have
+    /// their turns together.
+    pub fn is_turn_of_idle(&self, config: &LookConfig, look: u32, number: u32) -> bool
+        ensures { result ≡ is_turn_of_idle config.now self.now look number }
+    {
+        turn_at(look, number) % self.idle_apart(config) == 0
     }
 }
 
 impl PageLooks {
-    /// Returns of how many looks that didn't leave the page's part out one reads the page, or asks about it. `rest`: how many leave it out
-    /// after each of these.
-    pub fn looks_apart(&self, config: &LookConfig, rest: u8, is_whole: bool) -> u64
-        ensures apart { result ≡ looks_apart config.now self.now rest is_whole }
+    /// Returns of how many looks one is a turn of the page.
+    pub fn looks_apart(&self, config: &LookConfig, part: &PartLooks) -> u64
+        ensures apart { result ≡ looks_apart config.now part.now self.now }
         ensures some { 1 ≤ result }
     {
         if self.looks == 0 {
             return 1;
         }
-        let is_last = self.looks >= STILL && self.asks >= ASKS_MOST;
-        let apart = if is_last {
-            longest_apart(config, is_whole)
+        if self.is_again() {
+            part.idle_apart(config)
         } else {
             power(self.asks)
-        };
-        (apart / (u64::from(rest) + 1)).max(1)
+        }
     }
 
     /// Returns whether it is the turn of page `number` at this look.
-    pub fn has_turn(
-        &self,
-        config: &LookConfig,
-        rest: u8,
-        is_whole: bool,
-        look: u64,
-        number: u32,
-    ) -> bool
-        ensures { result ≡ has_turn config.now self.now rest is_whole look number }
+    pub fn has_turn(&self, config: &LookConfig, part: &PartLooks, look: u32, number: u32) -> bool
+        ensures { result ≡ has_turn config.now part.now self.now look number }
     {
-        let apart = self.looks_apart(config, rest, is_whole);
-        let turn = turn_at(config, rest, look, number);
-        turn % u128::from(apart) == 0
+        turn_at(look, number) % self.looks_apart(config, part) == 0
     }
-}
 
-// Returns which turn a look is for a page.
-pub(crate) fn turn_at(config: &LookConfig, rest: u8, look: u64, number: u32) -> u128
-    ensures { result ≡ turn_at config.now rest look number }
-{
-    let row = number / config.together.max(1);
-    u128::from(look) / (u128::from(rest) + 1) + u128::from(row)
+    /// Returns whether others mustn't find the page by the question about it. Those of a whole part are found at their first question, and
+    /// seldom later.
+    pub fn is_asked_in_passing(&self, part: &PartLooks, look: u32, number: u32) -> bool
+        ensures { result ≡ is_asked_in_passing part.now self.now look number }
+    {
+        let row = u64::from(look / PASSING_LOOKS) + u64::from(number / TOGETHER);
+        part.whole && self.asks > 0 && row % PASSING_EACH != 0
+    }
 }

@@ -1,67 +1,96 @@
 //! What a look does with a page.
 ghost use Rattle.std.specs.Prelude.{◌≡◌, ◌≤◌};
-ghost use Rattle.idle_pages.specs.Ways.{is_last, has_changed, read_each, way};
+ghost use Rattle.idle_pages.specs.Ways.{read_each, is_kept, act_of, glances, way, act_after};
 
 use crate::turn::turn_at;
-use crate::{ASKS_MOST, Glance, LookConfig, PageLooks, STILL, Way};
+use crate::{Act, LookConfig, PageLooks, PartLooks, READ_EACH, READ_EACH_OVER, Way};
+
+// Returns of how many turns one reads an idle page that was asked about most often.
+fn read_each(part: &PartLooks, is_over: bool) -> u64
+    ensures each { result ≡ read_each part.now is_over }
+    ensures some { 1 ≤ result }
+{
+    if !is_over {
+        return READ_EACH;
+    }
+    if part.is_still { READ_EACH_OVER } else { 1 }
+}
+
+impl Way {
+    /// Returns what comes of the look. `is_same`: the glance is the last one's; if there is none, this counts for nothing.
+    pub fn act_after(&self, is_same: bool) -> Act
+        ensures { result ≡ act_after self.now is_same }
+    {
+        if self.glances && !is_same {
+            Act::Meet
+        } else {
+            self.act
+        }
+    }
+}
 
 impl PageLooks {
-    // Returns whether it is idle, and was asked about in vain most often.
-    fn is_last(&self) -> bool
-        ensures { result ≡ is_last self.now }
+    // Returns whether the fingerprint of the last read counts, if this is the page's turn of that number.
+    fn is_kept(&self, part: &PartLooks, is_over: bool, turn: u64) -> bool
+        ensures { result ≡ is_kept part.now self.now is_over turn }
     {
-        self.looks >= STILL && self.asks >= ASKS_MOST
+        self.is_again() && turn % read_each(part, is_over) != 0
     }
 
-    // Returns whether a glance says that an idle page has changed.
-    fn has_changed(&self, glance: &Glance) -> bool
-        ensures { result ≡ has_changed self.now glance.now }
+    // Returns what comes of this look, if no glance says that the page has changed.
+    fn act_of(
+        &self,
+        config: &LookConfig,
+        part: &PartLooks,
+        is_over: bool,
+        look: u32,
+        number: u32,
+    ) -> Act
+        ensures { result ≡ act_of config.now part.now self.now is_over look number }
     {
-        self.looks >= STILL && !glance.is_over && glance.differs
-    }
-
-    // Returns of how many turns one reads the page.
-    fn read_each(&self, config: &LookConfig, glance: &Glance) -> u32
-        ensures each { result ≡ read_each config.now self.now glance.now }
-        ensures some { 1 ≤ result }
-    {
-        if !self.is_last() {
-            return 1;
+        if self.looks == 0 && !is_over {
+            return Act::Meet;
         }
-        if !glance.is_over {
-            return config.read_each.max(1);
+        let apart = self.looks_apart(config, part);
+        let at = turn_at(look, number);
+        if at % apart != 0 {
+            return Act::Pass;
         }
-        if glance.is_still {
-            config.read_each_over.max(1)
+        if self.is_kept(part, is_over, at / apart) {
+            Act::Keep
         } else {
-            1
+            Act::Read
         }
     }
 
-    /// Returns what this look does with page `number`. `rest`: how many looks leave its part out after each one that doesn't.
+    // Returns whether a look glances at a page with memory of its own of which it would come to this.
+    fn glances(&self, part: &PartLooks, act: Act, look: u32, number: u32) -> bool
+        ensures { result ≡ glances part.now self.now act look number }
+    {
+        match act {
+            Act::Pass => self.is_idle(),
+            Act::Meet => false,
+            Act::Keep => part.is_in_sample(look, number),
+            Act::Read => true,
+        }
+    }
+
+    /// Returns what this look does with page `number`. `is_over`: its memory lies over a frame, so that no glance says whether it has
+    /// changed.
     pub fn way(
         &self,
         config: &LookConfig,
-        rest: u8,
-        is_whole: bool,
-        glance: &Glance,
-        look: u64,
+        part: &PartLooks,
+        is_over: bool,
+        look: u32,
         number: u32,
     ) -> Way
-        ensures { result ≡ way config.now self.now rest is_whole glance.now look number }
+        ensures { result ≡ way config.now part.now self.now is_over look number }
     {
-        if self.has_changed(glance) {
-            return Way::Read;
-        }
-        if !self.has_turn(config, rest, is_whole, look, number) {
-            return Way::Pass;
-        }
-        let apart = u128::from(self.looks_apart(config, rest, is_whole));
-        let turn = turn_at(config, rest, look, number) / apart;
-        if turn % u128::from(self.read_each(config, glance)) == 0 {
-            Way::Read
-        } else {
-            Way::Keep
+        let act = self.act_of(config, part, is_over, look, number);
+        Way {
+            glances: !is_over && self.glances(part, act, look, number),
+            act,
         }
     }
 }

@@ -1,5 +1,11 @@
-use Rattle.idle_pages.proofs.Alike.{idle_means_alike}
+use Rattle.idle_pages.proofs.Alike.{idle_is_alike, idle_means_alike, idle_over_means_alike}
 use Rattle.idle_pages.proofs.laws.idle_law.Goals as goal
 
-pub returns : goal.returns
-returns c = idle_means_alike
+pub returns-clause-any : goal.returns-clause-any
+returns-clause-any c = idle_is_alike
+
+pub returns-clause-own : goal.returns-clause-own
+returns-clause-own c = idle_means_alike
+
+pub returns-clause-over : goal.returns-clause-over
+returns-clause-over c = idle_over_means_alike

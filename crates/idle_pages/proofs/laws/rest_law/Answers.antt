@@ -1,8 +1,14 @@
-use Rattle.idle_pages.proofs.Rested.{rests_end, changes_are_seen}
+use Rattle.idle_pages.proofs.Rested.{rests_within, changes_end_rests, all_are_sampled, each_is_glanced_at}
 use Rattle.idle_pages.proofs.laws.rest_law.Goals as goal
 
-pub returns-clause-ends : goal.returns-clause-ends
-returns-clause-ends c = rests_end
+pub returns-clause-most : goal.returns-clause-most
+returns-clause-most c = rests_within
 
 pub returns-clause-changes : goal.returns-clause-changes
-returns-clause-changes c = changes_are_seen
+returns-clause-changes c = changes_end_rests
+
+pub returns-clause-all : goal.returns-clause-all
+returns-clause-all c = all_are_sampled
+
+pub returns-clause-glanced : goal.returns-clause-glanced
+returns-clause-glanced c = each_is_glanced_at
