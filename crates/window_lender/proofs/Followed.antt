@@ -20,11 +20,11 @@ use Rattle.window_lender.specs.Events.{content, due_at, page_events, run_events,
 use Rattle.window_lender.proofs.Ranges.{there}
 
 -- events of other pages than q
-abbrev Apart : ℕ → List Event → Type 0
+abbrev pub Apart : ℕ → List Event → Type 0
 Apart q [] = Unit {0}
 Apart q (e ∷ es) = (is_of q e ≡ false) × Apart q es
 
-apart_keeps : (q : ℕ) (belief : Belief) (es : List Event) (w : Mappings) → Apart q es → Believes belief w q → Believes belief (played w es) q
+pub apart_keeps : (q : ℕ) (belief : Belief) (es : List Event) (w : Mappings) → Apart q es → Believes belief w q → Believes belief (played w es) q
 apart_keeps q belief [] w a b = b
 apart_keeps q belief (e ∷ es) w a b = pick (λ next k. apart_keeps q belief es next a.1 k) (step w e) refl where
   pick : ((next : Mappings) → Believes belief next q → Believes belief (played next es) q) → (o : Option Mappings) → step w e ≡ o →
@@ -32,7 +32,7 @@ apart_keeps q belief (e ∷ es) w a b = pick (λ next k. apart_keeps q belief es
   pick again None s = b
   pick again (Some next) s = again next (subst (λ o. Believes belief (unwrap_or o w) q) s (kept_by_others belief w q e a.0 b))
 
-differs : (p q : ℕ) → (p ≡ q → ⊥) → nat_eq p q ≡ false
+pub differs : (p q : ℕ) → (p ≡ q → ⊥) → nat_eq p q ≡ false
 differs p q ne = pick (nat_eq p q) refl where
   pick : (b : Bool) → nat_eq p q ≡ b → b ≡ false
   pick true t = absurd (ne (eqb-true p q t))
@@ -57,7 +57,7 @@ done_apart p q x Order.GiveBack d = (d, tt)
 done_apart p q x Order.PutBack d = (d, tt)
 
 -- the events of one page's outcome are events of that page
-events_apart : (p q x : ℕ) (order : Order) (outcome : Outcome) (was_done : Bool) → nat_eq p q ≡ false → Apart q (events_of p x order outcome was_done)
+pub events_apart : (p q x : ℕ) (order : Order) (outcome : Outcome) (was_done : Bool) → nat_eq p q ≡ false → Apart q (events_of p x order outcome was_done)
 events_apart p q x order Done was_done d = done_apart p q x order d
 events_apart p q x order (Lent slot n) was_done d = tt
 events_apart p q x order Refused was_done d = tt

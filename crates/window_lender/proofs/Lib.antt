@@ -1,5 +1,5 @@
 mod Decided
-mod Followed
+pub mod Followed
 mod Given
 mod Histories
 mod Made

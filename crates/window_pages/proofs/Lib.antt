@@ -1,0 +1,5 @@
+mod Counting
+mod Lived
+mod Rows
+mod Spared
+mod Stored

@@ -1,0 +1,71 @@
+-- What the bytes of a page mean.
+use Rattle.std.specs.Prelude.{ℕ, ◌+◌, ◌*◌, ◌/◌, ◌%◌, ◌^◌, ◌==◌, Bool, if◌then◌else◌}
+use Rattle.page_lender.specs.declared.belief.Belief.{Belief}
+use Rattle.window_lender.specs.declared.packed.Kind.{Kind}
+use Rattle.window_lender.specs.Packing.{belief_in, bit, digit, kind_of}
+use Rattle.window_pages.specs.declared.page.KnownPage.{KnownPage}
+use Rattle.window_pages.specs.declared.page.PageNotes.{PageNotes}
+use Rattle.window_pages.specs.declared.page.WindowPage.{WindowPage}
+
+-- which belief has this number; one that none has is that of a private page
+abbrev pub kind_by : ℕ → Kind
+kind_by number = if number == 1 then Kind.Chosen else (if number == 2 then Kind.Copied else (if number == 3 then Kind.Unanswered else (if number == 4 then Kind.Loaned else (if number == 5 then Kind.Held else (if number == 6 then Kind.Equal else (if number == 7 then Kind.LettingGo else (if number == 8 then Kind.Shown else (if number == 9 then Kind.HomingInPlace else (if number == 10 then Kind.Homing else (if number == 11 then Kind.Leaving else (if number == 12 then Kind.Unreleased else (if number == 13 then Kind.Zeros else (if number == 14 then Kind.HeldZeros else (if number == 15 then Kind.EqualZeros else (if number == 16 then Kind.PuttingBack else Kind.Private)))))))))))))))
+
+-- and which number a belief has
+abbrev pub kind_number : Kind → ℕ
+kind_number Kind.Private = 0
+kind_number Kind.Chosen = 1
+kind_number Kind.Copied = 2
+kind_number Kind.Unanswered = 3
+kind_number Kind.Loaned = 4
+kind_number Kind.Held = 5
+kind_number Kind.Equal = 6
+kind_number Kind.LettingGo = 7
+kind_number Kind.Shown = 8
+kind_number Kind.HomingInPlace = 9
+kind_number Kind.Homing = 10
+kind_number Kind.Leaving = 11
+kind_number Kind.Unreleased = 12
+kind_number Kind.Zeros = 13
+kind_number Kind.HeldZeros = 14
+kind_number Kind.EqualZeros = 15
+kind_number Kind.PuttingBack = 16
+
+-- what is believed of a page
+abbrev pub belief_of : WindowPage → Belief
+belief_of page = belief_in (kind_by (page.belief % 32)) page.slot page.frame
+
+-- what is known of it
+abbrev pub known_of : WindowPage → KnownPage
+known_of page = record {
+  belief = belief_of page;
+  ordered = bit page.looks 1;
+  over = bit page.belief 32;
+  past = bit page.belief 64;
+  out = bit page.belief 128;
+  same = bit page.looks 2;
+  moved = bit page.looks 4;
+  begins = bit page.looks 8;
+}
+
+-- what looks have found of it
+abbrev pub notes_of : WindowPage → PageNotes
+notes_of page = record {
+  fingerprint = page.slot + page.frame * 2 ^ 32;
+  clue = page.clue % 32768;
+  looks = page.looks / 16 % 4;
+  asks = page.looks / 64;
+  seen = bit page.clue 32768;
+}
+
+-- four facts as a number below 16
+abbrev pub nibble : Bool → Bool → Bool → Bool → ℕ
+nibble a b c d = digit a + 2 * digit b + 4 * digit c + 8 * digit d
+
+-- what is believed, and what lies at the place, as a byte
+abbrev pub belief_byte : KnownPage → ℕ
+belief_byte page = kind_number (kind_of page.belief) + 32 * digit page.over + 64 * digit page.past + 128 * digit page.out
+
+-- the rest of what is known, below so many looks and questions
+abbrev pub looks_byte : ℕ → KnownPage → ℕ
+looks_byte looks page = looks / 16 * 16 + nibble page.ordered page.same page.moved page.begins

@@ -1,0 +1,125 @@
+-- How far what is so of the first of some pages goes on.
+use Rattle.std.specs.Prelude.{ℕ, ◌+◌, Bool, true, false, not, ◌&&◌, ◌||◌, ◌==◌, if◌then◌else◌, List, [], ◌∷◌}
+use Rattle.page_lender.specs.declared.belief.Belief.{Belief}
+use Rattle.page_lender.specs.declared.belief.Belief.TheVariants.{Private, Chosen, Copied, Unanswered, Loaned, Held, Equal, LettingGo, Shown, Homing, Leaving, Unreleased, Zeros, HeldZeros, EqualZeros, PuttingBack}
+use Rattle.window_pages.specs.Bytes.{belief_of, known_of}
+use Rattle.window_pages.specs.Counted.{is_to_release}
+use Rattle.window_pages.specs.declared.page.WindowPage.{WindowPage}
+
+abbrev pub same : Bool → Bool → Bool
+same true b = b
+same false b = not b
+
+-- both are over frames or neither, and both have left the window or neither
+abbrev pub lies_as : WindowPage → WindowPage → Bool
+lies_as x y = same (known_of x).over (known_of y).over && same (known_of x).out (known_of y).out
+
+-- the page is the window's
+abbrev pub is_here : WindowPage → Bool
+is_here x = not (known_of x).out || (known_of x).over
+
+abbrev pub is_here_as : WindowPage → WindowPage → Bool
+is_here_as x y = same (is_here x) (is_here y)
+
+-- its slot isn't to be released, or an order of it is open
+abbrev pub keeps_slot : WindowPage → Bool
+keeps_slot x = not (is_to_release (known_of x)) || (known_of x).ordered
+
+-- it was found equal to this frame
+abbrev pub is_frame : ℕ → Belief → Bool
+is_frame m Private = false
+is_frame m Chosen = false
+is_frame m Copied = false
+is_frame m Unanswered = false
+is_frame m (Loaned slot n) = false
+is_frame m (Held slot n) = false
+is_frame m (Equal slot n) = n == m
+is_frame m (LettingGo slot) = false
+is_frame m (Shown slot n) = false
+is_frame m (Homing slot n in_place) = false
+is_frame m (Leaving slot) = false
+is_frame m (Unreleased slot) = false
+is_frame m Zeros = false
+is_frame m HeldZeros = false
+is_frame m EqualZeros = false
+is_frame m PuttingBack = false
+
+-- it was found to be zeros
+abbrev pub is_zeros : Belief → Bool
+is_zeros Private = false
+is_zeros Chosen = false
+is_zeros Copied = false
+is_zeros Unanswered = false
+is_zeros (Loaned slot n) = false
+is_zeros (Held slot n) = false
+is_zeros (Equal slot n) = false
+is_zeros (LettingGo slot) = false
+is_zeros (Shown slot n) = false
+is_zeros (Homing slot n in_place) = false
+is_zeros (Leaving slot) = false
+is_zeros (Unreleased slot) = false
+is_zeros Zeros = false
+is_zeros HeldZeros = false
+is_zeros EqualZeros = true
+is_zeros PuttingBack = false
+
+-- both were found equal, one to zeros and the other as well, or each to a frame, of which the second is the next one
+abbrev pub goes_with : Belief → Belief → Bool
+goes_with Private b = false
+goes_with Chosen b = false
+goes_with Copied b = false
+goes_with Unanswered b = false
+goes_with (Loaned slot n) b = false
+goes_with (Held slot n) b = false
+goes_with (Equal slot n) b = is_frame (n + 1) b
+goes_with (LettingGo slot) b = false
+goes_with (Shown slot n) b = false
+goes_with (Homing slot n in_place) b = false
+goes_with (Leaving slot) b = false
+goes_with (Unreleased slot) b = false
+goes_with Zeros b = false
+goes_with HeldZeros b = false
+goes_with EqualZeros b = is_zeros b
+goes_with PuttingBack b = false
+
+-- it was found equal to a frame, or to be zeros
+abbrev pub leads_on : Belief → Bool
+leads_on Private = false
+leads_on Chosen = false
+leads_on Copied = false
+leads_on Unanswered = false
+leads_on (Loaned slot n) = false
+leads_on (Held slot n) = false
+leads_on (Equal slot n) = true
+leads_on (LettingGo slot) = false
+leads_on (Shown slot n) = false
+leads_on (Homing slot n in_place) = false
+leads_on (Leaving slot) = false
+leads_on (Unreleased slot) = false
+leads_on Zeros = false
+leads_on HeldZeros = false
+leads_on EqualZeros = true
+leads_on PuttingBack = false
+
+-- an order is open that begins a row
+abbrev pub begins_row : WindowPage → Bool
+begins_row x = (known_of x).ordered && leads_on (belief_of x)
+
+-- the order of the second page goes on with that of the first: frames in a row are to be mapped, or memory is to be given back
+abbrev pub goes_on : WindowPage → WindowPage → Bool
+goes_on x y = (known_of y).ordered && goes_with (belief_of x) (belief_of y)
+
+-- how many pages behind one go on, each with the one before it
+abbrev pub row_behind : WindowPage → List WindowPage → ℕ
+row_behind x [] = 0
+row_behind x (y ∷ ys) = if goes_on x y then 1 + row_behind y ys else 0
+
+-- the pages from the first on that do
+abbrev pub row_length : List WindowPage → ℕ
+row_length [] = 0
+row_length (x ∷ xs) = 1 + row_behind x xs
+
+-- the row that begins with the first of these pages, if one does
+abbrev pub row_of : List WindowPage → ℕ
+row_of [] = 0
+row_of (x ∷ xs) = if begins_row x then row_length (x ∷ xs) else 0

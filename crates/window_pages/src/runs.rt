@@ -1,0 +1,254 @@
+//! Runs of pages: how far what is so of the first of them goes on.
+ghost use Rattle.std.specs.Prelude.{◌≡◌, ◌<◌, ◌+◌, length, slice_get};
+ghost use Rattle.std.specs.List.{prefix_len};
+ghost use Rattle.std.specs.Option.{option_map_or};
+ghost use Rattle.window_pages.specs.Bytes.{belief_of, known_of};
+ghost use Rattle.window_pages.specs.Runs.{begins_row, goes_on, goes_with, is_frame, is_here, is_here_as, is_zeros, keeps_slot, leads_on, lies_as, row_length, row_of, same};
+
+use crate::WindowPage;
+use page_lender::Belief;
+
+// Returns whether both are so, or neither.
+fn same(one: bool, other: bool) -> bool
+    ensures { result ≡ same one other }
+{
+    if one { other } else { !other }
+}
+
+// Returns whether a page was found equal to the frame behind this one.
+fn is_behind(frame: u32, belief: Belief) -> bool
+    ensures { result ≡ is_frame (frame + 1) belief }
+{
+    match belief {
+        Belief::Private => false,
+        Belief::Chosen => false,
+        Belief::Copied => false,
+        Belief::Unanswered => false,
+        Belief::Loaned(_, _) => false,
+        Belief::Held(_, _) => false,
+        Belief::Equal(_, other) => u64::from(other) == u64::from(frame) + 1,
+        Belief::LettingGo(_) => false,
+        Belief::Shown(_, _) => false,
+        Belief::Homing(_, _, _) => false,
+        Belief::Leaving(_) => false,
+        Belief::Unreleased(_) => false,
+        Belief::Zeros => false,
+        Belief::HeldZeros => false,
+        Belief::EqualZeros => false,
+        Belief::PuttingBack => false,
+    }
+}
+
+// Returns whether a page was found to be zeros.
+fn is_zeros(belief: Belief) -> bool
+    ensures { result ≡ is_zeros belief }
+{
+    match belief {
+        Belief::Private => false,
+        Belief::Chosen => false,
+        Belief::Copied => false,
+        Belief::Unanswered => false,
+        Belief::Loaned(_, _) => false,
+        Belief::Held(_, _) => false,
+        Belief::Equal(_, _) => false,
+        Belief::LettingGo(_) => false,
+        Belief::Shown(_, _) => false,
+        Belief::Homing(_, _, _) => false,
+        Belief::Leaving(_) => false,
+        Belief::Unreleased(_) => false,
+        Belief::Zeros => false,
+        Belief::HeldZeros => false,
+        Belief::EqualZeros => true,
+        Belief::PuttingBack => false,
+    }
+}
+
+// Returns whether a page was found equal to a frame, or to be zeros.
+fn leads_on(belief: Belief) -> bool
+    ensures { result ≡ leads_on belief }
+{
+    match belief {
+        Belief::Private => false,
+        Belief::Chosen => false,
+        Belief::Copied => false,
+        Belief::Unanswered => false,
+        Belief::Loaned(_, _) => false,
+        Belief::Held(_, _) => false,
+        Belief::Equal(_, _) => true,
+        Belief::LettingGo(_) => false,
+        Belief::Shown(_, _) => false,
+        Belief::Homing(_, _, _) => false,
+        Belief::Leaving(_) => false,
+        Belief::Unreleased(_) => false,
+        Belief::Zeros => false,
+        Belief::HeldZeros => false,
+        Belief::EqualZeros => true,
+        Belief::PuttingBack => false,
+    }
+}
+
+// Returns whether one page goes on with what the page before it begins.
+fn goes_with(one: Belief, other: Belief) -> bool
+    ensures { result ≡ goes_with one other }
+{
+    match one {
+        Belief::Private => false,
+        Belief::Chosen => false,
+        Belief::Copied => false,
+        Belief::Unanswered => false,
+        Belief::Loaned(_, _) => false,
+        Belief::Held(_, _) => false,
+        Belief::Equal(_, frame) => is_behind(frame, other),
+        Belief::LettingGo(_) => false,
+        Belief::Shown(_, _) => false,
+        Belief::Homing(_, _, _) => false,
+        Belief::Leaving(_) => false,
+        Belief::Unreleased(_) => false,
+        Belief::Zeros => false,
+        Belief::HeldZeros => false,
+        Belief::EqualZeros => is_zeros(other),
+        Belief::PuttingBack => false,
+    }
+}
+
+impl WindowPage {
+    // Returns whether an order is open that begins a row.
+    fn begins_row(&self) -> bool
+        ensures { result ≡ begins_row self.now }
+    {
+        let known = self.known();
+        known.ordered && leads_on(known.belief)
+    }
+
+    // Returns whether the page's order goes on with that of the page before it.
+    fn goes_on(&self, before: &WindowPage) -> bool
+        ensures { result ≡ goes_on before.now self.now }
+    {
+        let known = self.known();
+        known.ordered && goes_with(before.known().belief, known.belief)
+    }
+
+    // Returns whether two pages are both over frames or neither, and have both left the window or neither.
+    fn lies_as(&self, other: &WindowPage) -> bool
+        ensures { result ≡ lies_as self.now other.now }
+    {
+        let one = self.known();
+        let two = other.known();
+        same(one.over, two.over) && same(one.out, two.out)
+    }
+
+    /// Returns whether the page is its window's: it hasn't left it, or a frame lies under it still.
+    pub fn is_here(&self) -> bool
+        ensures { result ≡ is_here self.now }
+    {
+        let known = self.known();
+        !known.out || known.over
+    }
+
+    // Returns whether two pages are both their window's, or neither.
+    fn is_here_as(&self, other: &WindowPage) -> bool
+        ensures { result ≡ is_here_as self.now other.now }
+    {
+        same(self.is_here(), other.is_here())
+    }
+
+    // Returns whether its slot isn't to be released, or an order of it is open.
+    fn keeps_slot(&self) -> bool
+        ensures { result ≡ keeps_slot self.now }
+    {
+        let known = self.known();
+        !known.is_to_release() || known.ordered
+    }
+}
+
+// Returns how many pages come before one that doesn't lie as this one does.
+fn alike_as(first: &WindowPage, pages: &[WindowPage]) -> usize
+    ensures { result ≡ prefix_len (lies_as first.now) pages.now }
+{
+    for place in 0..pages.len() {
+        let is_so = first.lies_as(&pages[place]);
+        if !is_so {
+            return place;
+        }
+    }
+    pages.len()
+}
+
+// Returns how many pages come before one that is its window's where this one isn't, or the other way round.
+fn here_as(first: &WindowPage, pages: &[WindowPage]) -> usize
+    ensures { result ≡ prefix_len (is_here_as first.now) pages.now }
+{
+    for place in 0..pages.len() {
+        let is_so = first.is_here_as(&pages[place]);
+        if !is_so {
+            return place;
+        }
+    }
+    pages.len()
+}
+
+/// Returns how many pages from the first on lie as it does: over frames or not, and in the window or not.
+pub fn alike(pages: &[WindowPage]) -> usize
+    ensures { result ≡ option_map_or (λ first. prefix_len (lies_as first) pages.now) (slice_get pages.now 0) 0 }
+{
+    match pages.first() {
+        None => 0,
+        Some(first) => alike_as(first, pages),
+    }
+}
+
+/// Returns how many pages from the first on are their window's, or aren't, as the first is.
+pub fn here(pages: &[WindowPage]) -> usize
+    ensures { result ≡ option_map_or (λ first. prefix_len (is_here_as first) pages.now) (slice_get pages.now 0) 0 }
+{
+    match pages.first() {
+        None => 0,
+        Some(first) => here_as(first, pages),
+    }
+}
+
+/// Returns how many pages come before the first one whose slot is to be released, and of which no order is open.
+pub fn before_release(pages: &[WindowPage]) -> usize
+    ensures { result ≡ prefix_len keeps_slot pages.now }
+{
+    for place in 0..pages.len() {
+        let is_so = pages[place].keeps_slot();
+        if !is_so {
+            return place;
+        }
+    }
+    pages.len()
+}
+
+// Returns how many pages from the first on go on, each with the one before it.
+#[tactic(auto, using(crate::proofs::Rows::row_yes, crate::proofs::Rows::row_no, crate::proofs::Rows::row_end))]
+fn row_from(pages: &[WindowPage]) -> usize
+    requires { 0 < length pages.now }
+    ensures { result ≡ row_length pages.now }
+{
+    let last = pages.len() - 1;
+    for place in 0..last {
+        let is_so = pages[place + 1].goes_on(&pages[place]);
+        if !is_so {
+            return place + 1;
+        }
+    }
+    pages.len()
+}
+
+/// Returns how many pages from the first on can be mapped, or given back, by one call: their orders to map are open, and their frames are
+/// in a row; or their orders to give memory back are open. 0 if neither is so of the first page.
+pub fn row(pages: &[WindowPage]) -> usize
+    ensures { result ≡ row_of pages.now }
+{
+    match pages.first() {
+        None => 0,
+        Some(first) => {
+            if first.begins_row() {
+                row_from(pages)
+            } else {
+                0
+            }
+        }
+    }
+}
