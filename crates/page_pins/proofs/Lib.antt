@@ -1,0 +1,5 @@
+mod Counts
+mod Places
+mod Looked
+mod Paired
+mod Pinned
