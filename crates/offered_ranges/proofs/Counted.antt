@@ -1,7 +1,7 @@
 -- How often a page is in the ranges of a table.
-use Rattle.std.proofs.Common.{◌≡◌, ◌∙◌, ℕ, zero, ◌+◌, ◌-◌, ◌<◌, ◌≤◌, max, min, Bool, true, false, cond, not, ◌&&◌, ◌||◌, ◌⊎◌, inl, inr, ⊎_elim, List, [], ◌∷◌, ◌++◌, length, Some, None, refl, ap, sym, subst, arith}
+use Rattle.std.proofs.Common.{◌≡◌, ◌∙◌, ℕ, ◌+◌, ◌-◌, ◌<◌, ◌≤◌, max, min, Bool, true, false, cond, not, ◌&&◌, ◌||◌, ◌⊎◌, inl, inr, ⊎_elim, List, [], ◌∷◌, ◌++◌, Some, None, refl, ap, sym, arith}
 use Rattle.std.specs.Prelude.{nat_eq, nat_le, nat_lt, slice_get}
-use Rattle.std.specs.List.{All, list_any, remove, sum_by}
+use Rattle.std.specs.List.{All, list_any, remove}
 use Rattle.std.proofs.Math.ListN.{get_or}
 use Rattle.std.proofs.lemmas.Bool.{ltb-true, ltb-false, leb-true, leb-false, lt-ltb}
 use Rattle.std.proofs.lemmas.List.Elements.{All-head, All-tail}

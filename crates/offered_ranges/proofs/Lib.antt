@@ -1,3 +1,4 @@
 mod Found
 mod Counted
 mod Removed
+mod Outside

@@ -1,10 +1,12 @@
 -- What tables of ranges are worth: whose each page is.
-use Rattle.std.specs.Prelude.{◌≡◌, ℕ, ◌+◌, ◌<◌, ◌≤◌, Bool, true, false, ◌&&◌, nat_eq, nat_le, nat_lt, if◌then◌else◌, List, Some, slice_get}
+use Rattle.std.specs.Prelude.{◌≡◌, ℕ, ◌+◌, ◌<◌, ◌≤◌, Bool, true, false, ◌&&◌, nat_eq, nat_le, nat_lt, List, Some, slice_get}
 use Rattle.std.specs.List.{list_any}
 use Rattle.offered_ranges.specs.declared.range.OfferedRange.{OfferedRange}
 use Rattle.offered_ranges.specs.declared.piece.Piece.{Piece}
 use Rattle.offered_ranges.specs.Pieces.{IsFirst, count_of, has, meets, times}
-use Rattle.offered_ranges.specs.Tables.{added, can_add, has_piece, taken_out}
+use Rattle.offered_ranges.specs.Tables.{added, can_add, has_piece, is_all_left, taken_out}
+use Rattle.offered_ranges.specs.declared.bound.OfferedBounds.{OfferedBounds}
+use Rattle.offered_ranges.specs.Bounds.{AreBounds}
 
 -- No page is in two ranges.
 pub record AreApart (rs : List OfferedRange) : Type 0 where
@@ -66,3 +68,14 @@ abbrev pub TakenKeeps : Type 0
 TakenKeeps =
     (place begin end : ℕ) (r : OfferedRange) (rs : List OfferedRange) → slice_get rs place ≡ Some r → has_piece begin end r ≡ true →
     (p window n : ℕ) → is_in begin end p ≡ false → nth_times p window n (taken_out place begin end (Some r) rs) ≡ nth_times p window n rs
+
+-- Pages that don't lie between the bounds are in no range.
+abbrev pub NoneOutside : Type 0
+NoneOutside =
+    (rs : List OfferedRange) (b : OfferedBounds) → AreBounds rs b → (p : ℕ) → is_in b.begin b.end p ≡ false → times p rs ≡ 0
+
+-- Of a window of which these pages are all that is left, no other page is in a range.
+abbrev pub NoneElsewhere : Type 0
+NoneElsewhere =
+    (place begin end : ℕ) (r : OfferedRange) (rs : List OfferedRange) → slice_get rs place ≡ Some r → is_all_left place begin end (Some r) rs ≡ true →
+    (p n : ℕ) → is_in begin end p ≡ false → nth_times p r.window n rs ≡ 0

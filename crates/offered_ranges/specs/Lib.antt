@@ -1,3 +1,4 @@
 pub mod Pieces
+pub mod Bounds
 pub mod Tables
 pub mod Laws

@@ -1,8 +1,8 @@
 -- Tables of ranges, and how they change.
-use Rattle.std.specs.Prelude.{◌≡◌, ℕ, ◌≤◌, Bool, true, false, not, ◌&&◌, ◌||◌, nat_eq, nat_le, nat_lt, if◌then◌else◌, List, [], ◌∷◌, ◌++◌, length, take, Option, Some, None, slice_get}
+use Rattle.std.specs.Prelude.{ℕ, Bool, false, not, ◌&&◌, ◌||◌, nat_eq, nat_le, nat_lt, if◌then◌else◌, List, [], ◌∷◌, ◌++◌, take, Option, Some, None}
 use Rattle.std.specs.List.{list_any, remove}
 use Rattle.offered_ranges.specs.declared.range.OfferedRange.{OfferedRange}
-use Rattle.offered_ranges.specs.Pieces.{meets, times}
+use Rattle.offered_ranges.specs.Pieces.{meets}
 
 -- the ranges of a table, of whose places so many are used
 abbrev pub ranges_of : ℕ → List OfferedRange → List OfferedRange
@@ -11,6 +11,11 @@ ranges_of count places = take count places
 -- the range is left of this window
 abbrev pub is_of : ℕ → OfferedRange → Bool
 is_of window r = nat_eq r.window window
+
+-- These pages are all of the range at this place, and no other range is left of its window.
+abbrev pub is_all_left : ℕ → ℕ → ℕ → Option OfferedRange → List OfferedRange → Bool
+is_all_left place begin end None rs = false
+is_all_left place begin end (Some r) rs = nat_eq r.begin begin && (nat_eq r.end end && not (list_any (is_of r.window) (remove rs place)))
 
 -- A range can be added: it isn't empty, a place is free, and no page of it is in another range.
 abbrev pub can_add : ℕ → ℕ → List OfferedRange → ℕ → ℕ → Bool

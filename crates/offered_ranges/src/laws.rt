@@ -1,6 +1,6 @@
 //! What tables of ranges are worth. The functions' bodies are empty: the contract is all there is.
 ghost use Rattle.std.specs.Prelude.{◌≡◌};
-ghost use Rattle.offered_ranges.specs.Laws.{AddedApart, AddedKeeps, AllInside, NoneBefore, NoneThere, TakenApart, TakenGone, TakenKeeps};
+ghost use Rattle.offered_ranges.specs.Laws.{AddedApart, AddedKeeps, AllInside, NoneBefore, NoneElsewhere, NoneOutside, NoneThere, TakenApart, TakenGone, TakenKeeps};
 
 /// The first piece begins with the first page of a range that there is. All its pages are the range's, and lie where they were looked for.
 /// Where no piece is found, there is no page of a range.
@@ -21,4 +21,14 @@ pub fn take_out_law()
     ensures apart { TakenApart }
     ensures gone { TakenGone }
     ensures others { TakenKeeps }
+{}
+
+/// No page outside of a table's bounds is in a range.
+pub fn bounds_law()
+    ensures { NoneOutside }
+{}
+
+/// Where some pages are all that is left of a window, no other page is the window's.
+pub fn left_law()
+    ensures { NoneElsewhere }
 {}

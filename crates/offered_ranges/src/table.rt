@@ -1,7 +1,7 @@
 //! Tables of ranges: an array, and how many of its places are used.
 ghost use Rattle.std.specs.Prelude.{◌≡◌, ◌+◌, ◌<◌, ◌≤◌, ◌++◌, ◌&&◌, ◌||◌, [], ◌∷◌, Some, if◌then◌else◌, length, not, option_map, slice_get};
 ghost use Rattle.std.specs.List.{list_any, remove};
-ghost use Rattle.offered_ranges.specs.Tables.{added, can_add, can_take_out, has_both, has_piece, is_of, part_of, ranges_of, taken_out};
+ghost use Rattle.offered_ranges.specs.Tables.{added, can_add, can_take_out, has_both, has_piece, is_all_left, is_of, part_of, ranges_of, taken_out};
 
 use crate::{OfferedRange, next};
 
@@ -15,6 +15,27 @@ pub fn is_part_left(ranges: &[OfferedRange], window: u64) -> bool
         }
     }
     false
+}
+
+/// Returns whether these pages are all that is left of a window: they are the range at this place, and no other range is left of the
+/// range's window.
+pub fn is_all_left(ranges: &[OfferedRange], place: usize, begin: u64, end: u64) -> bool
+    ensures { result ≡ is_all_left place begin end (slice_get ranges.now place) ranges.now }
+{
+    if place >= ranges.len() {
+        return false;
+    }
+    let range = ranges[place];
+    let is_whole = range.begin == begin && range.end == end;
+    is_whole && !is_other_left(ranges, place, range.window)
+}
+
+// Whether a range is left of a window, beside the one at a place.
+fn is_other_left(ranges: &[OfferedRange], place: usize, window: u64) -> bool
+    requires { place < length ranges.now }
+    ensures { result ≡ list_any (is_of window) (remove ranges.now place) }
+{
+    is_part_left(&ranges[..place], window) || is_part_left(&ranges[place + 1..], window)
 }
 
 /// Adds a range that isn't a window yet. Returns whether it did: not if the range is empty, if one of its pages is in another range, or

@@ -1,10 +1,10 @@
-use Rattle.std.proofs.Common.{rules, ◌≡◌, ◌∙◌, ◌+◌, ◌<◌, ◌≤◌, ◌++◌, ◌&&◌, true, Some, length, take, ap, sym, arith}
+use Rattle.std.proofs.Common.{rules, ◌≡◌, ◌∙◌, ◌++◌, ◌&&◌, true, Some, length, take, ap, sym, arith}
 use Rattle.std.specs.Prelude.{nat_le, slice_get}
 use Rattle.std.specs.List.{remove}
 use Rattle.std.proofs.Math.ListN.{get_or}
 use Rattle.std.proofs.lemmas.Bool.{le-leb}
 use Rattle.std.proofs.lemmas.List.{append_assoc}
-use Rattle.offered_ranges.specs.Tables.{can_split, can_take_out, part_of, ranges_of, taken_out}
+use Rattle.offered_ranges.specs.Tables.{can_split, can_take_out, part_of, taken_out}
 use Rattle.offered_ranges.proofs.Found.{no_range}
 use Rattle.offered_ranges.proofs.Removed.{used_at}
 use Rattle.offered_ranges.proofs.table.take_out.Goals as goal
