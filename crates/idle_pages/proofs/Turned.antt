@@ -2,13 +2,13 @@
 use Rattle.std.proofs.Common.{◌≡◌, ◌∙◌, ℕ, zero, suc, ◌+◌, ◌-◌, ◌*◌, ◌/◌, ◌%◌, ◌<◌, ◌≤◌, Bool, true, false, cond, not, refl, ap, arith}
 use Rattle.std.specs.Prelude.{max, nat_eq, nat_lt, ◌&&◌}
 use Rattle.std.proofs.lemmas.Bool.{eq-eqb}
-use Rattle.std.proofs.Math.Nat.{add-mul, add-mul-div_right, add-mul-mod_self_right, mod-eq_of_lt, mod-lt, mod-eq-sub-div-mul, div-mul-le_self}
+use Rattle.std.proofs.Math.Nat.{add-mul, add-mul-mod_self_right, mod-eq_of_lt, mod-lt, mod-eq-sub-div-mul, div-mul-le_self}
 use Rattle.idle_pages.specs.declared.look.LookConfig.{LookConfig}
 use Rattle.idle_pages.specs.declared.look.PageLooks.{PageLooks}
 use Rattle.idle_pages.specs.declared.look.PartLooks.{PartLooks}
-use Rattle.idle_pages.specs.declared.look.TheConstants.{WHOLE_TURNS, TOGETHER, PASSING_LOOKS, PASSING_EACH}
+use Rattle.idle_pages.specs.declared.look.TheConstants.{WHOLE_TURNS, TOGETHER}
 use Rattle.idle_pages.specs.Idle.{is_again}
-use Rattle.idle_pages.specs.Turns.{power, turns_of, idle_apart, looks_apart, turn_at, EachHasItsTurn, EachIsNoted}
+use Rattle.idle_pages.specs.Turns.{power, turns_of, idle_apart, looks_apart, turn_at, EachHasItsTurn}
 
 -- from a number on, one of so many is divided by it
 whole : (q a : ℕ) → 1 ≤ a → (q * a + a) % a ≡ 0
@@ -58,21 +58,3 @@ each_has_its_turn config part p look number =
     let a : ℕ = looks_apart config part p in
     let f = found (turn_at look number) a (apart_some config part p) in
     (f.0, (f.1.0, eq-eqb _ _ (ap (λ n. n % a) (later look f.0 (number / TOGETHER)) ∙ f.1.1)))
-
--- a row of looks later
-rows_on : (look k row : ℕ) → (look + k * 8) / 8 + row ≡ look / 8 + row + k
-rows_on look k row =
-    let moved : (look + k * 8) / 8 ≡ look / 8 + k = add-mul-div_right look k {z = 8} (omega arith) in
-    omega (arith, moved)
-
-pub each_is_noted : EachIsNoted
-each_is_noted part p look number =
-    let f = found (look / PASSING_LOOKS + number / TOGETHER) 4 (omega arith) in
-    let moved : ((look + f.0 * 8) / PASSING_LOOKS + number / TOGETHER) % PASSING_EACH ≡ 0 = ap (λ n. n % 4) (rows_on look f.0 (number / TOGETHER)) ∙ f.1.1 in
-    let noted : nat_eq (((look + f.0 * 8) / PASSING_LOOKS + number / TOGETHER) % PASSING_EACH) 0 ≡ true = eq-eqb _ _ moved in
-    (f.0 * 8, (omega (arith, f.1.0), ap (λ b. part.whole && nat_lt 0 p.asks && not b) noted ∙ off part.whole (nat_lt 0 p.asks)))
-  where
-    off : (a b : Bool) → (a && b && false) ≡ false
-    off true true = refl
-    off true false = refl
-    off false b = refl

@@ -1,15 +1,15 @@
 -- What a look does with a page.
 use Rattle.std.proofs.Common.{◌≡◌, ◌∙◌, ℕ, ◌+◌, ◌-◌, ◌*◌, ◌/◌, ◌%◌, ◌≤◌, Bool, true, false, cond, not, ◌&&◌, refl, ap, sym, arith}
-use Rattle.std.specs.Prelude.{nat_eq}
+use Rattle.std.specs.Prelude.{nat_eq, nat_lt}
 use Rattle.std.proofs.lemmas.Bool.{eq-eqb}
 use Rattle.std.proofs.Math.Nat.{mul-mod_left, mul-div_left, mod-eq-sub-div-mul, div-mul-le_self, mul_assoc, mul_comm, mul-le-mul}
 use Rattle.idle_pages.specs.declared.look.Act.{Act}
 use Rattle.idle_pages.specs.declared.look.Act.TheVariants.{Pass, Meet, Keep, Read}
 use Rattle.idle_pages.specs.declared.look.PageLooks.{PageLooks}
 use Rattle.idle_pages.specs.declared.look.PartLooks.{PartLooks}
-use Rattle.idle_pages.specs.declared.look.TheConstants.{READ_EACH_OVER, TOGETHER}
+use Rattle.idle_pages.specs.declared.look.TheConstants.{PASSING_EACH, READ_EACH_OVER, TOGETHER}
 use Rattle.idle_pages.specs.Idle.{is_again}
-use Rattle.idle_pages.specs.Turns.{turn_at, looks_apart, has_turn}
+use Rattle.idle_pages.specs.Turns.{turn_at, looks_apart, has_turn, EachIsNoted}
 use Rattle.idle_pages.specs.Ways.{read_each, is_kept, turn_of, act_of, glances, way, ChangesAreMet, IdleIsGlancedAt, GlancesBeforeReads, OverIsNeverMet, KeptIsIdle, NewIsMet, EachIsRead}
 use Rattle.idle_pages.proofs.Sampled.{idle_is_not_new, again_is_idle}
 use Rattle.idle_pages.proofs.Turned.{found, apart_some, later}
@@ -132,3 +132,20 @@ each_is_read config part p over look number old =
     pick false true true glance f t k = cc
     pick false true false true f t k = refl
     pick false true false false f t k = refl
+
+pub each_is_noted : EachIsNoted
+each_is_noted config part p look number =
+    let at : ℕ = turn_at look number in
+    let a : ℕ = looks_apart config part p in
+    let some : 1 ≤ a = apart_some config part p in
+    let f = found at (a * PASSING_EACH) (product_some a PASSING_EACH some (omega arith)) in
+    let moved : turn_at (look + f.0) number ≡ at + f.0 = later look f.0 (number / TOGETHER) in
+    let q = in_turn (at + f.0) a PASSING_EACH some f.1.1 in
+    let turn : has_turn config part p (look + f.0) number ≡ true = eq-eqb _ _ (ap (λ n. n % a) moved ∙ turn_is (at + f.0) a q.0 PASSING_EACH some q.1) in
+    let noted : nat_eq (turn_at (look + f.0) number / a % PASSING_EACH) 0 ≡ true = eq-eqb _ _ (ap (λ n. n / a % PASSING_EACH) moved ∙ read_is (at + f.0) a q.0 PASSING_EACH some q.1) in
+    (f.0, (f.1.0, (turn, (ap (λ b. part.whole && nat_lt 0 p.asks && not b) noted ∙ off part.whole (nat_lt 0 p.asks)))))
+  where
+    off : (a b : Bool) → (a && b && false) ≡ false
+    off true true = refl
+    off true false = refl
+    off false b = refl

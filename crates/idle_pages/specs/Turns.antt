@@ -3,7 +3,7 @@ use Rattle.std.specs.Prelude.{◌≡◌, ℕ, ◌+◌, ◌*◌, ◌/◌, ◌%◌
 use Rattle.idle_pages.specs.declared.look.LookConfig.{LookConfig}
 use Rattle.idle_pages.specs.declared.look.PageLooks.{PageLooks}
 use Rattle.idle_pages.specs.declared.look.PartLooks.{PartLooks}
-use Rattle.idle_pages.specs.declared.look.TheConstants.{TURNS, WHOLE_TURNS, TOGETHER, PASSING_LOOKS, PASSING_EACH}
+use Rattle.idle_pages.specs.declared.look.TheConstants.{TURNS, WHOLE_TURNS, TOGETHER, PASSING_EACH}
 use Rattle.idle_pages.specs.Idle.{is_again}
 
 -- how many looks apart a page is asked about that was asked about so often in vain
@@ -35,8 +35,9 @@ abbrev pub is_turn_of_idle : LookConfig → PartLooks → ℕ → ℕ → Bool
 is_turn_of_idle config part look number = nat_eq (turn_at look number % idle_apart config part) 0
 
 -- the question about it isn't noted, so that others don't find it
-abbrev pub is_asked_in_passing : PartLooks → PageLooks → ℕ → ℕ → Bool
-is_asked_in_passing part p look number = part.whole && nat_lt 0 p.asks && not (nat_eq ((look / PASSING_LOOKS + number / TOGETHER) % PASSING_EACH) 0)
+abbrev pub is_asked_in_passing : LookConfig → PartLooks → PageLooks → ℕ → ℕ → Bool
+is_asked_in_passing config part p look number =
+    part.whole && nat_lt 0 p.asks && not (nat_eq (turn_at look number / looks_apart config part p % PASSING_EACH) 0)
 
 -- From each look on, one of so many is the page's turn.
 abbrev pub EachHasItsTurn : Type 0
@@ -44,8 +45,8 @@ EachHasItsTurn =
     (config : LookConfig) (part : PartLooks) (p : PageLooks) (look number : ℕ) →
     (k : ℕ) × ((k < looks_apart config part p) × (has_turn config part p (look + k) number ≡ true))
 
--- And one of so many would ask about it so that others find it.
+-- And at one of so many turns the question about it is noted.
 abbrev pub EachIsNoted : Type 0
 EachIsNoted =
-    (part : PartLooks) (p : PageLooks) (look number : ℕ) →
-    (k : ℕ) × ((k < PASSING_LOOKS * PASSING_EACH) × (is_asked_in_passing part p (look + k) number ≡ false))
+    (config : LookConfig) (part : PartLooks) (p : PageLooks) (look number : ℕ) →
+    (k : ℕ) × ((k < looks_apart config part p * PASSING_EACH) × ((has_turn config part p (look + k) number ≡ true) × (is_asked_in_passing config part p (look + k) number ≡ false)))

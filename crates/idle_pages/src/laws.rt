@@ -13,8 +13,8 @@ pub fn idle_law()
     ensures over { IdleOverMeansAlike }
 {}
 
-/// Whatever the look, a page has its turn within as many looks as its turns are apart. Within 32 looks a question about it wouldn't be in
-/// passing.
+/// Whatever the look, a page has its turn within as many looks as its turns are apart. At one of so many turns in a row the question about it
+/// isn't in passing.
 pub fn turn_law()
     ensures turns { EachHasItsTurn }
     ensures noted { EachIsNoted }

@@ -10,6 +10,6 @@ mod turn;
 mod way;
 
 pub use look::{
-    ASKS_MOST, Act, CALM_PART, LookConfig, PASSING_EACH, PASSING_LOOKS, PageLooks, PartLooks,
-    READ_EACH, READ_EACH_OVER, STILL, TOGETHER, TURNS, WHOLE_TURNS, Way,
+    ASKS_MOST, Act, CALM_PART, LookConfig, PASSING_EACH, PageLooks, PartLooks, READ_EACH,
+    READ_EACH_OVER, STILL, TOGETHER, TURNS, WHOLE_TURNS, Way,
 };

@@ -24,10 +24,7 @@ pub const READ_EACH: u64 = 16;
 /// The same if glances can't find changes, since its memory lies over a frame, and nothing has changed in its part.
 pub const READ_EACH_OVER: u64 = 2;
 
-/// So many looks in a row are alike in whether a page is asked about in passing.
-pub const PASSING_LOOKS: u32 = 8;
-
-/// One of so many such rows of looks isn't in passing.
+/// A page of a whole part that was asked about before is noted at one of so many of its turns. At the others it is asked about in passing.
 pub const PASSING_EACH: u64 = 4;
 
 /// What looks have found of a page that has memory of its own.

@@ -2,9 +2,7 @@
 ghost use Rattle.std.specs.Prelude.{◌≡◌, ◌≤◌};
 ghost use Rattle.idle_pages.specs.Turns.{power, turns_of, idle_apart, looks_apart, turn_at, has_turn, is_turn_of_idle, is_asked_in_passing};
 
-use crate::{
-    LookConfig, PASSING_EACH, PASSING_LOOKS, PageLooks, PartLooks, TOGETHER, TURNS, WHOLE_TURNS,
-};
+use crate::{LookConfig, PASSING_EACH, PageLooks, PartLooks, TOGETHER, TURNS, WHOLE_TURNS};
 
 // Returns how many looks apart a page is asked about that was asked about so often in vain.
 fn power(asks: u8) -> u64
@@ -86,11 +84,17 @@ impl PageLooks {
     }
 
     /// Returns whether others mustn't find the page by the question about it. Those of a whole part are found at their first question, and
-    /// seldom later.
-    pub fn is_asked_in_passing(&self, part: &PartLooks, look: u32, number: u32) -> bool
-        ensures { result ≡ is_asked_in_passing part.now self.now look number }
+    /// later at one of `PASSING_EACH` of their turns.
+    pub fn is_asked_in_passing(
+        &self,
+        config: &LookConfig,
+        part: &PartLooks,
+        look: u32,
+        number: u32,
+    ) -> bool
+        ensures { result ≡ is_asked_in_passing config.now part.now self.now look number }
     {
-        let row = u64::from(look / PASSING_LOOKS) + u64::from(number / TOGETHER);
-        part.whole && self.asks > 0 && row % PASSING_EACH != 0
+        let turn = turn_at(look, number) / self.looks_apart(config, part);
+        part.whole && self.asks > 0 && turn % PASSING_EACH != 0
     }
 }

@@ -1,4 +1,5 @@
-use Rattle.idle_pages.proofs.Turned.{each_has_its_turn, each_is_noted}
+use Rattle.idle_pages.proofs.Turned.{each_has_its_turn}
+use Rattle.idle_pages.proofs.Went.{each_is_noted}
 use Rattle.idle_pages.proofs.laws.turn_law.Goals as goal
 
 pub returns-clause-turns : goal.returns-clause-turns
