@@ -1,3 +1,4 @@
 pub mod Budgets
+pub mod Looks
 pub mod Pages
 pub mod Parts

@@ -1,42 +1,81 @@
 //! What the thread that lends a monitor's pages decides, for the C that makes its system calls: what is done next with a page, which pages
-//! a call of the monitor is about, how many mappings may be made, and how much processor time it may use.
+//! a call of the monitor is about, which ones a device may hold, how many mappings may be made, and how much processor time it may use.
 //!
 //! C keeps the numbers of a budget, of each page and of each range, and passes their address to each call. No call has a condition on its arguments
 //! except that its references are valid. `window/pageshare_window.h` declares the same functions in C, and says what the caller owes.
 #![tactic(auto)]
 
 ghost use Rattle.std.specs.Prelude.{◌≡◌, if◌then◌else◌, length, not, slice_get, true, false};
-ghost use Rattle.std.specs.List.{list_any};
+ghost use Rattle.std.specs.List.{list_any, prefix_len};
+ghost use Rattle.std.specs.Option.{option_map_or};
 ghost use Rattle.work_budget.specs.Budgets.{begun, credited, paced, settled, wait_of};
 ghost use Rattle.mapping_room.specs.Rooms.{fits, most_of};
 ghost use Rattle.offered_ranges.specs.Pieces.{IsFirst, meets};
 ghost use Rattle.offered_ranges.specs.Tables.{added, can_add, can_take_out, is_of, ranges_of, taken_out};
-ghost use Rattle.page_lender.specs.Decisions.{is_busy, may_go_on, must_own};
-ghost use Rattle.page_lender.specs.Events.{IsFree, ShowsNone};
+ghost use Rattle.page_lender.specs.Decisions.{is_busy, is_movable, may_go_on, must_own};
+ghost use Rattle.page_lender.specs.Events.{HeardRightly, IsFree, ShowsNone};
 ghost use Rattle.page_lender.specs.declared.order.Notice.TheVariants as Notice;
 ghost use Rattle.page_lender.specs.declared.order.Outcome.TheVariants as Outcome;
-ghost use Rattle.window_lender.specs.Runs.{IsChosen, IsDone, IsHeard, IsOrdered, is_free, order_due};
+ghost use Rattle.window_lender.specs.Runs.{IsChosen, IsHeard, IsOrdered, is_free, order_due};
 ghost use Rattle.window_lender.specs.Huge.{order_of, part_then};
+ghost use Rattle.window_pages.specs.Runs.{is_here_as, keeps_slot, lies_as, row_of};
 ghost use Rattle.pageshare_window_c.specs.Budgets.{ledger_of, rates};
-ghost use Rattle.pageshare_window_c.specs.Pages.{bars_of, belief_of, chosen_as, lender_of, no_bars, number_of, takes};
+ghost use Rattle.window_pages.specs.Bytes.{known_of, notes_of};
+ghost use Rattle.window_pages.specs.Changed.{Becomes, Lends, covered, detached, discarded, given_back, given_up, gone, lender_with, moved_first, no_past, notes_if, uncovered, uncovered_notes, unmapped};
+ghost use Rattle.window_pages.specs.Counted.{counts_then};
+ghost use Rattle.window_pages.specs.Known.{bars_of, chosen_as, clued, kept_by, lender_of, no_bars, shows_past, stays};
+ghost use Rattle.pageshare_window_c.specs.Looks.{rests_of};
+ghost use Rattle.pageshare_window_c.specs.Pages.{Takes, number_of};
 ghost use Rattle.pageshare_window_c.specs.Parts.{config_of, look_of, part_number, part_of};
 
 mod budget;
 mod laws;
-mod page;
+mod looks;
+mod numbers;
+mod order;
 mod part;
+mod pins;
+mod ranges;
+mod times;
 
 pub use budget::{CREDIT_NS, OWED_NS, SAVED_NS, WindowBudget};
 use budget::{budget_of, config_by, put};
 pub use laws::limits_law;
+pub use look_steps::{LookSteps, PartReturn};
+pub use look_times::{LookFinds, LookTimes};
+pub use looks::{
+    WindowLook, WindowWay, pageshare_window_ask_at_once, pageshare_window_asked,
+    pageshare_window_asked_last, pageshare_window_begin_look, pageshare_window_glanced_by,
+    pageshare_window_held, pageshare_window_is_in_passing, pageshare_window_is_left_out,
+    pageshare_window_is_to_fetch, pageshare_window_looked, pageshare_window_met,
+    pageshare_window_next_step, pageshare_window_read, pageshare_window_set_rest,
+    pageshare_window_wake, pageshare_window_way,
+};
 use mapping_room::{MappingRoom, fits};
+pub use numbers::pageshare_window_find_numbers;
 use offered_ranges::{add, is_part_left, next as next_piece, take_out};
-pub use offered_ranges::{OfferedRange, Piece};
-use page::{choose, hear, may_go_on, next, number_of, take, take_back};
-pub use page::{WindowBars, WindowPage};
+pub use offered_ranges::{OfferedBounds, OfferedRange, Piece};
+use order::number_of;
 use page_lender::{Notice, Outcome};
+pub use page_pins::Transfer;
 use part::next_of_part;
 pub use part::{WindowPart, WindowPartConfig, WindowPartLook};
+pub use pins::{
+    pageshare_window_begin_transfer, pageshare_window_end_transfer,
+    pageshare_window_is_in_transfer, pageshare_window_pin, pageshare_window_unpin,
+};
+pub use ranges::{pageshare_window_bounds, pageshare_window_is_all_left};
+pub use times::{
+    pageshare_window_be_eager, pageshare_window_begin_times, pageshare_window_look_ended,
+    pageshare_window_pause_ms,
+};
+pub use window_numbers::Taken;
+pub use window_pages::{PartCounts, WindowFacts, WindowPage};
+use window_pages::{
+    alike, before_release, begin, choose, cover, detach, forget, give_back, give_up, hear, here,
+    is_free, is_movable, leave, may_go_on, next, row, see, stays, stop_past, take, uncover, unmap,
+    withdraw,
+};
 use work_budget::Budget;
 
 /// Begins a budget at these readings of the clocks: the time, and the processor time that the thread has used. A share is 1 to 100
@@ -170,103 +209,266 @@ pub extern "C" fn pageshare_window_take_out(
 #[unsafe(no_mangle)]
 pub extern "C" fn pageshare_window_choose(
     page: &mut WindowPage,
-    bars: &WindowBars,
+    part: &mut PartCounts,
+    facts: &WindowFacts,
     is_zeros: bool,
 ) -> bool
-    ensures chosen { result ≡ is_free (lender_of (bars_of bars.now) page.old) }
-    ensures page { IsChosen (chosen_as is_zeros) (lender_of (bars_of bars.now) page.old) (lender_of (bars_of bars.now) page.new) }
+    ensures chosen { result ≡ is_free (lender_of facts.now (known_of page.old)) }
+    ensures page { Lends (IsChosen (chosen_as is_zeros)) (bars_of facts.now (known_of page.old)) page.old page.new part.old part.new }
 {
-    choose(page, bars, is_zeros)
+    choose(page, part, facts, is_zeros)
+}
+
+/// Returns whether a page could be chosen.
+#[unsafe(no_mangle)]
+pub extern "C" fn pageshare_window_is_free(page: &WindowPage, facts: &WindowFacts) -> bool
+    ensures { result ≡ is_free (lender_of facts.now (known_of page.now)) }
+{
+    is_free(page, facts)
 }
 
 /// Returns the number of what is to be done next with a page, which is an order from then on: 0 if there is nothing to do.
 #[unsafe(no_mangle)]
-pub extern "C" fn pageshare_window_next(page: &mut WindowPage, bars: &WindowBars) -> u8
-    ensures order { result ≡ number_of (order_due (lender_of (bars_of bars.now) page.old)) }
-    ensures page { IsOrdered (order_due (lender_of (bars_of bars.now) page.old)) (lender_of (bars_of bars.now) page.old) (lender_of (bars_of bars.now) page.new) }
+pub extern "C" fn pageshare_window_next(
+    page: &mut WindowPage,
+    part: &mut PartCounts,
+    facts: &WindowFacts,
+) -> u8
+    ensures order { result ≡ number_of (order_due (lender_of facts.now (known_of page.old))) }
+    ensures page { Lends (IsOrdered (order_due (lender_of facts.now (known_of page.old)))) (bars_of facts.now (known_of page.old)) page.old page.new part.old part.new }
 {
-    number_of(next(page, bars))
+    number_of(next(page, part, facts))
 }
 
 /// Takes back the order of a page with which nobody began.
 #[unsafe(no_mangle)]
 pub extern "C" fn pageshare_window_withdraw(page: &mut WindowPage)
-    ensures { page.new ≡ record page.old { ordered = false } }
+    ensures known { known_of page.new ≡ record (known_of page.old) { ordered = false } }
+    ensures notes { notes_of page.new ≡ notes_of page.old }
 {
-    take_back(page);
+    withdraw(page);
 }
 
 /// Learns that a page's order was done. Returns false, and learns nothing, if no order is open that could be.
 #[unsafe(no_mangle)]
-pub extern "C" fn pageshare_window_done(page: &mut WindowPage) -> bool
-    ensures takes { result ≡ takes Outcome.Done page.old }
-    ensures done { result ≡ true → IsDone Outcome.Done (lender_of no_bars page.old) (lender_of no_bars page.new) }
-    ensures same { result ≡ false → page.new ≡ page.old }
+pub extern "C" fn pageshare_window_done(page: &mut WindowPage, part: &mut PartCounts) -> bool
+    ensures { Takes Outcome.Done result page.old page.new part.old part.new }
 {
-    take(page, Outcome::Done)
+    take(page, part, Outcome::Done)
 }
 
 /// Learns that a page's order wasn't done, and that nothing changed. Returns false, and learns nothing, if no order is open.
 #[unsafe(no_mangle)]
-pub extern "C" fn pageshare_window_refused(page: &mut WindowPage) -> bool
-    ensures takes { result ≡ takes Outcome.Refused page.old }
-    ensures done { result ≡ true → IsDone Outcome.Refused (lender_of no_bars page.old) (lender_of no_bars page.new) }
-    ensures same { result ≡ false → page.new ≡ page.old }
+pub extern "C" fn pageshare_window_refused(page: &mut WindowPage, part: &mut PartCounts) -> bool
+    ensures { Takes Outcome.Refused result page.old page.new part.old part.new }
 {
-    take(page, Outcome::Refused)
+    take(page, part, Outcome::Refused)
 }
 
 /// Learns that it isn't known whether a page's order was done. Returns false, and learns nothing, if no order is open of which that may
 /// be so.
 #[unsafe(no_mangle)]
-pub extern "C" fn pageshare_window_unknown(page: &mut WindowPage) -> bool
-    ensures takes { result ≡ takes Outcome.Unknown page.old }
-    ensures done { result ≡ true → IsDone Outcome.Unknown (lender_of no_bars page.old) (lender_of no_bars page.new) }
-    ensures same { result ≡ false → page.new ≡ page.old }
+pub extern "C" fn pageshare_window_unknown(page: &mut WindowPage, part: &mut PartCounts) -> bool
+    ensures { Takes Outcome.Unknown result page.old page.new part.old part.new }
 {
-    take(page, Outcome::Unknown)
+    take(page, part, Outcome::Unknown)
 }
 
 /// Learns that the host gave this slot with this frame for a page. Returns false, and learns nothing, if it wasn't asked for a loan.
 #[unsafe(no_mangle)]
-pub extern "C" fn pageshare_window_lent(page: &mut WindowPage, slot: u32, frame: u32) -> bool
-    ensures takes { result ≡ takes (Outcome.Lent slot frame) page.old }
-    ensures done { result ≡ true → IsDone (Outcome.Lent slot frame) (lender_of no_bars page.old) (lender_of no_bars page.new) }
-    ensures same { result ≡ false → page.new ≡ page.old }
+pub extern "C" fn pageshare_window_lent(
+    page: &mut WindowPage,
+    part: &mut PartCounts,
+    slot: u32,
+    frame: u32,
+) -> bool
+    ensures { Takes (Outcome.Lent slot frame) result page.old page.new part.old part.new }
 {
-    take(page, Outcome::Lent(slot, frame))
+    take(page, part, Outcome::Lent(slot, frame))
 }
 
 /// Hears that a copy over a page's frame was found, or that it has memory of its own now. Returns false, and hears nothing, while an order
 /// is open that touches the page.
 #[unsafe(no_mangle)]
-pub extern "C" fn pageshare_window_written(page: &mut WindowPage) -> bool
-    ensures hears { result ≡ not (is_busy (lender_of no_bars page.old)) }
-    ensures heard { result ≡ true → IsHeard Notice.Written (lender_of no_bars page.old) (lender_of no_bars page.new) }
-    ensures same { result ≡ false → page.new ≡ page.old }
+pub extern "C" fn pageshare_window_written(page: &mut WindowPage, part: &mut PartCounts) -> bool
+    ensures hears { result ≡ not (is_busy (lender_with no_bars (known_of page.old))) }
+    ensures heard { result ≡ true → Lends (IsHeard Notice.Written) no_bars page.old page.new part.old part.new }
+    ensures page { result ≡ false → page.new ≡ page.old }
+    ensures part { result ≡ false → part.new ≡ part.old }
 {
-    hear(page, Notice::Written)
+    hear(page, part, Notice::Written)
 }
 
-/// Hears that a page was given up. Returns false, and hears nothing, while an order is open that touches the page.
-#[unsafe(no_mangle)]
-pub extern "C" fn pageshare_window_discarded(page: &mut WindowPage) -> bool
-    ensures hears { result ≡ not (is_busy (lender_of no_bars page.old)) }
-    ensures heard { result ≡ true → IsHeard Notice.Discarded (lender_of no_bars page.old) (lender_of no_bars page.new) }
-    ensures same { result ≡ false → page.new ≡ page.old }
-{
-    hear(page, Notice::Discarded)
-}
-
-/// Returns whether a call of the monitor may go on that these bars are for: no write to the page waits, and a page that must have memory
+/// Returns whether a call of the monitor may go on that these facts are for: no write to the page waits, and a page that must have memory
 /// of its own shows no frame.
 #[unsafe(no_mangle)]
-pub extern "C" fn pageshare_window_may_go_on(page: &WindowPage, bars: &WindowBars) -> bool
-    ensures goes_on { result ≡ may_go_on (lender_of (bars_of bars.now) page.now) }
-    ensures free { result ≡ true → IsFree (belief_of page.now) }
-    ensures own { result ≡ true → must_own (bars_of bars.now) ≡ true → ShowsNone (belief_of page.now) }
+pub extern "C" fn pageshare_window_may_go_on(page: &WindowPage, facts: &WindowFacts) -> bool
+    ensures goes_on { result ≡ may_go_on (lender_of facts.now (known_of page.now)) }
+    ensures free { result ≡ true → IsFree (known_of page.now).belief }
+    ensures own { result ≡ true → must_own (bars_of facts.now (known_of page.now)) ≡ true → ShowsNone (known_of page.now).belief }
 {
-    may_go_on(page, bars)
+    may_go_on(page, facts)
+}
+
+/// Returns whether a page's memory may be exchanged for other memory: it isn't held, and nothing keeps it from being lent.
+#[unsafe(no_mangle)]
+pub extern "C" fn pageshare_window_is_movable(page: &WindowPage, facts: &WindowFacts) -> bool
+    ensures movable { result ≡ is_movable (lender_of facts.now (known_of page.now)) }
+    ensures free { result ≡ true → IsFree (known_of page.now).belief }
+{
+    is_movable(page, facts)
+}
+
+/// Returns whether a page over a frame has to stay where it is: it is to get its copy there, or it has one that a device may hold. Writes
+/// to it wait meanwhile, and `is_copy` says whether it has memory of its own.
+#[unsafe(no_mangle)]
+pub extern "C" fn pageshare_window_stays(
+    page: &WindowPage,
+    facts: &WindowFacts,
+    is_copy: bool,
+) -> bool
+    ensures { result ≡ stays facts.now is_copy (known_of page.now) }
+{
+    stays(page, facts, is_copy)
+}
+
+/// Notes that a frame was mapped at a page's place. `clue` is some bits of its number.
+#[unsafe(no_mangle)]
+pub extern "C" fn pageshare_window_cover(page: &mut WindowPage, part: &mut PartCounts, clue: u16)
+    ensures known { known_of page.new ≡ covered (known_of page.old) }
+    ensures notes { notes_of page.new ≡ clued clue (notes_if (shows_past (known_of page.old)) (known_of page.old).belief (notes_of page.old)) }
+    ensures counts { part.new ≡ counts_then page.old page.new part.old }
+{
+    cover(page, part, clue);
+}
+
+/// Notes that memory of its own was put at a page's place: moved there, perhaps as the first page of what was moved, or mapped.
+#[unsafe(no_mangle)]
+pub extern "C" fn pageshare_window_uncover(
+    page: &mut WindowPage,
+    part: &mut PartCounts,
+    moved: bool,
+    begins: bool,
+)
+    ensures known { known_of page.new ≡ uncovered moved begins (known_of page.old) }
+    ensures notes { notes_of page.new ≡ uncovered_notes (known_of page.old) (notes_of page.old) }
+    ensures counts { part.new ≡ counts_then page.old page.new part.old }
+{
+    uncover(page, part, moved, begins);
+}
+
+/// Notes that a page begins what was moved, if it was moved: the page before it has got other memory.
+#[unsafe(no_mangle)]
+pub extern "C" fn pageshare_window_begin_moved(page: &mut WindowPage)
+    ensures known { known_of page.new ≡ moved_first (known_of page.old) }
+    ensures notes { notes_of page.new ≡ kept_by (known_of page.old).belief (notes_of page.old) }
+{
+    begin(page);
+}
+
+/// Notes whether a page was given back as zeros and has no memory, or has memory again. Of a page over a frame nothing is noted.
+#[unsafe(no_mangle)]
+pub extern "C" fn pageshare_window_give_back(
+    page: &mut WindowPage,
+    part: &mut PartCounts,
+    is_zeros: bool,
+)
+    ensures { Becomes (given_back is_zeros (known_of page.old)) false page.old page.new part.old part.new }
+{
+    give_back(page, part, is_zeros);
+}
+
+/// Notes that a page shows no frame of a lender that is gone.
+#[unsafe(no_mangle)]
+pub extern "C" fn pageshare_window_stop_past(page: &mut WindowPage, part: &mut PartCounts)
+    ensures { Becomes (no_past (known_of page.old)) (shows_past (known_of page.old)) page.old page.new part.old part.new }
+{
+    stop_past(page, part);
+}
+
+/// Notes that a page's content was given up, and its lender hears it, unless an order is open that touches the page.
+#[unsafe(no_mangle)]
+pub extern "C" fn pageshare_window_give_up(page: &mut WindowPage, part: &mut PartCounts)
+    ensures page { Becomes (given_up (known_of page.old)) true page.old page.new part.old part.new }
+    ensures right { HeardRightly (known_of page.old).belief (discarded (known_of page.old)) }
+{
+    give_up(page, part);
+}
+
+/// Notes that a page was unmapped, or that something else was mapped in its place. It has left its window.
+#[unsafe(no_mangle)]
+pub extern "C" fn pageshare_window_unmap(page: &mut WindowPage, part: &mut PartCounts)
+    ensures page { Becomes (unmapped (known_of page.old)) true page.old page.new part.old part.new }
+    ensures right { HeardRightly (known_of page.old).belief (discarded (known_of page.old)) }
+{
+    unmap(page, part);
+}
+
+/// Notes that a page has left its window, with what it contains.
+#[unsafe(no_mangle)]
+pub extern "C" fn pageshare_window_leave(page: &mut WindowPage, part: &mut PartCounts)
+    ensures { Becomes (gone (known_of page.old)) true page.old page.new part.old part.new }
+{
+    leave(page, part);
+}
+
+/// Notes that a page's lender is gone, and no slot of it counts any more. What the page shows stays.
+#[unsafe(no_mangle)]
+pub extern "C" fn pageshare_window_detach(page: &mut WindowPage, part: &mut PartCounts)
+    ensures { Becomes (detached (known_of page.old)) true page.old page.new part.old part.new }
+{
+    detach(page, part);
+}
+
+/// Notes that what looks have found of a page counts no more.
+#[unsafe(no_mangle)]
+pub extern "C" fn pageshare_window_forget(page: &mut WindowPage, part: &mut PartCounts)
+    ensures { Becomes (known_of page.old) true page.old page.new part.old part.new }
+{
+    forget(page, part);
+}
+
+/// Notes whether a page was seen elsewhere or is zeros, so that it counts as one that could be shared.
+#[unsafe(no_mangle)]
+pub extern "C" fn pageshare_window_see(page: &mut WindowPage, part: &mut PartCounts, is_seen: bool)
+    ensures known { known_of page.new ≡ known_of page.old }
+    ensures notes { notes_of page.new ≡ record (notes_of page.old) { seen = is_seen } }
+    ensures counts { part.new ≡ counts_then page.old page.new part.old }
+{
+    see(page, part, is_seen);
+}
+
+/// Returns how many pages from the first on lie as it does: over frames or not, and in the window or not.
+#[unsafe(no_mangle)]
+pub extern "C" fn pageshare_window_alike(pages: &[WindowPage]) -> usize
+    ensures { result ≡ option_map_or (λ first. prefix_len (lies_as first) pages.now) (slice_get pages.now 0) 0 }
+{
+    alike(pages)
+}
+
+/// Returns how many pages from the first on are their window's, or aren't, as the first is.
+#[unsafe(no_mangle)]
+pub extern "C" fn pageshare_window_here(pages: &[WindowPage]) -> usize
+    ensures { result ≡ option_map_or (λ first. prefix_len (is_here_as first) pages.now) (slice_get pages.now 0) 0 }
+{
+    here(pages)
+}
+
+/// Returns how many pages from the first on can be mapped, or given back, by one call: their orders to map are open, and their frames are
+/// in a row; or their orders to give memory back are open. 0 if neither is so of the first page.
+#[unsafe(no_mangle)]
+pub extern "C" fn pageshare_window_row(pages: &[WindowPage]) -> usize
+    ensures { result ≡ row_of pages.now }
+{
+    row(pages)
+}
+
+/// Returns how many pages come before the first one whose slot is to be released, and of which no order is open.
+#[unsafe(no_mangle)]
+pub extern "C" fn pageshare_window_before_release(pages: &[WindowPage]) -> usize
+    ensures { result ≡ prefix_len keeps_slot pages.now }
+{
+    before_release(pages)
 }
 
 /// Returns the number of what is to be done with a part of a window after a look: 0 nothing, 1 it is split, 2 it is made whole. The caller
@@ -278,6 +480,7 @@ pub extern "C" fn pageshare_window_next_of_part(
     look: &WindowPartLook,
 ) -> u8
     ensures order { result ≡ part_number (order_of (config_of config.now) (part_of part.old) (look_of look.now) look.now.is_loose look.now.is_movable) }
+    ensures rests { rests_of part.new ≡ record (rests_of part.old) { whole = part.new.whole } }
     ensures part { part_of part.new ≡ part_then (config_of config.now) (part_of part.old) (look_of look.now) (order_of (config_of config.now) (part_of part.old) (look_of look.now) look.now.is_loose look.now.is_movable) }
 {
     next_of_part(part, config, look)

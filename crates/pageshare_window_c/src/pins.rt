@@ -1,0 +1,66 @@
+//! Which pages a device may hold: transfers that are under way, and pages that were pinned.
+ghost use Rattle.std.specs.Prelude.{◌≡◌, if◌then◌else◌};
+ghost use Rattle.page_pins.specs.Pins.{can_pin, can_unpin, pinned, unpinned};
+ghost use Rattle.page_pins.specs.Transfers.{elsewhere_begun, elsewhere_ended, first_free, is_met, with_begun, with_ended};
+
+use page_pins::{Transfer, begin, end, is_under_way, pin, unpin};
+
+/// Begins a transfer at the first free place, and returns that place. Where none is free it counts the transfer as one that is elsewhere,
+/// and returns the number of places.
+#[unsafe(no_mangle)]
+pub extern "C" fn pageshare_window_begin_transfer(
+    table: &mut [Transfer],
+    elsewhere: &mut u64,
+    from: u64,
+    to: u64,
+) -> usize
+    ensures place { result ≡ first_free table.old }
+    ensures table { table.new ≡ with_begun from to table.old }
+    ensures elsewhere { elsewhere.new ≡ elsewhere_begun table.old elsewhere.old }
+{
+    begin(table, elsewhere, from, to)
+}
+
+/// Ends the transfer at a place. Beyond the places it ends one that is elsewhere.
+#[unsafe(no_mangle)]
+pub extern "C" fn pageshare_window_end_transfer(
+    table: &mut [Transfer],
+    elsewhere: &mut u64,
+    place: usize,
+)
+    ensures table { table.new ≡ with_ended place table.old }
+    ensures elsewhere { elsewhere.new ≡ elsewhere_ended place table.old elsewhere.old }
+{
+    end(table, elsewhere, place);
+}
+
+/// Returns whether one of the first `there` transfers of a table is under way of some of these bytes.
+#[unsafe(no_mangle)]
+pub extern "C" fn pageshare_window_is_in_transfer(
+    table: &[Transfer],
+    there: u64,
+    from: u64,
+    to: u64,
+) -> bool
+    ensures { result ≡ is_met there from to table.now }
+{
+    is_under_way(table, there, from, to)
+}
+
+/// Pins pages once more. Returns whether it did: not if one of them isn't there, or was pinned 65,535 times. Then nothing changes.
+#[unsafe(no_mangle)]
+pub extern "C" fn pageshare_window_pin(counts: &mut [u16], from: usize, count: usize) -> bool
+    ensures pinned { result ≡ can_pin from count counts.old }
+    ensures counts { counts.new ≡ if result then pinned from count counts.old else counts.old }
+{
+    pin(counts, from, count)
+}
+
+/// Unpins pages once. Returns whether it did: not if one of them isn't there, or isn't pinned. Then nothing changes.
+#[unsafe(no_mangle)]
+pub extern "C" fn pageshare_window_unpin(counts: &mut [u16], from: usize, count: usize) -> bool
+    ensures unpinned { result ≡ can_unpin from count counts.old }
+    ensures counts { counts.new ≡ if result then unpinned from count counts.old else counts.old }
+{
+    unpin(counts, from, count)
+}
