@@ -288,14 +288,26 @@ fn where_a_part_rests_each_page_is_taken_in_its_turn(rt: HostRuntime) {
 fn pages_of_a_whole_part_are_asked_about_in_passing(rt: HostRuntime) {
     let mut passing = 0u32;
     for look in 0..256u32 {
-        if idle_page(1).is_asked_in_passing(&WHOLE, look, 100) {
+        if idle_page(1).is_asked_in_passing(&CONFIG, &WHOLE, look, 100) {
             passing = passing.wrapping_add(1);
         }
-        holds(&rt, !idle_page(0).is_asked_in_passing(&WHOLE, look, 100));
-        holds(&rt, !idle_page(1).is_asked_in_passing(&SPLIT, look, 100));
+        holds(
+            &rt,
+            !idle_page(0).is_asked_in_passing(&CONFIG, &WHOLE, look, 100),
+        );
+        holds(
+            &rt,
+            !idle_page(1).is_asked_in_passing(&CONFIG, &SPLIT, look, 100),
+        );
     }
     equal(&rt, passing, 192);
-    holds(&rt, !idle_page(1).is_asked_in_passing(&WHOLE, 31, 64));
-    holds(&rt, idle_page(1).is_asked_in_passing(&WHOLE, 32, 64));
+    holds(
+        &rt,
+        !idle_page(1).is_asked_in_passing(&CONFIG, &WHOLE, 31, 64),
+    );
+    holds(
+        &rt,
+        idle_page(1).is_asked_in_passing(&CONFIG, &WHOLE, 33, 64),
+    );
     holds(&rt, idle_page(3).is_again() && !idle_page(2).is_again());
 }

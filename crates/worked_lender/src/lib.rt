@@ -1,6 +1,7 @@
-//! Traces of windows, lenders of one page and of a window beside the protocol of windows, the budget of their thread, its looks, the
-//! mappings that windows take, and the ranges that become windows. It is by the public calls of `page_lender`, `window_lender`,
-//! `window_events`, `work_budget`, `idle_pages`, `look_steps`, `mapping_room` and `offered_ranges`. This crate has only tests.
+//! Traces of windows, lenders of one page and of a window beside the protocol of windows, what is known of each page, the budget of
+//! their thread, its looks and when they begin, the mappings that windows take, the ranges that become windows, the pages that a device may hold, and the
+//! numbers of new windows. It is by the public calls of `page_lender`, `window_lender`, `window_pages`, `window_events`, `work_budget`,
+//! `idle_pages`, `look_steps`, `look_times`, `mapping_room`, `offered_ranges`, `page_pins` and `window_numbers`. This crate has only tests.
 #![tactic(auto)]
 
 #[cfg(test)]
@@ -12,13 +13,19 @@ mod host;
 #[cfg(test)]
 mod idle;
 #[cfg(test)]
+mod known;
+#[cfg(test)]
 mod lives;
 #[cfg(test)]
 mod moves;
 #[cfg(test)]
 mod numbers;
 #[cfg(test)]
+mod pages;
+#[cfg(test)]
 mod parts;
+#[cfg(test)]
+mod pins;
 #[cfg(test)]
 mod ranges;
 #[cfg(test)]
@@ -26,6 +33,12 @@ mod rooms;
 #[cfg(test)]
 mod steps;
 #[cfg(test)]
+mod taken;
+#[cfg(test)]
+mod times;
+#[cfg(test)]
 mod traces;
+#[cfg(test)]
+mod turns;
 #[cfg(test)]
 mod windows;

@@ -1,7 +1,9 @@
 //! Ranges that are offered and taken out again: some worked out by hand, and some by chance, beside a list of whose each page is.
 use crate::checks::{equal, equal_at, holds};
 use crate::numbers::Numbers;
-use offered_ranges::{OfferedRange, Piece, add, is_part_left, next, take_out};
+use offered_ranges::{
+    OfferedBounds, OfferedRange, Piece, add, bounds, is_all_left, is_part_left, next, take_out,
+};
 use std::process::Abort;
 
 /// A place that no range has.
@@ -53,6 +55,42 @@ fn pieces_are_found_and_taken_out(rt: HostRuntime) {
     holds(&rt, is_part_left(&ranges[..2], 7));
     holds(&rt, take_out(&mut ranges, &mut count, 0, 10, 12));
     holds(&rt, !is_part_left(&ranges[..1], 7));
+}
+
+#[test]
+fn bounds_are_of_ranges(rt: HostRuntime) {
+    let (mut ranges, mut count) = ([FREE; 3], 0);
+    equal(
+        &rt,
+        bounds(&ranges[..0]),
+        OfferedBounds { begin: 0, end: 0 },
+    );
+    holds(&rt, add(&mut ranges, &mut count, 30, 40, 1));
+    holds(&rt, add(&mut ranges, &mut count, 10, 20, 2));
+    holds(&rt, add(&mut ranges, &mut count, 25, 30, 3));
+    let all = OfferedBounds { begin: 10, end: 40 };
+    equal(&rt, bounds(&ranges), all);
+    let last = OfferedBounds { begin: 25, end: 30 };
+    equal(&rt, bounds(&ranges[2..]), last);
+}
+
+#[test]
+fn pages_are_all_that_is_left_of_a_window(rt: HostRuntime) {
+    let range = |begin, end, window| OfferedRange {
+        begin,
+        end,
+        window,
+        ..FREE
+    };
+    let ranges = [range(30, 40, 7), range(10, 20, 8), range(25, 30, 7)];
+    holds(&rt, is_all_left(&ranges, 1, 10, 20));
+    holds(&rt, !is_all_left(&ranges, 1, 10, 19));
+    holds(&rt, !is_all_left(&ranges, 1, 11, 20));
+    holds(&rt, !is_all_left(&ranges, 0, 30, 40));
+    holds(&rt, !is_all_left(&ranges, 2, 25, 30));
+    holds(&rt, is_all_left(&ranges[..2], 0, 30, 40));
+    holds(&rt, is_all_left(&ranges[1..], 1, 25, 30));
+    holds(&rt, !is_all_left(&ranges, 3, 0, 0));
 }
 
 /// What the test knows of each page: its range's window, 0 if it is in none; and its number there.
