@@ -19,7 +19,8 @@ from harness import TOP, Tally
 HEADERS = ["lib/include/pageshare.h", "lib/include/pageshare_host.h", "window/pageshare_window.h"]
 FOLDERS = {
     "crates/c_surface/src": "rt", "crates/pageshare_c/src": "rt", "crates/pageshare_host_c/src": "rt", "crates/pageshare_window_c/src": "rt",
-    "crates/offered_ranges/src": "rt", "lib/rust/src": "rs",
+    "crates/offered_ranges/src": "rt", "crates/page_pins/src": "rt", "crates/window_numbers/src": "rt", "crates/window_pages/src": "rt",
+    "crates/look_steps/src": "rt", "crates/look_times/src": "rt", "lib/rust/src": "rs",
 }
 # The statuses of the proved libraries, and what a header writes before a name. FAULT_ANSWER is a fault that no packet of a client has.
 STATUSES = "crates/c_surface/src/status.rt"
@@ -32,14 +33,17 @@ STRUCTS = {
     "DomainTotals": "pageshare_domain_totals pageshare_host_totals", "HostShape": "pageshare_host_shape",
     "KnownSession": "pageshare_host_session", "ReceivedPacket": "pageshare_host_received",
     "ServedPacket": "pageshare_host_served", "PacketHead": "pageshare_host_packet", "WindowBudget": "pageshare_window_budget",
-    "WindowPage": "pageshare_window_page", "WindowBars": "pageshare_window_bars", "WindowPart": "pageshare_window_part",
-    "WindowPartConfig": "pageshare_window_part_config", "WindowPartLook": "pageshare_window_part_look",
-    "OfferedRange": "pageshare_window_range", "Piece": "pageshare_window_piece",
+    "WindowPage": "pageshare_window_page", "PartCounts": "pageshare_window_counts", "WindowFacts": "pageshare_window_facts",
+    "WindowPart": "pageshare_window_part", "WindowPartConfig": "pageshare_window_part_config",
+    "WindowPartLook": "pageshare_window_part_look", "OfferedRange": "pageshare_window_range", "Piece": "pageshare_window_piece",
+    "OfferedBounds": "pageshare_window_range_bounds", "Transfer": "pageshare_window_transfer", "WindowWay": "pageshare_window_way",
+    "WindowLook": "pageshare_window_look", "LookSteps": "pageshare_window_steps", "PartReturn": "pageshare_window_return",
+    "Taken": "pageshare_window_taken", "LookFinds": "pageshare_window_finds", "LookTimes": "pageshare_window_times",
 }
 # A handle has a pointer and a flag; what is in it is private, and so are its names.
 HANDLES = {"Machine", "Slot", "DomainHandle", "DomainSlot", "HostHandle", "HostSlot", "Handle"}
-# What stands for a type of C. Each other one is a pointer, but for PhantomData, which takes no place.
-TYPES = {"bool": "bool", "u8": "uint8_t", "u32": "uint32_t", "u64": "uint64_t", "usize": "size_t"}
+# What stands for a type of C. Each other one is an array or a pointer, but for PhantomData, which takes no place.
+TYPES = {"bool": "bool", "u8": "uint8_t", "u16": "uint16_t", "u32": "uint32_t", "u64": "uint64_t", "usize": "size_t"}
 STRUCT = re.compile(r"#\[repr\(C\)\]\n(?:[ #/][^\n]*\n)*(?:pub(?:\(crate\))? )?struct (\w+)[^{\n]*\{\n((?:[^}\n][^\n]*\n)*)\}")
 STATUS = re.compile(r"^pub const (\w+): u32 = (\d+);$", re.M)
 ENUMERATOR = re.compile(r"^\s*(PAGESHARE_\w+) = (\d+)\b", re.M)
@@ -52,9 +56,14 @@ def structs_of_c() -> dict[str, list[tuple[str, str]]]:
     for header in HEADERS:
         text = re.sub(r"/\*(?:[^*]|\*(?!/))*\*/", "", (TOP / header).read_text())
         for name, inside in re.findall(r"^struct (\w+) \{\n((?:[^}\n]*\n)*)\};", text, re.M):
-            members = re.findall(r"^\s*((?:const )?\w+ )(\**)(\w+);", inside, re.M)
-            found[name] = [(member, "pointer" if stars else kind.strip()) for kind, stars, member in members]
+            members = re.findall(r"^\s*((?:const )?(?:struct )?\w+ )(\**)(\w+)(\[\w+\])?;", inside, re.M)
+            found[name] = [(member, "array" if sizes else "pointer" if stars else kind.strip()) for kind, stars, member, sizes in members]
     return found
+
+
+def type_of(kind: str) -> str:
+    """What stands in C for a type."""
+    return "array" if kind.startswith("[") else TYPES.get(kind, "pointer")
 
 
 def compare_statuses(tally: Tally) -> None:
@@ -73,7 +82,7 @@ def main() -> int:
         for file in sorted((TOP / folder).rglob(f"*.{suffix}")):
             for name, inside in STRUCT.findall(file.read_text()):
                 if name not in HANDLES:
-                    found = [(member, TYPES.get(kind, "pointer")) for member, kind in MEMBER.findall(inside) if "PhantomData" not in kind]
+                    found = [(member, type_of(kind)) for member, kind in MEMBER.findall(inside) if "PhantomData" not in kind]
                     for of_c in STRUCTS.get(name, "").split() or [""]:
                         tally.equal(f"{name} in {file.relative_to(TOP)}", found, due.get(of_c))
     return tally.close()

@@ -10,7 +10,7 @@ built goes to out/window. In turn: what becomes of pages (pages.c), of those tha
 the thread sanitizer, and with a record of its events that `out/window_trace` must play. What this computer can't do is left out, and so
 said. CC names another compiler than cc, and CFLAGS more words for it.
 
-With WRONG=1 in the environment the stress runs with wrong bodies in place of right ones, too, and each must be found.
+With WRONG=1 in the environment tests run with wrong bodies in place of right ones, too, and each must be found.
 
 A test that fails prints what is wrong. The last line is `N passed, M failed`, of the programs that ran (status 0
 where all passed, else 1).
@@ -64,14 +64,16 @@ class Body(typing.NamedTuple):
 ZEROED = "map_pages(window, first, count, ZEROS, PROT_READ | PROT_WRITE) != 0"
 DROPPED = "madvise(address_of(window, first), bytes_of(count), MADV_DONTNEED) != 0"
 GUARDED = "return cause == 0 ? pagemap_are_guarded(&windows->pagemap, at, PART) : cause;"
-PINNED = ".pinned = is_pinned(window, number) || (may_be_copy && may_pin(windows)),"
-REFUSED = "void note_refused(struct window *window, size_t number) {"
-DISCARDED = "    pageshare_window_discarded(&page);"
+REFUSED = "else pageshare_window_refused("
+LEAVES = "(struct pageshare_window_facts){.leaves = true}"
+WITHDRAWN = "if (order != PAGESHARE_WINDOW_RELEASE) pageshare_window_withdraw(&window->pages[number]);"
 ENDED = "        if (ends_with_watch(hold, i)) outcome(hold, i, !is_stuck(windows, hold->first + i));"
+# In place of a call's name: its arguments are looked at, and the call is left out.
+LEFT_OUT = "(void)("
 BODIES = {
     "lends without a comparison": Body("lend.c", "hold->equal[i] = are_equal(page, windows->frames_at + bytes_of(frame));",
                                        "hold->equal[i] = true;", ["stress"]),
-    "holds nothing": Body("lend.c", "if (!hold->moves && !is_over && may_pin(windows)) return false;",
+    "holds nothing": Body("lend.c", "if (!hold->moves && !is_over_frame && may_pin(windows)) return false;",
                           "hold->moves = false, memset(hold->held, 1, hold->count); return true;", ["stress"]),
     "takes what is shown for copies": Body("kernel.c", "(ENTRY_FILE | ENTRY_GUARDED)", "ENTRY_GUARDED", ["stress", "--scan", "0"]),
     "discards over a frame": Body("home.c", ZEROED, DROPPED, ["stress"]),
@@ -79,19 +81,29 @@ BODIES = {
                                       ["stress", "--pins", "1", "--move", "0"]),
     "copies a part unguarded": Body("parts.c", GUARDED, "return faults_end_watch(&windows->faults, at, PART);", ["parts"]),
     "copies what may be pinned": Body("parts.c", "if (cause == 0 && may_pin(windows)) cause = EBUSY;", "", ["parts"]),
-    "lends what a child may have": Body("belief.c", ".inherited = !window->advice.dont_fork,", ".inherited = false,", ["pages"]),
-    "lends what a device may have": Body("belief.c", PINNED, ".pinned = may_be_copy && may_pin(windows),", ["parts"]),
-    "lends what is locked": Body("belief.c", ".locked = windows->is_locked,", ".locked = false,", ["pages"]),
-    "lends what has left": Body("belief.c", ".left = page->out == 1,", ".left = false,", ["parts"]),
-    "lends after the end": Body("belief.c", ".ended = window->ends || windows->is_over};", ".ended = false};", ["leaves"]),
-    "takes an empty transfer for none": Body("windows.c", ".is_there = true,", ".is_there = at != NULL,", ["leaves"]),
-    "hears no discard": Body("belief.c", DISCARDED, "", ["pages"]),
-    "counts a refused release as done": Body("belief.c", REFUSED, f"{REFUSED} note_done(window, number); return;", ["pages"]),
-    "frees what is held": Body("set.h", "return is_loan || page->belief >= PAGESHARE_WINDOW_HELD_ZEROS;", "return is_loan;", ["pages"]),
-    "forgets slots to release": Body("set.h", "page->belief <= PAGESHARE_WINDOW_UNRELEASED;", "page->belief <= PAGESHARE_WINDOW_HOMING;",
-                                     ["pages"]),
-    "keeps half of a belief": Body("belief.c", "page->belief = believed->belief & 31u;", "page->belief = believed->belief & 15u;", ["pages"]),
-    "forgets that an order is open": Body("belief.c", "page->ordered = believed->ordered ? 1 : 0;", "page->ordered = 0;", ["pages"]),
+    "lends what a child may have": Body("pages.c", ".inherited = !window->advice.dont_fork,", ".inherited = false,", ["pages"]),
+    "lends what a device has": Body("pages.c", ".pinned = is_pinned(window, number),", ".pinned = false,", ["parts"]),
+    "lends copies that a device may have": Body("pages.c", ".may_pin = may_pin(windows),", ".may_pin = false,", ["leaves"]),
+    "lends what is locked": Body("pages.c", ".locked = windows->is_locked,", ".locked = false,", ["pages"]),
+    "lends after the end": Body("pages.c", ".ended = window->ends || windows->is_over};", ".ended = false};", ["leaves"]),
+    "says of no page that it leaves": Body("home.c", LEAVES, "(struct pageshare_window_facts){.leaves = false}", ["leaves"]),
+    "forgets why pages go home": Body("home.c", "facts = facts_with(window, page, why);", "facts = facts_of(window, page);", ["leaves"]),
+    "moves copies that a device may have": Body("home.c", "&facts, own[i]);", "&facts, false);", ["pages"]),
+    "begins transfers of no byte": Body("windows.c", "begin, begin + bytes);", "begin, begin);", ["leaves"]),
+    "notes no page that was given up": Body("home.c", "pageshare_window_give_up(", LEFT_OUT, ["pages"]),
+    "notes no page that was unmapped": Body("home.c", "pageshare_window_unmap(", LEFT_OUT, ["leaves"]),
+    "notes no page that has left": Body("home.c", "pageshare_window_leave(", LEFT_OUT, ["leaves"]),
+    "notes no lender that is gone": Body("windows.c", "pageshare_window_detach(", LEFT_OUT, ["leaves"]),
+    "notes no write": Body("pages.c", "pageshare_window_written(", LEFT_OUT, ["pages"]),
+    "notes no write to a frame of the past": Body("pages.c", "pageshare_window_stop_past(", LEFT_OUT, ["leaves"]),
+    "notes no zeros": Body("pages.c", "pageshare_window_give_back(", LEFT_OUT, ["parts"]),
+    "notes zeros as frames": Body("pages.c", "if (frame == ZEROS) pageshare", "if (frame == ZEROS && is_moved) pageshare", ["pages"]),
+    "counts a refused order as done": Body("pages.c", REFUSED, "else pageshare_window_done(", ["pages"]),
+    "keeps an order with which nobody began": Body("pages.c", WITHDRAWN, "", ["guards"]),
+    "counts all pages in the first part": Body("pages.c", "return &part_of(window, number)->counts;",
+                                               "return &part_of(window, number * 0)->counts;", ["parts"]),
+    "forgets slots to release": Body("set.h", "belief_of(page) <= PAGESHARE_WINDOW_UNRELEASED;",
+                                     "belief_of(page) <= PAGESHARE_WINDOW_HOMING;", ["pages"]),
     "never says that a watch ended": Body("lend.c", ENDED, "", ["guards"]),
 }
 

@@ -25,10 +25,7 @@ static void clear(struct window *window, size_t first, size_t count) {
 static void note_given_up(struct window *window, size_t first, size_t count, bool is_cleared) {
     struct windows *windows = window->windows;
     for (size_t page = first; page < first + count; page++) {
-        hear_discarded(window, page);
-        stop_showing_past(window, page);
-        note_zero(window, page, false);
-        forget_content(window, page);
+        pageshare_window_give_up(&window->pages[page], &part_of(window, page)->counts);
         if (is_cleared) trace_copy(windows->trace, window->base + (uint32_t)page, address_of(window, page));
         else trace_discard(windows->trace, window->base + (uint32_t)page);
     }
@@ -37,10 +34,10 @@ static void note_given_up(struct window *window, size_t first, size_t count, boo
 
 /* Gives up pages in the window that are alike. With the lock. */
 static struct window_result give_up(struct window *window, size_t first, size_t count) {
-    bool is_over = window->pages[first].over == 1, is_cleared = false;
-    if (!is_over && madvise(address_of(window, first), bytes_of(count), MADV_DONTNEED) < 0)
+    bool is_over_frame = is_over(&window->pages[first]), is_cleared = false;
+    if (!is_over_frame && madvise(address_of(window, first), bytes_of(count), MADV_DONTNEED) < 0)
         return result_of(WINDOW_NO_MAPPING, errno);
-    if (is_over && map_pages(window, first, count, ZEROS, PROT_READ | PROT_WRITE) != 0) {
+    if (is_over_frame && map_pages(window, first, count, ZEROS, PROT_READ | PROT_WRITE) != 0) {
         clear(window, first, count);
         is_cleared = true;
     }
@@ -88,8 +85,8 @@ static struct window_result discard_part(struct window *window, size_t first, si
     for (size_t done = 0, run = 0; done < count && result.status == WINDOW_OK; done += run) {
         run = alike(window, first + done, count - done);
         if (!is_here(window, first + done)) continue;
-        result = window->pages[first + done].out == 0 ? give_up(window, first + done, run)
-                                                      : give_up_all_left(window, first + done, run);
+        result = is_out(&window->pages[first + done]) ? give_up_all_left(window, first + done, run)
+                                                      : give_up(window, first + done, run);
     }
     return result;
 }
@@ -100,10 +97,9 @@ struct window_result window_discard(struct window *window, size_t first, size_t 
 }
 
 size_t window_run(struct window *window, size_t first, size_t most, bool *is_its) {
-    size_t count = 1;
     lock_set(window->windows);
     *is_its = is_here(window, first);
-    while (count < most && is_here(window, first + count) == *is_its) count++;
+    size_t count = pageshare_window_here(window->pages + first, most);
     unlock_set(window->windows);
     return count;
 }
@@ -112,32 +108,28 @@ size_t window_run(struct window *window, size_t first, size_t most, bool *is_its
 struct home {
     struct window *window;
     size_t first, count;
-    uint8_t *at;                                   /* the memory elsewhere */
-    bool stays[HOME_MOST];                         /* a device may have pinned its copy */
-    struct pageshare_window_page pages[HOME_MOST]; /* what is believed of them */
+    struct pageshare_window_facts why; /* what is so of them from now on, beside what is so already */
+    uint8_t *at;                       /* the memory elsewhere */
+    bool stays[HOME_MOST];             /* a device may have pinned its copy */
 };
 
-/* Orders that pages that show their frames get memory of their own; `why`: what keeps them from being lent, beside what does so already. */
-static void order_home(struct window *window, size_t first, size_t count, struct pageshare_window_bars why,
-                       struct pageshare_window_page *pages) {
-    for (size_t i = 0; i < count; i++) {
-        const struct pageshare_window_bars bars = bars_with(window, first + i, why);
-        pages[i] = believed(&window->pages[first + i]);
-        if (is_lent(&window->pages[first + i])) pageshare_window_next(&pages[i], &bars);
+/* Orders that pages that show their frames get memory of their own. */
+static void order_home(struct window *window, size_t first, size_t count, struct pageshare_window_facts why) {
+    for (size_t page = first; page < first + count; page++) {
+        const struct pageshare_window_facts facts = facts_with(window, page, why);
+        if (is_lent(&window->pages[page])) pageshare_window_next(&window->pages[page], &part_of(window, page)->counts, &facts);
     }
 }
 
 /* Whether a page was ordered to get memory of its own. */
-static bool is_homing(const struct pageshare_window_page *page) {
-    return page->belief == PAGESHARE_WINDOW_HOMING || page->belief == PAGESHARE_WINDOW_HOMING_IN_PLACE;
+static bool is_homing(const struct window *window, size_t page) {
+    unsigned belief = belief_of(&window->pages[page]);
+    return belief == PAGESHARE_WINDOW_HOMING || belief == PAGESHARE_WINDOW_HOMING_IN_PLACE;
 }
 
 /* What came of that. */
-static void note_homing(struct window *window, size_t number, struct pageshare_window_page *page, bool is_done) {
-    if (!is_homing(page)) return;
-    if (is_done) pageshare_window_done(page);
-    else pageshare_window_refused(page);
-    believe(window, number, page);
+static void note_homing(struct window *window, size_t page, bool is_done) {
+    if (is_homing(window, page)) note_order(window, page, is_done);
 }
 
 /* Takes memory for pages, and guards them. Returns 0 or an errno; if it isn't 0, nothing is guarded. */
@@ -163,9 +155,10 @@ static int find_staying(struct home *home) {
     bool own[HOME_MOST];
     find_pins(windows);
     int cause = pagemap_find_copies(&windows->pagemap, address_of(home->window, home->first), home->count, own);
-    for (size_t i = 0; i < home->count && cause == 0; i++)
-        home->stays[i] = home->pages[i].belief == PAGESHARE_WINDOW_HOMING_IN_PLACE ||
-                         (own[i] && (may_pin(windows) || is_pinned(home->window, home->first + i)));
+    for (size_t i = 0; i < home->count && cause == 0; i++) {
+        const struct pageshare_window_facts facts = facts_with(home->window, home->first + i, home->why);
+        home->stays[i] = pageshare_window_stays(&home->window->pages[home->first + i], &facts, own[i]);
+    }
     return cause;
 }
 
@@ -177,7 +170,7 @@ static int bring(struct home *home, size_t from, size_t count) {
     if (mremap(copies, bytes_of(count), bytes_of(count), MREMAP_MAYMOVE | MREMAP_FIXED, to) == MAP_FAILED) return errno;
     note_moved(window, home->first + from, count);
     for (size_t i = from; i < from + count; i++) {
-        note_homing(window, home->first + i, &home->pages[i], true);
+        note_homing(window, home->first + i, true);
         forget_content(window, home->first + i);
         trace_copy(window->windows->trace, window->base + (uint32_t)(home->first + i), to + bytes_of(i - from));
     }
@@ -215,25 +208,29 @@ static int bring_home(struct home *home) {
 
 /* Gives pages over frames, at most PART, a copy of their own, where they are. Returns 0 or an errno. */
 static int copy_in_place(struct window *window, size_t first, size_t count) {
-    struct pageshare_window_page pages[PART];
-    order_home(window, first, count, (struct pageshare_window_bars){.pinned = true}, pages);
+    order_home(window, first, count, (struct pageshare_window_facts){.pinned = true});
     int cause = madvise(address_of(window, first), bytes_of(count), MADV_POPULATE_WRITE) < 0 ? errno : 0;
-    for (size_t i = 0; i < count; i++) {
-        bool is_copied = cause == 0 && (is_homing(&pages[i]) || shows_past(&window->pages[first + i]));
-        note_homing(window, first + i, &pages[i], cause == 0);
+    for (size_t page = first; page < first + count; page++) {
+        bool is_copied = cause == 0 && (is_homing(window, page) || shows_past(&window->pages[page]));
+        note_homing(window, page, cause == 0);
         if (!is_copied) continue;
-        stop_showing_past(window, first + i);
-        trace_copy(window->windows->trace, window->base + (uint32_t)(first + i), address_of(window, first + i));
+        stop_showing_past(window, page);
+        trace_copy(window->windows->trace, window->base + (uint32_t)page, address_of(window, page));
         window->windows->counts.taken_home++;
     }
     return cause;
+}
+
+/* Whether a page is in the window and lies over a frame. */
+static bool is_in_frames(const struct window *window, size_t page) {
+    return is_over(&window->pages[page]) && !is_out(&window->pages[page]);
 }
 
 /* What is over frames still gets a copy of its own there. */
 static struct window_result settle_home(struct window *window, size_t first, size_t count) {
     for (size_t done = 0, run = 0; done < count; done += run) {
         run = alike(window, first + done, count - done);
-        if (window->pages[first + done].over == 0 || window->pages[first + done].out == 1) continue;
+        if (!is_in_frames(window, first + done)) continue;
         int cause = copy_in_place(window, first + done, run);
         if (cause != 0) return result_of(WINDOW_NO_MAPPING, cause);
     }
@@ -241,19 +238,18 @@ static struct window_result settle_home(struct window *window, size_t first, siz
 }
 
 struct window_result take_home(struct window *window, size_t first, size_t count) {
-    return take_home_for(window, first, count, (struct pageshare_window_bars){.called = false});
+    return take_home_for(window, first, count, (struct pageshare_window_facts){.called = false});
 }
 
-struct window_result take_home_for(struct window *window, size_t first, size_t count, struct pageshare_window_bars why) {
+struct window_result take_home_for(struct window *window, size_t first, size_t count, struct pageshare_window_facts why) {
     struct windows *windows = window->windows;
     for (size_t done = 0, run = 0; done < count; done += run) {
         run = least(alike(window, first + done, count - done), HOME_MOST);
-        const struct page *page = &window->pages[first + done];
-        if (page->over == 0 || page->out == 1) continue;
-        struct home home = {.window = window, .first = first + done, .count = run};
-        order_home(window, home.first, run, why, home.pages);
+        if (!is_in_frames(window, first + done)) continue;
+        struct home home = {.window = window, .first = first + done, .count = run, .why = why};
+        order_home(window, home.first, run, why);
         int cause = bring_home(&home);
-        for (size_t i = 0; i < run; i++) note_homing(window, home.first + i, &home.pages[i], false);
+        for (size_t i = 0; i < run; i++) note_homing(window, home.first + i, false);
         if (windows->stuck_count > 0) return result_of(WINDOW_STUCK, cause);
         struct window_result result = settle_home(window, first + done, run);
         if (result.status != WINDOW_OK) return result;
@@ -284,21 +280,18 @@ void take_all_home(struct windows *windows) {
 void end_advice(struct window *window, size_t first, size_t count) {
     for (size_t done = 0, run = 0; done < count; done += run) {
         run = alike(window, first + done, count - done);
-        if (window->pages[first + done].over == 1 || window->pages[first + done].out == 1) continue;
+        if (is_over(&window->pages[first + done]) || is_out(&window->pages[first + done])) continue;
         int cause = advice_end(&window->found, address_of(window, first + done), run);
         if (cause != 0) window->windows->advice_cause = cause;
     }
 }
 
 static struct window_result cut_part(struct window *window, size_t first, size_t count) {
-    struct window_result result = take_home_for(window, first, count, (struct pageshare_window_bars){.left = true});
+    struct window_result result = take_home_for(window, first, count, (struct pageshare_window_facts){.leaves = true});
     if (result.status != WINDOW_OK) return result;
     end_advice(window, first, count);
-    for (size_t page = first; page < first + count; page++) {
-        note_zero(window, page, false);
-        note_seen(window, page, false);
-        window->pages[page].out = 1;
-    }
+    for (size_t page = first; page < first + count; page++)
+        pageshare_window_leave(&window->pages[page], &part_of(window, page)->counts);
     return result;
 }
 
@@ -307,7 +300,7 @@ struct window_result window_cut(struct window *window, size_t first, size_t coun
     if (!is_in(window, first, count)) return result_of(WINDOW_BAD_RANGE, EINVAL);
     struct window_result result = for_parts(window, first, count, cut_part);
     lock_set(window->windows);
-    for (size_t page = first; page < first + count; page++) found += window->pages[page].over;
+    for (size_t page = first; page < first + count; page++) found += is_over(&window->pages[page]) ? 1 : 0;
     unlock_set(window->windows);
     if (kept != NULL) *kept = found;
     return result;
@@ -318,35 +311,25 @@ void window_forget(struct window *window, size_t first, size_t count) {
     windows->counts.mappings -= mappings_of(window, first, count);
     for (size_t page = first; page < first + count; page++) {
         if (is_here(window, page)) trace_discard(windows->trace, window->base + (uint32_t)page);
-        hear_discarded(window, page);
-        stop_showing_past(window, page);
-        forget_content(window, page);
-        note_zero(window, page, false);
-        window->pages[page].over = window->pages[page].past = 0;
-        window->pages[page].moved = window->pages[page].begins = 0;
-        window->pages[page].out = 1;
+        pageshare_window_unmap(&window->pages[page], &part_of(window, page)->counts);
     }
     windows->counts.mappings += mappings_of(window, first, count);
 }
 
 static struct window_result pin_part(struct window *window, size_t first, size_t count) {
     struct window_result result = settle_home(window, first, count);
-    bool waits = result.status == WINDOW_OK && !may_go_on(window, first, count, (struct pageshare_window_bars){.pinned = true});
+    bool waits = result.status == WINDOW_OK && !may_go_on(window, first, count, (struct pageshare_window_facts){.pinned = true});
     return waits ? result_of(WINDOW_STUCK, EBUSY) : result;
 }
 
-/* Changes the pages' counts by one, if all can be. Takes the lock. */
+/* Pins pages once more, or unpins them once, if that can be done to all. Takes the lock. */
 static enum window_status change_pins(struct window *window, size_t first, size_t count, bool more) {
     enum window_status status = WINDOW_OK;
     lock_set(window->windows);
     if (window->pins == NULL) window->pins = table_make(window->count, sizeof *window->pins);
     if (window->pins == NULL) status = WINDOW_NO_MEMORY;
-    for (size_t page = first; page < first + count && status == WINDOW_OK; page++) {
-        if (more && window->pins[page] == PINS_MOST) status = WINDOW_TOO_MANY_PINS;
-        if (!more && window->pins[page] == 0) status = WINDOW_BAD_RANGE;
-    }
-    for (size_t page = first; page < first + count && status == WINDOW_OK; page++)
-        window->pins[page] = (uint16_t)(more ? window->pins[page] + 1 : window->pins[page] - 1);
+    else if (more && !pageshare_window_pin(window->pins, window->count, first, count)) status = WINDOW_TOO_MANY_PINS;
+    else if (!more && !pageshare_window_unpin(window->pins, window->count, first, count)) status = WINDOW_BAD_RANGE;
     unlock_set(window->windows);
     return status;
 }

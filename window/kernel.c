@@ -265,15 +265,30 @@ bool pagemap_is_own(const struct pagemap *pagemap, const void *at) {
     return read_entries(pagemap->fd, at, 1, &entry) == 0 && kind_of(entry) != PAGE_NONE;
 }
 
-void *map_apart(size_t bytes, int protection, int flags, int file) {
+/* Maps memory of the library itself in its own range of addresses, from a place in the file on. */
+static void *map_apart_from(size_t bytes, int protection, int flags, int file, off_t from) {
+    enum { PLACES = 48, LEAP = 20, LEAP_MOST = 40 };
     static _Atomic uintptr_t next = APART_BEGIN;
-    uintptr_t at = atomic_fetch_add(&next, (bytes + WINDOW_PAGE_BYTES - 1) / WINDOW_PAGE_BYTES * WINDOW_PAGE_BYTES);
-    if (at >= APART_END) {
-        atomic_store(&next, APART_BEGIN);
-        at = APART_BEGIN;
+    static atomic_bool is_used; /* each place was used once */
+    const uintptr_t whole = (bytes + WINDOW_PAGE_BYTES - 1) / WINDOW_PAGE_BYTES * WINDOW_PAGE_BYTES;
+    for (unsigned i = 0, leap = LEAP; i < PLACES && whole <= APART_END - APART_BEGIN; i++) {
+        uintptr_t at = atomic_fetch_add(&next, whole);
+        if (at < APART_BEGIN || at > APART_END - whole) {
+            atomic_store(&is_used, true);
+            atomic_store(&next, APART_BEGIN);
+            continue;
+        }
+        void *found = mmap((void *)at, bytes, protection, flags, file, from);
+        if (found == MAP_FAILED || found == (void *)at || !atomic_load(&is_used)) return found;
+        /* (that place is taken, so the system chose another) */
+        munmap(found, bytes);
+        atomic_fetch_add(&next, (uintptr_t)1 << leap);
+        leap += leap < LEAP_MOST ? 1 : 0;
     }
-    return mmap((void *)at, bytes, protection, flags, file, 0); /* (where that place is taken, the system chooses another) */
+    return mmap(NULL, bytes, protection, flags, file, from);
 }
+
+void *map_apart(size_t bytes, int protection, int flags, int file) { return map_apart_from(bytes, protection, flags, file, 0); }
 
 void *table_make(size_t count, size_t bytes_each) {
     if (count == 0 || count > SIZE_MAX / bytes_each) return NULL;
@@ -336,6 +351,19 @@ int mapping_copy(void *at, const void *from, size_t pages) {
     void *source = (void *)(uintptr_t)from;
     if (is_limited()) return copy_and_move(at, source, bytes);
     return mremap(source, bytes, bytes, MREMAP_MAYMOVE | MREMAP_FIXED | MREMAP_DONTUNMAP, at) == MAP_FAILED ? errno : 0;
+}
+
+int mapping_put(void *at, size_t pages, int protection, int file, size_t file_page) {
+    const size_t bytes = bytes_of(pages);
+    const int kind = MAP_PRIVATE | MAP_NORESERVE | (file == NO_FILE ? MAP_ANONYMOUS : 0);
+    const off_t from = file == NO_FILE ? 0 : (off_t)bytes_of(file_page);
+    if (!is_limited()) return mmap(at, bytes, protection, kind | MAP_FIXED, file, from) == MAP_FAILED ? errno : 0;
+    void *aside = map_apart_from(bytes, protection, kind, file, from);
+    if (aside == MAP_FAILED) return errno;
+    if (mremap(aside, bytes, bytes, MREMAP_MAYMOVE | MREMAP_FIXED, at) != MAP_FAILED) return 0;
+    int cause = errno;
+    munmap(aside, bytes);
+    return cause;
 }
 
 size_t locked_kib(void) {

@@ -108,14 +108,16 @@ int advice_give(const struct advice *now, const struct advice *before, void *at,
 /* Says one thing of a range. Returns 0 also if the kernel was built without it. */
 int advice_say(void *at, size_t pages, int advice);
 
-/* Whether `is_it` says so of any locked mapping of the process. It is called with the mapping's bounds. */
-bool locked_any(bool (*is_it)(void *opaque, const uint8_t *begin, const uint8_t *end), void *opaque);
+/* Finds whether `is_it` says so of any locked mapping of the process. It is called with the mapping's bounds. Returns 0 or an errno. */
+int locked_find(bool (*is_it)(void *opaque, const uint8_t *begin, const uint8_t *end), void *opaque, bool *any);
 
 /*
  * Puts a copy of a mapping that nobody has written to in the place of pages, in one step also for a fork of another thread. What was said
  * of the mapping, such as MADV_DONTFORK, holds of the copy from the beginning. The mapping stays.
  */
 int mapping_copy(void *at, const void *from, size_t pages);
+/* Puts pages of a file there, from its page `file_page` on, or zeros if `file` is NO_FILE. Where it fails nothing has changed. */
+int mapping_put(void *at, size_t pages, int protection, int file, size_t file_page);
 
 /*
  * Maps memory for the library itself, as mmap does, far from the places that the system chooses by itself. A process may leave a hole in a

@@ -14,26 +14,32 @@ static const uint64_t turn_ns = 1000000;
 struct hold {
     struct window *window;
     size_t first, count;
-    uint64_t begun_ns;                             /* since then somebody may have to wait for them */
-    size_t left;                                   /* how many of them are held still */
-    bool moves;                                    /* they are taken out of their place; otherwise writes are guarded */
-    size_t scratch;                                /* where they are then, in the scratch area */
-    struct pageshare_window_page pages[HOLD_MOST]; /* what is believed of them */
+    uint64_t begun_ns; /* since then somebody may have to wait for them */
+    size_t left;       /* how many of them are held still */
+    bool moves;        /* they are taken out of their place; otherwise writes are guarded */
+    size_t scratch;    /* where they are then, in the scratch area */
     bool held[HOLD_MOST], equal[HOLD_MOST], shown[HOLD_MOST];
     enum pageshare_window_order ordered[HOLD_MOST]; /* what is done with them just now */
 };
 
+static const page_entry *page_of(const struct hold *hold, size_t i) { return &hold->window->pages[hold->first + i]; }
+
 /* What is to be done with a page next. */
 static enum pageshare_window_order next_order(struct hold *hold, size_t i) {
-    if (hold->ordered[i] != PAGESHARE_WINDOW_WAIT) return hold->ordered[i];
-    hold->ordered[i] = order_of(hold->window, hold->first + i, &hold->pages[i]);
+    if (hold->ordered[i] == PAGESHARE_WINDOW_WAIT) hold->ordered[i] = order_of(hold->window, hold->first + i);
     return hold->ordered[i];
 }
 
 /* What came of it. */
 static void outcome(struct hold *hold, size_t i, bool is_done) {
-    if (is_done) pageshare_window_done(&hold->pages[i]);
-    else pageshare_window_refused(&hold->pages[i]);
+    note_order(hold->window, hold->first + i, is_done);
+    hold->ordered[i] = PAGESHARE_WINDOW_WAIT;
+}
+
+/* Nothing is known of it. */
+static void doubt(struct hold *hold, size_t i) {
+    size_t number = hold->first + i;
+    pageshare_window_unknown(&hold->window->pages[number], &part_of(hold->window, number)->counts);
     hold->ordered[i] = PAGESHARE_WINDOW_WAIT;
 }
 
@@ -57,20 +63,23 @@ static void guard(struct hold *hold) {
     find_pins(windows);
     if (cause == 0 && may_pin(windows)) cause = pagemap_find_copies(&windows->pagemap, at, hold->count, own);
     if (cause != 0) note_failure(windows, WINDOW_NO_MAPPING, cause);
-    for (size_t i = 0; i < hold->count && cause == 0; i++) hold->held[i] = !own[i];
+    for (size_t i = 0; i < hold->count && cause == 0; i++) {
+        const struct pageshare_window_facts facts = facts_of(hold->window, hold->first + i);
+        hold->held[i] = !pageshare_window_stays(page_of(hold, i), &facts, own[i]);
+    }
 }
 
 /* Takes out or guards what can be; nothing if the system refuses. Returns whether writes to any of the pages may wait since. */
 static bool begin_hold(struct hold *hold) {
     struct windows *windows = hold->window->windows;
     void *at = address_of(hold->window, hold->first);
-    bool is_over = hold->window->pages[hold->first].over == 1;
-    hold->moves = windows->faults.moves && !is_over;
-    if (!hold->moves && !is_over && may_pin(windows)) return false;
+    bool is_over_frame = is_over(page_of(hold, 0));
+    hold->moves = windows->faults.moves && !is_over_frame;
+    if (!hold->moves && !is_over_frame && may_pin(windows)) return false;
     if (!hold->moves) {
         /* (the kernel's KSM lifts a guard; and what is left of a huge page takes all its memory until it is split) */
         madvise(at, bytes_of(hold->count), MADV_UNMERGEABLE);
-        if (!is_over) madvise(at, bytes_of(hold->count), MADV_COLD);
+        if (!is_over_frame) madvise(at, bytes_of(hold->count), MADV_COLD);
     }
     int cause = hold->moves && windows->scratch_used + hold->count > SCRATCH ? clear_scratch(windows) : 0;
     if (cause == 0) cause = faults_watch(&windows->faults, at, hold->count, hold->moves ? FAULTS_OF_MISSING : FAULTS_OF_WRITES);
@@ -93,7 +102,7 @@ static bool begin_hold(struct hold *hold) {
 static void take(struct hold *hold) {
     bool is_begun = begin_hold(hold);
     for (size_t i = 0; i < hold->count; i++) {
-        if (is_begun && !hold->held[i]) pageshare_window_unknown(&hold->pages[i]);
+        if (is_begun && !hold->held[i]) doubt(hold, i);
         else outcome(hold, i, hold->held[i]);
     }
 }
@@ -105,7 +114,7 @@ static void compare(struct hold *hold) {
         if (!hold->held[i]) continue;
         hold->left++;
         const uint8_t *page = place_of(hold, i);
-        uint32_t frame = hold->pages[i].frame;
+        uint32_t frame = page_of(hold, i)->frame;
         enum pageshare_window_order order = next_order(hold, i);
         if (order == PAGESHARE_WINDOW_COMPARE_ZEROS) hold->equal[i] = is_zero(page);
         if (order == PAGESHARE_WINDOW_COMPARE) hold->equal[i] = are_equal(page, windows->frames_at + bytes_of(frame));
@@ -114,14 +123,6 @@ static void compare(struct hold *hold) {
         if (hold->equal[i] && order == PAGESHARE_WINDOW_COMPARE) trace_lend(windows->trace, number_of(hold, i), frame);
         if (order == PAGESHARE_WINDOW_COMPARE || order == PAGESHARE_WINDOW_COMPARE_ZEROS) outcome(hold, i, hold->equal[i]);
     }
-}
-
-/* How many pages from the i-th on, which is to be mapped or given back, can be so by one call. */
-static size_t run_of(const struct hold *hold, size_t i) {
-    size_t end = i + 1;
-    for (; end < hold->count && hold->ordered[end] == hold->ordered[i]; end++)
-        if (hold->ordered[i] == PAGESHARE_WINDOW_MAP && hold->pages[end].frame != hold->pages[end - 1].frame + 1) break;
-    return end - i;
 }
 
 /* (each of these pages is asked about again at one of so many looks) */
@@ -154,7 +155,7 @@ static void map_run(struct hold *hold, size_t i, size_t count) {
     /* (where a page was taken out of anonymous memory zeros are left) */
     bool is_mapped = is_frame || !hold->moves;
     const int protection = PROT_READ | PROT_WRITE;
-    uint32_t target = is_frame ? hold->pages[i].frame : ZEROS;
+    uint32_t target = is_frame ? page_of(hold, i)->frame : ZEROS;
     int cause = is_mapped ? map_pages(hold->window, hold->first + i, count, target, protection) : 0;
     if (cause != 0) {
         note_crowded(windows, count);
@@ -173,10 +174,9 @@ static void map_run(struct hold *hold, size_t i, size_t count) {
 static void map(struct hold *hold) {
     for (size_t i = 0; i < hold->count; i++)
         if (hold->equal[i]) next_order(hold, i);
-    for (size_t i = 0, count = 1; i < hold->count; i += count) {
-        bool is_ordered = hold->ordered[i] == PAGESHARE_WINDOW_MAP || hold->ordered[i] == PAGESHARE_WINDOW_GIVE_BACK;
-        count = is_ordered ? run_of(hold, i) : 1;
-        if (is_ordered) map_run(hold, i, count);
+    for (size_t i = 0, count = 0; i<hold->count; i += count> 0 ? count : 1) {
+        count = pageshare_window_row(page_of(hold, i), hold->count - i);
+        if (count > 0) map_run(hold, i, count);
     }
 }
 
@@ -217,7 +217,7 @@ static void put_back(struct hold *hold, bool *any_remapped) {
 
 /* Whether a page isn't to be shown, and writes to it may wait still. */
 static bool is_to_go(const struct hold *hold, size_t i) {
-    uint8_t belief = hold->pages[i].belief;
+    unsigned belief = belief_of(page_of(hold, i));
     return belief == PAGESHARE_WINDOW_LETTING_GO || belief == PAGESHARE_WINDOW_PUTTING_BACK;
 }
 
@@ -245,14 +245,11 @@ static void let_go(struct hold *hold) {
 static void note_page(const struct hold *hold, size_t i) {
     struct windows *windows = hold->window->windows;
     size_t number = hold->first + i;
-    struct page *page = &hold->window->pages[number];
-    bool is_lent = hold->pages[i].belief == PAGESHARE_WINDOW_SHOWN;
-    believe(hold->window, number, &hold->pages[i]);
-    page->looks = hold->held[i] ? 0 : 1;
-    page->asks = hold->held[i] ? 0 : ASKS_APART_MOST; /* (what is pinned is tried again later) */
+    bool is_shown = belief_of(page_of(hold, i)) == PAGESHARE_WINDOW_SHOWN;
+    pageshare_window_held(&hold->window->pages[number], &part_of(hold->window, number)->counts, hold->held[i]);
     if (!hold->held[i]) windows->counts.pinned++;
     else if (!hold->equal[i]) windows->counts.changed++;
-    if (is_lent) {
+    if (is_shown) {
         windows->counts.lends++;
         trace_map(windows->trace, number_of(hold, i));
     } else if (hold->shown[i]) {
@@ -270,7 +267,7 @@ static void keep_from_children(const struct hold *hold) {
     int cause = advice_say(address_of(hold->window, hold->first), hold->count, MADV_DONTFORK);
     if (cause == 0) return;
     windows->advice_cause = cause;
-    const struct pageshare_window_bars why = {.inherited = true};
+    const struct pageshare_window_facts why = {.inherited = true};
     struct window_result result = take_home_for(hold->window, hold->first, hold->count, why);
     if (result.status != WINDOW_OK) note_failure(windows, result.status, result.cause);
 }
@@ -287,7 +284,7 @@ static void settle(struct hold *hold) {
     let_go(hold);
     note_held(hold, hold->left);
     for (size_t i = 0; i < hold->count; i++) {
-        any_file = any_file || hold->pages[i].belief == PAGESHARE_WINDOW_SHOWN;
+        any_file = any_file || belief_of(page_of(hold, i)) == PAGESHARE_WINDOW_SHOWN;
         note_page(hold, i);
     }
     if (any_file) say_again(hold->window, hold->first, hold->count, true);
@@ -299,11 +296,12 @@ static void settle(struct hold *hold) {
  * Whether a page equals what it is to show, although it may still be written: otherwise it isn't held at all. The comparison that
  * counts comes later, and finds both in the processor's cache.
  */
-static bool seems_equal(const struct window *window, size_t number, const struct pageshare_window_page *believed) {
+static bool seems_equal(const struct window *window, size_t number) {
     const struct windows *windows = window->windows;
-    const uint8_t *page = address_of(window, number);
-    if (believed->belief == PAGESHARE_WINDOW_ZEROS) return is_zero(page);
-    return believed->frame < windows->lender.frame_count && are_equal(page, windows->frames_at + bytes_of(believed->frame));
+    const page_entry *page = &window->pages[number];
+    if (belief_of(page) == PAGESHARE_WINDOW_ZEROS) return is_zero(address_of(window, number));
+    return page->frame < windows->lender.frame_count &&
+           are_equal(address_of(window, number), windows->frames_at + bytes_of(page->frame));
 }
 
 /* A page that was written since its bytes were copied stays private. */
@@ -331,19 +329,18 @@ enum wish { TO_BE_SHOWN, TO_BE_GIVEN_BACK };
  * Orders a page to be held, if it is equal to what it is to show. All of it may have changed since it was found idle. Otherwise its loan,
  * if it has one, is to be released. With the lock.
  */
-static bool order_hold(struct window *window, size_t number, enum wish wish, struct pageshare_window_page *page) {
-    const struct pageshare_window_bars bars = bars_of(window, number);
+static bool order_hold(struct window *window, size_t number, enum wish wish) {
+    page_entry *page = &window->pages[number];
+    const struct pageshare_window_facts facts = facts_of(window, number);
     bool is_zeros = wish == TO_BE_GIVEN_BACK;
-    *page = believed(&window->pages[number]);
-    if (is_zeros && !pageshare_window_choose(page, &bars, true)) return false;
-    enum pageshare_window_order order = order_of(window, number, page);
-    bool is_ordered = order == (is_zeros ? PAGESHARE_WINDOW_HOLD_ZEROS : PAGESHARE_WINDOW_HOLD);
-    bool is_equal = is_ordered && seems_equal(window, number, page);
-    if (is_equal && !part_of(window, number)->whole) return true;
-    if (is_ordered) pageshare_window_refused(page);
+    if (is_zeros && !pageshare_window_choose(page, &part_of(window, number)->counts, &facts, true)) return false;
+    enum pageshare_window_order order = order_of(window, number);
+    bool is_hold = order == (is_zeros ? PAGESHARE_WINDOW_HOLD_ZEROS : PAGESHARE_WINDOW_HOLD);
+    bool is_equal = is_hold && seems_equal(window, number);
+    if (is_equal && !part_of(window, number)->is.whole) return true;
+    if (is_hold) note_order(window, number, false);
     else pageshare_window_withdraw(page);
-    believe(window, number, page);
-    if (is_ordered && !is_equal) note_changed(window, number);
+    if (is_hold && !is_equal) note_changed(window, number);
     return false;
 }
 
@@ -357,8 +354,8 @@ static size_t settle_run(struct windows *windows, const struct batch *batch, siz
     while (hold.count < HOLD_MOST && i + hold.count < batch->count) {
         size_t page = batch->pages[i + hold.count];
         if (page != hold.first + hold.count || windows->stuck_count > 0) break;
-        if (window->pages[page].over != window->pages[hold.first].over) break;
-        passed = order_hold(window, page, wish, &hold.pages[hold.count]) ? 0 : 1;
+        if (is_over(&window->pages[page]) != is_over(&window->pages[hold.first])) break;
+        passed = order_hold(window, page, wish) ? 0 : 1;
         if (passed > 0) break;
         hold.count++;
     }
@@ -401,21 +398,11 @@ static bool has_mappings(struct window *window, size_t number, size_t *more) {
     size_t added = mappings_added(window, number);
     if (!pageshare_window_has_mappings(windows->mappings_most, windows->counts.mappings + *more, added)) {
         note_crowded(windows, 1);
-        window->pages[number].asks = ASKS_APART_MOST;
+        pageshare_window_asked_last(&window->pages[number], &part_of(window, number)->counts);
         return false;
     }
     *more += added;
     return true;
-}
-
-/*
- * Whether others mustn't find a page by the question about it. Those of a whole part are found at their first question, so that guests with
- * the same pages meet, and seldom later. Otherwise others would lend what may stay where it is here.
- */
-static bool asks_in_passing(const struct window *window, size_t number) {
-    enum { EACH = 1 << ASKS_APART_MOST, NOTED = 4 };
-    uint64_t turn = window->windows->counts.looks / EACH + number / TOGETHER;
-    return part_of(window, number)->whole && window->pages[number].asks > 0 && turn % NOTED != 0;
 }
 
 /* Takes the answers to questions. Leaves those pages of the batch that others have, and that can be lent. Takes the lock. */
@@ -423,19 +410,19 @@ static void take_answers(struct windows *windows, struct batch *batch, const uns
     size_t kept = 0, mappings = 0;
     lock_for_look(windows);
     for (size_t i = 0; i < batch->count; i++) {
-        struct page *page = &batch->window->pages[batch->pages[i]];
-        bool is_whole = part_of(batch->window, batch->pages[i])->whole, is_seen = seen[i] != 0;
-        windows->counts.seen += is_seen ? 1 : 0;
-        if (is_seen && !is_whole) {
+        page_entry *page = &batch->window->pages[batch->pages[i]];
+        bool is_whole = part_of(batch->window, batch->pages[i])->is.whole, is_other = seen[i] != 0;
+        windows->counts.seen += is_other ? 1 : 0;
+        if (is_other && !is_whole) {
             if (!has_mappings(batch->window, batch->pages[i], &mappings)) continue;
             batch->fingerprints[kept] = batch->fingerprints[i];
             batch->pages[kept++] = batch->pages[i];
             continue;
         }
-        if (page->asks < ASKS_APART_MOST) page->asks = (page->asks + 1u) & 3u;
+        pageshare_window_asked(page, &part_of(batch->window, batch->pages[i])->counts);
         /* (the page may have been given up meanwhile) */
-        if (is_whole && page->looks == STILL && page->kept == batch->fingerprints[i])
-            note_seen(batch->window, batch->pages[i], is_seen);
+        if (is_whole && looks_of(page) == STILL && kept_of(page) == batch->fingerprints[i])
+            note_seen(batch->window, batch->pages[i], is_other);
     }
     windows->counts.asked += batch->count;
     unlock_set(windows);
@@ -448,9 +435,12 @@ static bool ask(struct windows *windows, struct batch *batch) {
     bool passing[WINDOW_BATCH];
     unsigned char seen[WINDOW_BATCH] = {0};
     lock_for_look(windows);
+    const struct pageshare_window_look look = look_now(windows);
     for (size_t i = 0; i < batch->count; i++) {
-        numbers[i] = batch->window->base + batch->pages[i];
-        passing[i] = asks_in_passing(batch->window, batch->pages[i]);
+        uint32_t number = batch->pages[i];
+        numbers[i] = batch->window->base + number;
+        passing[i] =
+            pageshare_window_is_in_passing(&batch->window->pages[number], &part_of(batch->window, number)->is, &look, number);
     }
     unlock_set(windows);
     uint64_t begun = clock_spent_ns();
@@ -467,8 +457,9 @@ static void keep_lendable(struct windows *windows, struct batch *batch) {
     lock_for_look(windows);
     for (size_t i = 0; i < batch->count; i++) {
         uint32_t number = batch->pages[i];
-        if (!is_free(batch->window, number)) continue;
-        if (!part_of(batch->window, number)->whole && !has_mappings(batch->window, number, &(size_t){0})) continue;
+        const struct pageshare_window_facts facts = facts_of(batch->window, number);
+        if (!pageshare_window_is_free(&batch->window->pages[number], &facts)) continue;
+        if (!part_of(batch->window, number)->is.whole && !has_mappings(batch->window, number, &(size_t){0})) continue;
         batch->fingerprints[kept] = batch->fingerprints[i];
         batch->pages[kept++] = number;
     }
@@ -478,19 +469,16 @@ static void keep_lendable(struct windows *windows, struct batch *batch) {
 
 /* Copies a page to a place in the lender's buffer, with nothing guarded. Returns whether a loan of that is to be asked for. With the lock. */
 static bool copy_one(struct window *window, size_t number, unsigned char *to, uint64_t fingerprint) {
-    struct pageshare_window_page page = believed(&window->pages[number]);
-    const struct pageshare_window_bars bars = bars_of(window, number);
-    if (part_of(window, number)->whole || !pageshare_window_choose(&page, &bars, false)) return false;
-    if (order_of(window, number, &page) != PAGESHARE_WINDOW_COPY) return false;
+    struct part *part = part_of(window, number);
+    const struct pageshare_window_facts facts = facts_of(window, number);
+    if (part->is.whole || !pageshare_window_choose(&window->pages[number], &part->counts, &facts, false)) return false;
+    if (order_of(window, number) != PAGESHARE_WINDOW_COPY) return false;
     copy_page(to, address_of(window, number));
     /* (its fingerprint may be that of an earlier look) */
-    bool is_same = fingerprint_of(window->windows->lender.salt, to) == fingerprint;
-    if (!is_same) note_changed(window, number);
-    if (!is_same || is_zero(to)) return false;
-    pageshare_window_done(&page);
-    bool asks = order_of(window, number, &page) == PAGESHARE_WINDOW_LEND;
-    if (asks) believe(window, number, &page);
-    return asks;
+    bool is_same_page = fingerprint_of(window->windows->lender.salt, to) == fingerprint;
+    note_order(window, number, is_same_page && !is_zero(to));
+    if (!is_same_page) note_changed(window, number);
+    return is_same_page && order_of(window, number) == PAGESHARE_WINDOW_LEND;
 }
 
 /* Leaves those pages of the batch that can be lent still, and copies them to the lender's buffer. */
@@ -507,16 +495,14 @@ static void copy(struct windows *windows, struct batch *batch) {
 /* Takes a loan, so that its slot is released if its page doesn't come to show the frame. With the lock. */
 static void take_loan(struct window *window, size_t number, const struct window_loan *loan) {
     struct windows *windows = window->windows;
-    struct pageshare_window_page page = believed(&window->pages[number]);
-    bool is_lent = loan->frame != WINDOW_NO_FRAME, is_named = is_lent && window_is_slot(loan->slot);
+    page_entry *page = &window->pages[number];
+    bool is_given = loan->frame != WINDOW_NO_FRAME, is_named = is_given && window_is_slot(loan->slot);
     bool is_good = is_named && loan->frame < windows->lender.frame_count;
-    if (is_named) pageshare_window_lent(&page, slot_name(loan->slot), loan->frame);
-    else pageshare_window_refused(&page);
-    believe(window, number, &page);
-    if (is_named) window->pages[number].looks = 0;
-    else window->pages[number].asks = ASKS_APART_MOST;
-    windows->counts.no_frame += is_lent ? 0 : 1;
-    if (is_lent && !is_good) note_failure(windows, WINDOW_LENDER_FAILED, EPROTO);
+    if (is_named) pageshare_window_lent(page, &part_of(window, number)->counts, slot_name(loan->slot), loan->frame);
+    else note_order(window, number, false);
+    if (!is_named) pageshare_window_asked_last(page, &part_of(window, number)->counts);
+    windows->counts.no_frame += is_given ? 0 : 1;
+    if (is_given && !is_good) note_failure(windows, WINDOW_LENDER_FAILED, EPROTO);
     if (is_good) trace_frame(windows->trace, loan->frame, windows->frames_at + bytes_of(loan->frame));
 }
 
@@ -527,8 +513,8 @@ static void take_loans(struct windows *windows, struct batch *batch, const struc
     for (size_t i = 0; i < batch->count; i++) {
         uint32_t number = batch->pages[i];
         if (are_got) take_loan(batch->window, number, &loans[i]);
-        else note_refused(batch->window, number);
-        if (batch->window->pages[number].belief == PAGESHARE_WINDOW_LOANED) batch->pages[kept++] = number;
+        else note_order(batch->window, number, false);
+        if (belief_of(&batch->window->pages[number]) == PAGESHARE_WINDOW_LOANED) batch->pages[kept++] = number;
     }
     unlock_set(windows);
     batch->count = kept;

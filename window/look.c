@@ -6,27 +6,20 @@
 #include <sys/mman.h>
 
 enum {
-    READY_PARTS = 64,   /* parts of which a look says MADV_UNMERGEABLE at most, while KSM has merged something */
-    WHOLE_TURNS = 2,    /* how much more seldom a page of a whole part is read and asked about again */
-    CALM_PART = 16,     /* a part is calm if at most one in this many of its pages with memory of their own has changed */
-    LIMIT_EACH = 16,    /* looks until the system's limit of mappings is read again */
-    SAMPLED_EACH = 8,   /* parts of which a look takes some pages only, until the pace is kept */
-    MANY_YOUNG = 12,    /* a look that lasts comes back to a calm part of which so many pages may be idle soon; */
-    RETURNS_MOST = 64,  /* to so many parts at a time */
-    READ_EACH = 16,     /* of so many times that a page is asked about again, it is read once, if glances find most changes; */
-    READ_EACH_OVER = 2, /* and if they can't, since its memory lies over a frame */
-    AHEAD = 12          /* pages that are fetched while another one is glanced at */
+    READY_PARTS = 64, /* parts of which a look says MADV_UNMERGEABLE at most, while KSM has merged something */
+    LIMIT_EACH = 16,  /* looks until the system's limit of mappings is read again */
+    SAMPLED_EACH = 8, /* parts of which a look takes some pages only, until the pace is kept */
+    AHEAD = 12        /* pages that are fetched while another one is glanced at */
 };
 /* Between two times that the pace is kept, of processor time; and that a look attends to what may not wait for its end, by the clock. */
 static const uint64_t pace_ns = 400000, attend_ns = 1000000000;
-static const uint64_t return_ns = 1000000000; /* until it comes back to a part */
 
 /* What a look makes of a page. */
 enum finding { FOUND_NOTHING, FOUND_IDLE, FOUND_ZERO };
 
-/* Pages of a part that are idle. */
+/* What a look has found of a part. */
 struct findings {
-    size_t count;
+    size_t count;   /* pages that are idle */
     size_t changes; /* pages that were idle, and have changed */
     size_t young;   /* pages that are the same since a look or two, or new */
     bool is_sample; /* the part rests */
@@ -46,116 +39,62 @@ static void find_copy(struct window *window, size_t number) {
     stop_showing_past(window, number);
 }
 
-/* Of so many looks one asks again about an idle page that nobody else had. One of a whole part comes more seldom: next to none can be lent. */
-static uint32_t idle_apart(const struct window *window, const struct part *part) {
-    uint32_t turns = window->windows->tuning.turns, apart = turns > 0 ? turns : 1u << ASKS_APART_MOST;
-    if (part->whole) apart *= WHOLE_TURNS;
-    return apart > part->rest ? apart : part->rest + 1u;
+static uint16_t glance(const struct window *window, size_t number, uint64_t by) {
+    return (uint16_t)glance_at(by, address_of(window, number));
 }
 
-/* Pages in a row take their turn in the same looks. */
-static uint32_t turns_at(const struct window *window, size_t number) {
-    return (uint32_t)(window->windows->counts.looks + number / TOGETHER);
-}
-
-/* Whether it is this look's turn to ask about a page that nobody else had before, or to read one that changes always; and `*turn`, which one
- * it is. */
-static bool has_turn(const struct window *window, const struct page *page, size_t number, uint32_t *turn) {
-    bool is_idle = page->looks == STILL && page->asks == ASKS_APART_MOST;
-    uint32_t apart = page->looks == 0 ? 1 : is_idle ? idle_apart(window, part_of(window, number)) : 1u << page->asks;
-    uint32_t at = turns_at(window, number);
-    *turn = at / apart;
-    return at % apart == 0;
-}
-
-/* Whether a glance says if a page has changed. What lies over a frame has no place for that, and is read. */
-static bool can_glance(const struct page *page) { return page->looks > 0 && page->over == 0; }
-
-/* Whether it is known what the page's fingerprint was. */
-static bool is_read(const struct page *page) { return page->looks > (page->over == 1 ? 0 : 1); }
-
-static void note_glance(struct page *page, const uint8_t *at) { page->clue = glance_at(page->kept, at) % CLUES; }
-
-/* Notes that a page has changed. It comes more seldom if it wasn't idle before. */
-static void note_other(struct window *window, size_t number, bool is_hot) {
-    struct page *page = &window->pages[number];
-    note_seen(window, number, false);
-    page->asks = !is_hot ? 0 : page->asks < ASKS_APART_MOST ? (page->asks + 1u) & 3u : ASKS_APART_MOST;
-}
-
-/* Glances at a page with memory of its own that is new, or has changed. It isn't read before it stays as it is. */
+/* Notes that a page is new, or has changed. It isn't read before it stays as it is. */
 static void meet_page(struct window *window, size_t number) {
-    struct page *page = &window->pages[number];
-    window->windows->counts.fresh += page->looks == 0 ? 1 : 0;
-    note_other(window, number, page->looks > 0 && page->looks < STILL);
-    if (page->looks == 0) page->kept = number; /* (any place will do) */
-    page->looks = 1;
-    note_glance(page, address_of(window, number));
+    page_entry *page = &window->pages[number];
+    uint64_t by = pageshare_window_glanced_by(page, (uint32_t)number);
+    window->windows->counts.fresh += looks_of(page) == 0 ? 1 : 0;
+    pageshare_window_met(page, &part_of(window, number)->counts, (uint32_t)number, glance(window, number, by));
 }
 
 /* Reads a page, and notes what that says of it. Returns its fingerprint. */
 static uint64_t read_page(struct window *window, size_t number) {
-    struct page *page = &window->pages[number];
+    page_entry *page = &window->pages[number];
     uint64_t fingerprint = fingerprint_of(window->windows->lender.salt, address_of(window, number));
-    bool was_read = is_read(page), is_same = was_read && page->kept == fingerprint;
+    uint16_t found = is_over(page) ? 0 : glance(window, number, fingerprint);
     window->windows->counts.reads++;
-    if (!is_same) note_other(window, number, was_read && page->looks < STILL);
-    else if (page->looks < STILL) page->asks = 0;
-    page->looks = !is_same ? 2u - page->over : page->looks < STILL ? (page->looks + 1u) & 3u : STILL;
-    page->kept = fingerprint;
-    if (page->over == 0) note_glance(page, address_of(window, number));
+    pageshare_window_read(page, &part_of(window, number)->counts, fingerprint, found);
     return fingerprint;
 }
 
-/* Whether a look glances at an idle page. Where its part rests that is one in so many. */
-static bool is_in_sample(const struct window *window, size_t number) {
-    uint32_t each = part_of(window, number)->rest + 1u;
-    return ((uint32_t)window->windows->counts.looks + (uint32_t)number) % each == 0;
-}
-
 /*
- * Takes a page's fingerprint, and compares it with the last look's. A page that was met is glanced at, and is read if it stayed as it was,
- * until it is idle. Then it is asked about again by what is kept, and read seldom. What it has become meanwhile is found when it is to be
- * lent.
+ * Takes a page's fingerprint, and compares it with the last look's. The library says whether the page is glanced at, and whether it is read.
+ * What it has become since it was read is found when it is to be lent.
  */
 static enum finding take_fingerprint(struct window *window, size_t number, uint64_t *fingerprint) {
-    struct page *page = &window->pages[number];
-    bool glances = can_glance(page), is_idle = page->looks == STILL, is_again = is_idle && page->asks == ASKS_APART_MOST;
-    uint32_t turn = 0, each = glances ? READ_EACH : part_of(window, number)->is_still ? READ_EACH_OVER : 1;
-    bool is_turn = has_turn(window, page, number, &turn), is_kept = is_again && turn % each != 0;
-    if (!is_turn && !(is_idle && glances)) return FOUND_NOTHING;
-    bool is_passed = is_turn && is_kept && !is_in_sample(window, number);
-    if (page->over == 0 && !is_passed && (!glances || glance_at(page->kept, address_of(window, number)) != page->clue)) {
-        meet_page(window, number);
-        return FOUND_NOTHING;
-    }
-    if (!is_turn) return FOUND_NOTHING;
-    window->windows->counts.again += is_again ? 1 : 0;
-    *fingerprint = is_kept ? page->kept : read_page(window, number);
-    if (page->looks < STILL) return FOUND_NOTHING;
+    const page_entry *page = &window->pages[number];
+    const struct pageshare_window_look look = look_now(window->windows);
+    const struct pageshare_window_way way = pageshare_window_way(page, &part_of(window, number)->is, &look, (uint32_t)number);
+    bool has_changed = way.glances && glance(window, number, kept_of(page)) != clue_in(page);
+    if (has_changed || way.act == PAGESHARE_WINDOW_MEET) meet_page(window, number);
+    if (has_changed || way.act == PAGESHARE_WINDOW_MEET || way.act == PAGESHARE_WINDOW_PASS) return FOUND_NOTHING;
+    window->windows->counts.again += is_asked_again(page) ? 1 : 0;
+    *fingerprint = way.act == PAGESHARE_WINDOW_KEEP ? kept_of(page) : read_page(window, number);
+    if (looks_of(page) < STILL) return FOUND_NOTHING;
     return *fingerprint == window->windows->fingerprint_of_zeros ? FOUND_ZERO : FOUND_IDLE;
 }
 
 /* Whether a look may read a page: it is the window's, and can be lent. */
 static bool may_read(const struct window *window, size_t number) {
-    const struct page *page = &window->pages[number];
-    return page->out == 0 && page->belief == PAGESHARE_WINDOW_PRIVATE && can_lend(window) && number < window->ready &&
-           !is_pinned(window, number);
+    const struct pageshare_window_facts facts = facts_of(window, number);
+    return number < window->ready && pageshare_window_is_free(&window->pages[number], &facts);
 }
 
 static enum finding look_at(struct window *window, size_t number, uint8_t found, uint64_t *fingerprint) {
-    struct windows *windows = window->windows;
-    struct page *page = &window->pages[number];
-    bool is_past = shows_past(page);
-    if (page->out == 1) return FOUND_NOTHING;
-    if (found != PAGE_NONE) note_zero(window, number, false);
-    if ((is_lent(page) || is_past) && found != PAGE_NONE) {
+    const page_entry *page = &window->pages[number];
+    bool is_of_past = shows_past(page);
+    if (is_out(page)) return FOUND_NOTHING;
+    if (found != PAGE_NONE && is_given_back(page)) note_zero(window, number, false);
+    if ((is_lent(page) || is_of_past) && found != PAGE_NONE) {
         find_copy(window, number);
         return FOUND_NOTHING;
     }
-    if (!may_read(window, number) || (found != PAGE_PRESENT && !is_past)) return FOUND_NOTHING;
-    if (page->over == 1 && !is_past && may_pin(windows)) return FOUND_NOTHING;
-    return take_fingerprint(window, number, fingerprint);
+    bool is_there = found == PAGE_PRESENT || is_of_past;
+    return is_there && may_read(window, number) ? take_fingerprint(window, number, fingerprint) : FOUND_NOTHING;
 }
 
 #ifdef WINDOW_TRACE
@@ -188,36 +127,20 @@ static void make_ready(struct window *window, size_t first, size_t count, size_t
     --*left;
 }
 
-/* Where next to nothing changes a look takes only some of the idle pages. They are fewer if that holds on. */
-static void set_rest(const struct windows *windows, struct part *part, const struct findings *findings, size_t own) {
-    size_t changes = findings->changes + (own > part->own ? own - part->own : 0);
-    unsigned rest = 2u * part->rest + 1, most = windows->tuning.rest_most;
-    bool is_calm = changes * CALM_PART <= own;
-    if (!is_calm) part->rest = part->left = 0;
-    else if (part->left > 0) part->left--;
-    else part->rest = part->left = (uint8_t)(rest > most ? most : rest);
-    part->is_still = changes == 0;
-    part->own = (uint16_t)own;
-}
-
 /* A page of zeros in a whole part stays where it is, and counts. */
 static void count_zero(struct window *window, size_t number) {
-    struct page *page = &window->pages[number];
     note_seen(window, number, true);
-    if (page->asks < ASKS_APART_MOST) page->asks = (page->asks + 1u) & 3u;
+    pageshare_window_asked(&window->pages[number], &part_of(window, number)->counts);
 }
-
-/* Whether a page may be idle soon. One that changes always isn't young. */
-static bool is_young(const struct page *page) { return page->looks < STILL && page->asks == 0; }
 
 /* Looks at a page that has memory of its own, and adds it to the findings if it is idle. */
 static void add_finding(struct window *window, size_t number, uint8_t found, struct findings *findings) {
-    const struct page *page = &window->pages[number];
-    unsigned before = page->looks;
+    const page_entry *page = &window->pages[number];
+    unsigned before = looks_of(page);
     uint64_t fingerprint = 0;
     enum finding finding = look_at(window, number, found, &fingerprint);
-    bool is_kept_back = finding == FOUND_ZERO && part_of(window, number)->whole;
-    findings->changes += before == STILL && page->looks < STILL ? 1 : 0;
+    bool is_kept_back = finding == FOUND_ZERO && part_of(window, number)->is.whole;
+    findings->changes += before == STILL && looks_of(page) < STILL ? 1 : 0;
     findings->young += found != PAGE_NONE && is_young(page) ? 1 : 0;
     if (is_kept_back) count_zero(window, number);
     if (finding == FOUND_NOTHING || is_kept_back) return;
@@ -228,29 +151,19 @@ static void add_finding(struct window *window, size_t number, uint8_t found, str
 
 /* Fetches what a glance at a page will need, so that it needn't wait. */
 static void fetch(const struct window *window, size_t number) {
-    const struct page *page = &window->pages[number];
-    if (!can_glance(page) || (page->looks == STILL && !is_in_sample(window, number))) return;
-    __builtin_prefetch(address_of(window, number) + glance_place(page->kept) * sizeof(uint64_t));
-}
-
-/* Whether it is the turn of idle pages there to be asked about again. */
-static bool is_turn_of_idle(const struct window *window, size_t number) {
-    return turns_at(window, number) % idle_apart(window, part_of(window, number)) == 0;
-}
-
-/* Whether a look takes a page of a part that rests: each that isn't idle, or is to be asked about (`is_turn`: as others there are), and
- * those at which it glances. */
-static bool is_sampled(const struct window *window, size_t number, bool is_turn) {
-    const struct page *page = &window->pages[number];
-    return is_turn || page->looks < STILL || page->asks < ASKS_APART_MOST || is_in_sample(window, number);
+    const page_entry *page = &window->pages[number];
+    const struct pageshare_window_look look = look_now(window->windows);
+    if (!pageshare_window_is_to_fetch(page, &part_of(window, number)->is, &look, (uint32_t)number)) return;
+    __builtin_prefetch(address_of(window, number) + glance_place(kept_of(page)) * sizeof(uint64_t));
 }
 
 /* Whether a page that this look wouldn't take has changed. */
 static bool has_changed_beside(const struct window *window, size_t number, uint8_t found) {
-    const struct page *page = &window->pages[number];
-    if (found != PAGE_PRESENT || page->over == 1 || !may_read(window, number)) return false;
-    if (is_sampled(window, number, is_turn_of_idle(window, number))) return false;
-    return glance_at(page->kept, address_of(window, number)) != page->clue;
+    const page_entry *page = &window->pages[number];
+    const struct pageshare_window_look look = look_now(window->windows);
+    if (found != PAGE_PRESENT || is_over(page)) return false;
+    if (!pageshare_window_is_left_out(page, &part_of(window, number)->is, &look, (uint32_t)number)) return false;
+    return may_read(window, number) && glance(window, number, kept_of(page)) != clue_in(page);
 }
 
 /* Where a sampled page has changed those beside it are taken, too, as far as they have changed. None of them is idle any more. */
@@ -261,26 +174,13 @@ static void follow(struct window *window, size_t first, size_t count, size_t i, 
         add_finding(window, first + next - 1, found[next - 1], findings);
 }
 
-/* Which pages of a part this look takes, of those with memory of their own. Returns how many. */
-static size_t choose(const struct window *window, size_t first, size_t count, const uint8_t *found,
-                     const struct findings *findings, uint16_t *taken) {
-    size_t taken_count = 0;
-    bool is_turn = false, is_past = window->windows->past > 0;
-    for (size_t i = 0; i < count; i++) {
-        size_t number = first + i;
-        if (i == 0 || number % TOGETHER == 0) is_turn = findings->is_sample && is_turn_of_idle(window, number);
-        if (found[i] == PAGE_NONE && !is_past) continue;
-        bool takes =
-            findings->is_return ? is_young(&window->pages[number]) : !findings->is_sample || is_sampled(window, number, is_turn);
-        if (takes) taken[taken_count++] = (uint16_t)i;
-    }
-    return taken_count;
-}
-
 /* Looks at those pages of a part that this look takes. */
 static void find_among(struct window *window, size_t first, size_t count, const uint8_t *found, struct findings *findings) {
+    const struct part *part = part_of(window, first);
+    const struct pageshare_window_look look = look_now(window->windows);
     uint16_t taken[PART];
-    size_t taken_count = choose(window, first, count, found, findings, taken);
+    size_t taken_count = pageshare_window_take_pages(window->pages + first, count, found, count, &part->is, &look,
+                                                     (uint32_t)first, findings->is_return, part->counts.past > 0, taken, PART);
     for (size_t at = 0; at < taken_count && window->windows->stuck_count == 0; at++) {
         size_t i = taken[at], before = findings->changes;
         if (at + AHEAD < taken_count && found[taken[at + AHEAD]] == PAGE_PRESENT) fetch(window, first + taken[at + AHEAD]);
@@ -296,7 +196,7 @@ static void find_in_part(struct window *window, size_t first, size_t count, stru
     uint8_t found[PART];
     bool over[PART] = {false}, is_huge = false;
     size_t own = 0;
-    for (size_t i = 0; i < count; i++) over[i] = window->pages[first + i].over == 1;
+    for (size_t i = 0; i < count; i++) over[i] = is_over(&window->pages[first + i]);
     /* (what isn't moved to be held might be a file's that the monitor mapped unseen) */
     const bool *may_be_files = windows->faults.moves ? over : NULL;
     int cause = pagemap_find(&windows->pagemap, address_of(window, first), count, may_be_files, found, &is_huge);
@@ -305,11 +205,12 @@ static void find_in_part(struct window *window, size_t first, size_t count, stru
         return;
     }
     for (size_t i = 0; i < count; i++) own += found[i] != PAGE_NONE ? 1 : 0;
-    if (!findings->is_return) note_huge(window, first, is_huge && windows->pagemap.scans && part->whole);
-    if (!findings->is_return && (part->whole || part->left == 0)) settle_part(window, first, own, is_huge);
-    findings->is_sample = part->rest > 0;
+    if (!findings->is_return) note_huge(window, first, is_huge && windows->pagemap.scans && part->is.whole);
+    if (!findings->is_return && (part->is.whole || part->is.left == 0)) settle_part(window, first, own, is_huge);
+    findings->is_sample = part->is.rest > 0;
     find_among(window, first, count, found, findings);
-    if (!findings->is_return) set_rest(windows, part, findings, own);
+    const struct pageshare_window_look look = look_now(windows);
+    if (!findings->is_return) pageshare_window_set_rest(&part->is, &look, (uint32_t)findings->changes, (uint32_t)own);
 #ifdef WINDOW_TRACE
     if (windows->trace != NULL) trace_part(window, first, count);
 #endif
@@ -321,7 +222,7 @@ static bool look_at_part(struct window *window, size_t first, size_t count, stru
     findings->count = findings->changes = findings->young = 0;
     findings->is_sample = false;
     /* (the part may become whole) */
-    if (part_of(window, first)->alone > 0) begin_turn(&windows->turn);
+    if (part_of(window, first)->is.alone > 0) begin_turn(&windows->turn);
     lock_for_look(windows);
     bool goes_on = !window->ended && windows->stuck_count == 0;
     if (goes_on) {
@@ -358,58 +259,40 @@ bool keep_pace(struct windows *windows) {
 
 static void attend(struct windows *windows);
 
-/* Parts that the look under way comes back to, each after the same time: the first of them first. */
-struct returns {
-    size_t next, count;
-    size_t firsts[RETURNS_MOST];
-    uint64_t due_ns[RETURNS_MOST];
-};
+/* Where the part of this number begins. */
+static size_t first_of(const struct window *window, uint32_t part) { return part == 0 ? 0 : (size_t)part * PART - window->lead; }
 
-static void add_return(struct returns *returns, size_t first, const struct findings *findings) {
-    if (!findings->is_sample || findings->young < MANY_YOUNG || returns->count == RETURNS_MOST) return;
-    size_t place = (returns->next + returns->count++) % RETURNS_MOST;
-    returns->firsts[place] = first;
-    returns->due_ns[place] = clock_now_ns() + return_ns;
-}
-
-/* Comes back to parts for which it is time. Returns whether the look goes on. */
-static bool come_back(struct window *window, struct returns *returns, struct findings *findings, struct batch *zeros,
-                      struct batch *idle) {
+/* Looks at a part, for the first time in this look or again, and does what is to be done. Returns whether the look goes on. */
+static bool step_in(struct window *window, uint32_t part, struct findings *findings, struct batch *zeros, struct batch *idle,
+                    size_t *unready) {
     struct windows *windows = window->windows;
-    size_t unready = 0;
-    bool goes_on = true;
-    while (goes_on && returns->count > 0 && clock_now_ns() >= returns->due_ns[returns->next]) {
-        size_t first = returns->firsts[returns->next];
-        returns->next = (returns->next + 1) % RETURNS_MOST;
-        returns->count--;
+    size_t first = first_of(window, part);
+    if (findings->is_return) {
         /* (no page may be twice in a batch) */
         give_zeros_back(windows, zeros);
         share(windows, idle);
-        findings->is_return = true;
-        goes_on = look_at_part(window, first, rest_of_part(window, first), findings, &unready);
-        findings->is_return = false;
-        settle_findings(windows, findings, zeros, idle);
-        add_return(returns, first, findings);
-        goes_on = keep_pace(windows) && goes_on;
     }
+    bool goes_on = look_at_part(window, first, rest_of_part(window, first), findings, unready);
+    settle_findings(windows, findings, zeros, idle);
     return goes_on;
 }
 
 static void look_at_window(struct windows *windows, struct window *window, size_t *unready) {
-    struct findings findings = {.is_return = false};
+    struct findings findings = {.count = 0};
     struct batch zeros = {.window = window}, idle = {.window = window};
-    struct returns returns = {.count = 0};
-    bool goes_on = true;
+    struct pageshare_window_steps steps;
     size_t sampled = 0;
-    for (size_t first = 0, count = 0; first < window->count && goes_on; first += count) {
-        count = rest_of_part(window, first);
-        goes_on = look_at_part(window, first, count, &findings, unready);
-        settle_findings(windows, &findings, &zeros, &idle);
-        add_return(&returns, first, &findings);
-        if (findings.is_sample && findings.count == 0 && ++sampled % SAMPLED_EACH != 0) continue;
+    uint32_t part = 0;
+    unsigned step = PAGESHARE_WINDOW_STEP_PART;
+    bool goes_on = true;
+    pageshare_window_begin_look(&steps, (uint32_t)parts_in(window));
+    while (goes_on && (step = pageshare_window_next_step(&steps, clock_now_ns(), &part)) != PAGESHARE_WINDOW_STEP_OVER) {
+        findings.is_return = step == PAGESHARE_WINDOW_STEP_RETURN;
+        goes_on = step_in(window, part, &findings, &zeros, &idle, unready);
+        pageshare_window_looked(&steps, part, clock_now_ns(), findings.is_sample, (uint32_t)findings.young);
+        if (findings.is_sample && findings.count == 0 && !findings.is_return && ++sampled % SAMPLED_EACH != 0) continue;
         goes_on = keep_pace(windows) && goes_on;
-        attend(windows);
-        goes_on = goes_on && come_back(window, &returns, &findings, &zeros, &idle);
+        if (!findings.is_return) attend(windows);
     }
     give_zeros_back(windows, &zeros);
     share(windows, &idle);
@@ -426,11 +309,10 @@ struct slots {
 static void collect_part(struct slots *slots, struct window *window, size_t first) {
     size_t end = first + rest_of_part(window, first);
     for (size_t page = first; page < end && slots->count < WINDOW_BATCH; page++) {
-        const struct page *its = &window->pages[page];
-        if (!has_slot(its) || is_lent(its) || its->ordered == 1) continue;
-        if (is_in_transfer(window, page)) continue; /* (a device may be reading the frame, as the page showed it when it began) */
-        if (!order_release(window, page)) continue;
-        slots->slots[slots->count] = slot_number(believed(its).slot);
+        page += pageshare_window_before_release(window->pages + page, end - page);
+        /* (a device may be reading the frame, as the page showed it when it began) */
+        if (page == end || is_in_transfer(window, page) || !order_release(window, page)) continue;
+        slots->slots[slots->count] = slot_number(window->pages[page].slot);
         slots->windows[slots->count] = window;
         slots->pages[slots->count++] = (uint32_t)page;
     }
@@ -442,7 +324,7 @@ static void collect(struct windows *windows, struct slots *slots) {
     lock_for_look(windows);
     for (struct window *window = windows->first; window != NULL && slots->count < WINDOW_BATCH; window = window->next)
         for (size_t first = 0; first < window->count; first += rest_of_part(window, first))
-            if (part_of(window, first)->releases > 0) collect_part(slots, window, first);
+            if (part_of(window, first)->counts.releases > 0) collect_part(slots, window, first);
     unlock_set(windows);
 }
 
@@ -450,10 +332,8 @@ static void collect(struct windows *windows, struct slots *slots) {
 static void note_releases(struct windows *windows, const struct slots *slots, bool are_released) {
     lock_for_look(windows);
     for (size_t i = 0; i < slots->count; i++) {
-        if (!are_released) note_refused(slots->windows[i], slots->pages[i]);
-        if (!are_released) continue;
-        note_done(slots->windows[i], slots->pages[i]);
-        trace_release(windows->trace, slots->windows[i]->base + slots->pages[i]);
+        note_order(slots->windows[i], slots->pages[i], are_released);
+        if (are_released) trace_release(windows->trace, slots->windows[i]->base + slots->pages[i]);
     }
     unlock_set(windows);
 }
@@ -473,7 +353,7 @@ void release_slots(struct windows *windows) {
 
 static bool has_slots(const struct window *window) {
     for (size_t part = 0; part < parts_in(window); part++)
-        if (window->parts[part].releases > 0) return true;
+        if (window->parts[part].counts.releases > 0) return true;
     return false;
 }
 
@@ -501,7 +381,7 @@ static bool has_page_between(void *set, const uint8_t *begin, const uint8_t *end
         const uint8_t *at = window->at, *stop = address_of(window, window->count);
         if (window->ended || begin >= stop || end <= at) continue;
         size_t page = begin > at ? (size_t)(begin - at) / WINDOW_PAGE_BYTES : 0;
-        for (; page < window->count && address_of(window, page) < end && !has; page++) has = window->pages[page].out == 0;
+        for (; page < window->count && address_of(window, page) < end && !has; page++) has = !is_out(&window->pages[page]);
     }
     unlock_set(windows);
     return has;
@@ -516,8 +396,13 @@ static void look_for_locks(struct windows *windows) {
     size_t kib = locked_kib();
     uint64_t begun = clock_now_ns();
     if (kib == windows->locked_kib || (kib > 0 && begun < windows->locks_after_ns)) return;
+    bool is_locked = false;
+    int refused = kib > 0 ? locked_find(has_page_between, windows, &is_locked) : 0;
+    if (refused != 0) { /* (the next look tries again) */
+        note_failure(windows, WINDOW_NO_PAGEMAP, refused);
+        return;
+    }
     windows->locked_kib = kib;
-    bool is_locked = kib > 0 && locked_any(has_page_between, windows);
     lock_for_look(windows);
     windows->is_locked = is_locked;
     unlock_set(windows);

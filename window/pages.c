@@ -18,14 +18,8 @@ void lock_for_look(struct windows *windows) {
 
 bool is_in_transfer(const struct window *window, size_t page) {
     const struct windows *windows = window->windows;
-    const uint8_t *at = address_of(window, page);
-    for (size_t i = 0, left = windows->transfers_count; left > 0 && i < TRANSFERS_MOST; i++) {
-        const struct transfer *transfer = &windows->transfers[i];
-        if (!transfer->is_there) continue;
-        if (at < transfer->end && transfer->begin < at + WINDOW_PAGE_BYTES) return true;
-        left--;
-    }
-    return false;
+    const uint64_t at = (uintptr_t)address_of(window, page), there = windows->transfers_count;
+    return pageshare_window_is_in_transfer(windows->transfers, TRANSFERS_MOST, there, at, at + WINDOW_PAGE_BYTES);
 }
 
 bool is_pinned(const struct window *window, size_t page) {
@@ -37,43 +31,104 @@ void find_pins(struct windows *windows) {
     if (windows->find_pins(windows->find_pins_opaque) != WINDOWS_PINS_NEVER) windows->pins = WINDOWS_PINS_POSSIBLE;
 }
 
+_Static_assert(WINDOW_SLOT_RESTS - 1 <= UINT32_MAX / WINDOW_SLOT_TOPS, "a slot has a name of 32 bits");
+
+uint32_t slot_name(uint64_t slot) { return (uint32_t)(slot >> 32) * WINDOW_SLOT_RESTS + (uint32_t)slot; }
+
+uint64_t slot_number(uint32_t name) { return (uint64_t)(name / WINDOW_SLOT_RESTS) << 32 | name % WINDOW_SLOT_RESTS; }
+
+/* ---- what the library decides, and hears ---- */
+
+static struct pageshare_window_counts *counts_of(struct window *window, size_t number) {
+    return &part_of(window, number)->counts;
+}
+
+struct pageshare_window_facts facts_of(const struct window *window, size_t number) {
+    const struct windows *windows = window->windows;
+    return (struct pageshare_window_facts){.pinned = is_pinned(window, number),
+                                           .may_pin = may_pin(windows),
+                                           .inherited = !window->advice.dont_fork,
+                                           .locked = windows->is_locked,
+                                           .ended = window->ends || windows->is_over};
+}
+
+struct pageshare_window_facts facts_with(const struct window *window, size_t number, struct pageshare_window_facts why) {
+    struct pageshare_window_facts facts = facts_of(window, number);
+    facts.pinned = facts.pinned || why.pinned;
+    facts.inherited = facts.inherited || why.inherited;
+    facts.leaves = why.leaves;
+    return facts;
+}
+
+enum pageshare_window_order order_of(struct window *window, size_t number) {
+    const struct pageshare_window_facts facts = facts_of(window, number);
+    return (enum pageshare_window_order)pageshare_window_next(&window->pages[number], counts_of(window, number), &facts);
+}
+
+void note_order(struct window *window, size_t number, bool is_done) {
+    if (is_done) pageshare_window_done(&window->pages[number], counts_of(window, number));
+    else pageshare_window_refused(&window->pages[number], counts_of(window, number));
+}
+
+bool order_release(struct window *window, size_t number) {
+    enum pageshare_window_order order = order_of(window, number);
+    if (order == PAGESHARE_WINDOW_HOLD) {
+        note_order(window, number, false); /* (a step has left the loan) */
+        order = order_of(window, number);
+    }
+    if (order != PAGESHARE_WINDOW_RELEASE) pageshare_window_withdraw(&window->pages[number]);
+    return order == PAGESHARE_WINDOW_RELEASE;
+}
+
+bool may_go_on(const struct window *window, size_t first, size_t count, struct pageshare_window_facts why) {
+    for (size_t number = first; number < first + count; number++) {
+        const struct pageshare_window_facts facts = facts_with(window, number, why);
+        if (!pageshare_window_may_go_on(&window->pages[number], &facts)) return false;
+    }
+    return true;
+}
+
+bool may_give_up(const struct window *window, size_t first, size_t count) {
+    const struct pageshare_window_facts called = {.called = true};
+    for (size_t number = first; number < first + count; number++)
+        if (!pageshare_window_may_go_on(&window->pages[number], &called)) return false;
+    return true;
+}
+
+void hear_written(struct window *window, size_t number) {
+    pageshare_window_written(&window->pages[number], counts_of(window, number));
+}
+
+void note_zero(struct window *window, size_t number, bool is_zero) {
+    pageshare_window_give_back(&window->pages[number], counts_of(window, number), is_zero);
+}
+
+void stop_showing_past(struct window *window, size_t number) {
+    pageshare_window_stop_past(&window->pages[number], counts_of(window, number));
+}
+
+void forget_content(struct window *window, size_t number) {
+    pageshare_window_forget(&window->pages[number], counts_of(window, number));
+}
+
+void note_seen(struct window *window, size_t number, bool is_other) {
+    if (is_seen(&window->pages[number]) != is_other)
+        pageshare_window_see(&window->pages[number], counts_of(window, number), is_other);
+}
+
+/* ---- what lies at pages' places ---- */
+
 size_t alike(const struct window *window, size_t first, size_t most) {
-    const struct page *pages = window->pages + first;
-    size_t count = 1;
-    while (count < most && pages[count].over == pages[0].over && pages[count].out == pages[0].out) count++;
-    return count;
+    return pageshare_window_alike(window->pages + first, most);
 }
 
 bool is_one_mapping(const struct window *window, size_t number) {
-    const struct page *after = &window->pages[number], *before = after - 1;
-    if (before->over != after->over) return false;
-    if (before->over == 1) return before->past == after->past && are_in_a_row(before->clue, after->clue);
-    bool is_moved_alike = before->moved == after->moved && after->begins == 0;
-    return is_moved_alike && part_of(window, number - 1)->whole == part_of(window, number)->whole;
+    const page_entry *after = &window->pages[number], *before = after - 1;
+    if (is_over(before) != is_over(after)) return false;
+    if (is_over(before)) return is_past(before) == is_past(after) && are_in_a_row(clue_in(before), clue_in(after));
+    bool is_moved_alike = is_moved(before) == is_moved(after) && !begins_moved(after);
+    return is_moved_alike && part_of(window, number - 1)->is.whole == part_of(window, number)->is.whole;
 }
-
-/* Notes what lies at the place of pages in a row since now: frames, or memory of their own. */
-static void note_memory(struct window *window, size_t first, size_t count, uint32_t frame, bool is_moved) {
-    struct windows *windows = window->windows;
-    bool is_file = frame != ZEROS;
-    windows->counts.mappings -= mappings_of(window, first, count);
-    for (size_t i = 0; i < count; i++) {
-        struct page *page = &window->pages[first + i];
-        stop_showing_past(window, first + i);
-        note_zero(window, first + i, false);
-        /* (what a glance has found holds on where memory of its own was moved) */
-        if (is_file || page->over == 1) page->clue = is_file ? clue_of(frame + (uint32_t)i) % CLUES : 0;
-        page->over = is_file ? 1 : 0;
-        page->past = page->same = 0;
-        page->moved = is_moved ? 1 : 0;
-        page->begins = is_moved && i == 0 ? 1 : 0;
-    }
-    /* (what was moved before and lost its first page begins here) */
-    if (first + count < window->count && window->pages[first + count].moved == 1) window->pages[first + count].begins = 1;
-    windows->counts.mappings += mappings_of(window, first, count);
-}
-
-void note_moved(struct window *window, size_t first, size_t count) { note_memory(window, first, count, ZEROS, true); }
 
 size_t mappings_of(const struct window *window, size_t first, size_t count) {
     size_t found = 0;
@@ -82,27 +137,21 @@ size_t mappings_of(const struct window *window, size_t first, size_t count) {
     return found;
 }
 
-void note_seen(struct window *window, size_t number, bool is_seen) {
-    struct page *page = &window->pages[number];
-    struct part *part = part_of(window, number);
-    part->shareable = (uint16_t)(part->shareable + (is_seen ? 1 : 0) - page->seen);
-    page->seen = is_seen ? 1 : 0;
+/* Notes what lies at the place of pages in a row since now: frames, or memory of their own. */
+static void note_memory(struct window *window, size_t first, size_t count, uint32_t frame, bool is_moved) {
+    size_t *mappings = &window->windows->counts.mappings, behind = first + count;
+    *mappings -= mappings_of(window, first, count);
+    for (size_t i = 0; i < count; i++) {
+        page_entry *page = &window->pages[first + i];
+        struct pageshare_window_counts *part = counts_of(window, first + i);
+        if (frame == ZEROS) pageshare_window_uncover(page, part, is_moved, is_moved && i == 0);
+        else pageshare_window_cover(page, part, (uint16_t)(clue_of(frame + (uint32_t)i) % CLUES));
+    }
+    if (behind < window->count) pageshare_window_begin_moved(&window->pages[behind]);
+    *mappings += mappings_of(window, first, count);
 }
 
-void forget_content(struct window *window, size_t number) {
-    struct page *page = &window->pages[number];
-    page->looks = 0;
-    page->asks = 0;
-    note_seen(window, number, false);
-}
-
-void stop_showing_past(struct window *window, size_t number) {
-    struct page *page = &window->pages[number];
-    if (!shows_past(page)) return;
-    page->same = 0;
-    forget_content(window, number);
-    window->windows->past--;
-}
+void note_moved(struct window *window, size_t first, size_t count) { note_memory(window, first, count, ZEROS, true); }
 
 /* Whether what is put in the place of pages can be a copy of a mapping that is there already, with all that was said of it. */
 static const uint8_t *source_of(const struct window *window, uint32_t frame, int protection) {
@@ -113,16 +162,14 @@ static const uint8_t *source_of(const struct window *window, uint32_t frame, int
 }
 
 int map_pages(struct window *window, size_t first, size_t count, uint32_t frame, int protection) {
-    bool is_file = frame != ZEROS, has_left = window->pages[first].out == 1;
+    bool is_file = frame != ZEROS, has_left = is_out(&window->pages[first]);
     const uint8_t *source = source_of(window, frame, protection);
     void *at = address_of(window, first);
-    if (source == NULL || mapping_copy(at, source, count) != 0) {
-        /* (for a moment a child of a fork would have it) */
-        int kind = MAP_PRIVATE | MAP_FIXED | MAP_NORESERVE | (is_file ? 0 : MAP_ANONYMOUS);
-        off_t from = is_file ? (off_t)bytes_of(frame) : 0;
-        int file = is_file ? window->windows->frames_fd : NO_FILE;
-        if (mmap(at, bytes_of(count), protection, kind, file, from) == MAP_FAILED) return errno;
-    }
+    int cause = source != NULL ? mapping_copy(at, source, count) : ENOENT;
+    /* (for a moment a child of a fork would have it) */
+    if (cause != 0)
+        cause = mapping_put(at, count, protection, is_file ? window->windows->frames_fd : NO_FILE, is_file ? frame : 0);
+    if (cause != 0) return cause;
     note_memory(window, first, count, frame, false);
     if (!is_file && !has_left) say_again(window, first, count, false);
     return 0;
@@ -167,11 +214,10 @@ int let_waiters_go(struct window *window, size_t first, size_t count) {
 
 /* Writes to a page that was stuck wait no longer. */
 static void note_let_go(struct window *window, size_t number) {
-    struct pageshare_window_page page = believed(&window->pages[number]);
-    if (page.belief != PAGESHARE_WINDOW_LETTING_GO && page.belief != PAGESHARE_WINDOW_PUTTING_BACK) return;
-    order_of(window, number, &page);
-    pageshare_window_done(&page);
-    believe(window, number, &page);
+    unsigned belief = belief_of(&window->pages[number]);
+    if (belief != PAGESHARE_WINDOW_LETTING_GO && belief != PAGESHARE_WINDOW_PUTTING_BACK) return;
+    order_of(window, number);
+    note_order(window, number, true);
 }
 
 int free_stuck(struct windows *windows) {

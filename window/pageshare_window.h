@@ -1,14 +1,15 @@
 /*
  * What the thread that lends a monitor's pages decides, in C11 or C++11: the functions of libpageshare_window.a. They decide what is done
- * next with a page, which pages a call of the monitor is about, how many mappings may be made, and how much processor time the thread may
- * use. They are proved, make no system call and allocate nothing.
+ * next with a page, which pages a call of the monitor is about, which ones a device may hold, which numbers a new window's pages get, how
+ * many mappings may be made, and how much processor time the thread may use. They are proved, make no system call and allocate nothing.
  *
  * Pages:
  *
  *     struct pageshare_window_page page = {0};                      a page of which nothing is lent
- *     pageshare_window_choose(&page, &bars, false);                 it is to be lent
- *     switch (pageshare_window_next(&page, &bars))                  what is to be done with it now
- *     pageshare_window_done(&page);                                 that was done, and so on
+ *     struct pageshare_window_counts part = {0};                    the counts of the pages around it
+ *     pageshare_window_choose(&page, &part, &facts, false);         it is to be lent
+ *     switch (pageshare_window_next(&page, &part, &facts))          what is to be done with it now
+ *     pageshare_window_done(&page, &part);                          that was done, and so on
  *
  * A budget:
  *
@@ -24,15 +25,24 @@
  *     while (pageshare_window_next_piece(ranges, count, at, end, &piece))
  *         at = piece.end;                                           the pieces between two pages, one after another
  *
+ * Transfers that are under way, of which the table of zeros has none:
+ *
+ *     static struct pageshare_window_transfer transfers[128];
+ *     uint64_t elsewhere = 0;
+ *     size_t place = pageshare_window_begin_transfer(transfers, 128, &elsewhere, begin, end);
+ *     pageshare_window_is_in_transfer(transfers, 128, 1, at, end)   a device may hold what lies there; or while `elsewhere` isn't 0
+ *     pageshare_window_end_transfer(transfers, 128, &elsewhere, place);
+ *
  * Over any stretch of calls the thread uses at most a sum of these: its share of the time that passed, what was saved before, the credit,
  * what it may owe, and the work of one call. That holds if it works only after pageshare_window_settle has returned 0.
  *
  * The caller ensures:
- * - Pointers are valid, not null, and point to a page, a budget or a table that no other thread uses during the call.
- * - Budgets, pages and ranges are written by these calls alone, but for a page that is set to zeros, and for what the caller writes of a
- *   range: `window`, `base` and `said`.
+ * - Pointers are valid, not null, and point to a page, counts, a budget or a table that no other thread uses during the call.
+ * - Budgets, pages, counts, transfers, pins and ranges are written by these calls alone, but for what is set to zeros at first, and for what
+ *   the caller writes of a range: `window`, `base` and `said`. The counts that a call gets are those of the page's part.
  * - Of an order it carries out what the order says and nothing else, and what it says came of it is true.
- * - Before a call of the monitor goes on that changes a page, it passes what keeps the page from being lent.
+ * - Before a call of the monitor goes on that changes a page, it passes what is so of the page from then on.
+ * - It says of each page what was put at its place, and when it is written, given up, unmapped or leaves.
  */
 #ifndef PAGESHARE_WINDOW_LIBRARY_H
 #define PAGESHARE_WINDOW_LIBRARY_H
@@ -104,6 +114,22 @@ bool pageshare_window_next_piece(const struct pageshare_window_range *ranges, si
 /* Whether a range is left of a window. */
 bool pageshare_window_is_part_left(const struct pageshare_window_range *ranges, size_t count, uint64_t window);
 /*
+ * Whether the pages from `begin` on and before `end` are all that is left of a window: they are the range at a place, and no other range is
+ * left of that range's window.
+ */
+bool pageshare_window_is_all_left(const struct pageshare_window_range *ranges, size_t count, size_t place, uint64_t begin,
+                                  uint64_t end);
+
+/* Two pages between which all ranges of a table lie. Each is one of a range; where there is no range both are 0. */
+struct pageshare_window_range_bounds {
+    uint64_t begin; /* the first page of a range */
+    uint64_t end;   /* the page behind the last one of a range */
+};
+
+/* Finds the bounds of `count` ranges. */
+void pageshare_window_bounds(const struct pageshare_window_range *ranges, size_t count,
+                             struct pageshare_window_range_bounds *found);
+/*
  * Adds a range that isn't a window yet to a table of `most` places, of which `*count` are used. Returns false, and changes nothing, if the
  * range is empty, if one of its pages is in another range, or if no place is free.
  */
@@ -115,6 +141,46 @@ bool pageshare_window_add_range(struct pageshare_window_range *ranges, size_t mo
  */
 bool pageshare_window_take_out(struct pageshare_window_range *ranges, size_t most, size_t *count, size_t place, uint64_t begin,
                                uint64_t end);
+
+/* A place for a transfer between a file and memory, during which a device may hold that memory's pages. Zeros: no transfer is there. */
+struct pageshare_window_transfer {
+    uint64_t begin; /* the address of the first byte */
+    uint64_t end;   /* the address behind the last one */
+    bool is_there;
+};
+
+/*
+ * Begins a transfer at the first free place of a table, and returns that place. Where none is free it adds one to `*elsewhere`, and
+ * returns the number of places.
+ */
+size_t pageshare_window_begin_transfer(struct pageshare_window_transfer *table, size_t places, uint64_t *elsewhere,
+                                       uint64_t begin, uint64_t end);
+/* Ends a transfer, by what pageshare_window_begin_transfer returned. */
+void pageshare_window_end_transfer(struct pageshare_window_transfer *table, size_t places, uint64_t *elsewhere, size_t place);
+/*
+ * Whether one of the first `there` transfers of a table is under way of bytes from `begin` on, and below `end`. Where no more than so many
+ * are there, that is whether any is.
+ */
+bool pageshare_window_is_in_transfer(const struct pageshare_window_transfer *table, size_t places, uint64_t there, uint64_t begin,
+                                     uint64_t end);
+/*
+ * Pins `count` of a window's pages from `from` on once more, or unpins them once. `pins`: how often each of its `pages` pages was pinned.
+ * Returns false, and changes nothing, if they aren't all there, if one was pinned 65,535 times, or if one isn't pinned.
+ */
+bool pageshare_window_pin(uint16_t *pins, size_t pages, size_t from, size_t count);
+bool pageshare_window_unpin(uint16_t *pins, size_t pages, size_t from, size_t count);
+
+/* The numbers of a window's pages: so many in a row. */
+struct pageshare_window_taken {
+    uint32_t base;  /* that of its first page */
+    uint32_t count; /* of its pages */
+};
+
+/*
+ * Finds the least number from which `count` in a row are none of these `windows` windows'. All of them are below 2^32 - 1. Returns false,
+ * and leaves `*base` as it is, if there is none.
+ */
+bool pageshare_window_find_numbers(const struct pageshare_window_taken *taken, size_t windows, uint32_t count, uint32_t *base);
 
 /* What is believed of a page. A slot is the host's name for a loan; a frame has a number in the host's file. */
 enum pageshare_window_belief {
@@ -157,30 +223,62 @@ enum pageshare_window_order {
     PAGESHARE_WINDOW_PUT_BACK = 15       /* let writes wait no longer: it keeps its memory */
 };
 
-/* A page, as its lender knows it. */
+/*
+ * A page, in 12 bytes. A struct of zeros is a page of which nothing is lent and nothing is known. The library alone writes the members; anybody
+ * may read them.
+ */
 struct pageshare_window_page {
-    uint32_t slot;  /* of its loan, or 0 */
-    uint32_t frame; /* of its loan, while that is used or is to be; or 0 */
-    uint8_t belief; /* enum pageshare_window_belief */
-    bool ordered;   /* an order was given, and nothing is known of it yet */
+    uint32_t slot;  /* of its loan; without one the lower half of its fingerprint */
+    uint32_t frame; /* of its loan; without a slot the upper half of its fingerprint */
+    uint16_t clue;  /* PAGESHARE_WINDOW_CLUE: of the frame that lies under it, or of the last glance. And PAGESHARE_WINDOW_SEEN */
+    uint8_t belief; /* PAGESHARE_WINDOW_BELIEF: enum pageshare_window_belief. And what lies at its place */
+    uint8_t looks;  /* of its order and its place; and what looks have found */
 };
 
-/* What keeps a page from being lent, each as long as it lasts. */
-struct pageshare_window_bars {
+/* The bits of `clue`, of `belief` and of `looks`. */
+enum {
+    PAGESHARE_WINDOW_CLUE = 0x7fff, /* a number below 32,768 */
+    PAGESHARE_WINDOW_SEEN = 0x8000, /* it was seen elsewhere, or is zeros */
+
+    PAGESHARE_WINDOW_BELIEF = 0x1f,
+    PAGESHARE_WINDOW_OVER = 0x20, /* a frame is mapped at its place; the page is that frame or a private copy */
+    PAGESHARE_WINDOW_PAST = 0x40, /* the frame is of a lender that is gone */
+    PAGESHARE_WINDOW_OUT = 0x80,  /* it has left the window */
+
+    PAGESHARE_WINDOW_ORDERED = 0x01, /* an order was given, and nothing is known of it yet */
+    PAGESHARE_WINDOW_SAME = 0x02,  /* nobody has written to it since it was given back as zeros, or its frame's lender is gone */
+    PAGESHARE_WINDOW_MOVED = 0x04, /* its memory was moved to its place, and so is in no mapping with what is beside it */
+    PAGESHARE_WINDOW_BEGINS = 0x08 /* it is the first page of what was moved */
+};
+
+/* Counts of the pages of a part of a window, whose pages are at most 65,535. At first all are 0. The library alone writes them. */
+struct pageshare_window_counts {
+    uint16_t releases;  /* pages whose slot is to be released */
+    uint16_t lent;      /* pages that show their frame */
+    uint16_t zeros;     /* pages that were given back as zeros, and have no memory since */
+    uint16_t past;      /* pages that show a frame of a lender that is gone */
+    uint16_t shareable; /* pages that were seen elsewhere, or are zeros */
+};
+
+/* What is so of a page, its window and its process, as far as it keeps the page from being lent. */
+struct pageshare_window_facts {
     bool called;    /* a call of the monitor changes it just now */
     bool pinned;    /* a device may hold its memory */
+    bool may_pin;   /* devices may hold memory of any page that is a copy over a frame, for all that is known */
     bool inherited; /* a child of a fork would have it */
     bool locked;    /* its memory is locked */
-    bool left;      /* it has left its window */
+    bool leaves;    /* it is about to leave its window */
     bool ended;     /* lending has ended */
 };
 
 /* Chooses a page to be lent, or to be given back if it is zeros. Returns whether it can be: it is private, and nothing bars it. */
-bool pageshare_window_choose(struct pageshare_window_page *page, const struct pageshare_window_bars *bars, bool is_zeros);
+bool pageshare_window_choose(struct pageshare_window_page *page, struct pageshare_window_counts *part,
+                             const struct pageshare_window_facts *facts, bool is_zeros);
+/* Whether it could be chosen. */
+bool pageshare_window_is_free(const struct pageshare_window_page *page, const struct pageshare_window_facts *facts);
 /* Gives the next order of a page: enum pageshare_window_order. While an order is open that is PAGESHARE_WINDOW_WAIT. */
-uint8_t pageshare_window_next(struct pageshare_window_page *page, const struct pageshare_window_bars *bars);
-/* Whether a call of the monitor may go on that the bars are for: no write waits, and a page that must have memory of its own shows no frame. */
-bool pageshare_window_may_go_on(const struct pageshare_window_page *page, const struct pageshare_window_bars *bars);
+uint8_t pageshare_window_next(struct pageshare_window_page *page, struct pageshare_window_counts *part,
+                              const struct pageshare_window_facts *facts);
 /* Takes back an order with which nobody began. */
 void pageshare_window_withdraw(struct pageshare_window_page *page);
 
@@ -188,17 +286,60 @@ void pageshare_window_withdraw(struct pageshare_window_page *page);
  * What came of the order: it was done; it wasn't, and nothing changed; that isn't known; or the host gave this loan. Of a comparison
  * `done` means that they are equal. Each returns false, and changes nothing, if no order is open that can have this outcome.
  */
-bool pageshare_window_done(struct pageshare_window_page *page);
-bool pageshare_window_refused(struct pageshare_window_page *page);
-bool pageshare_window_unknown(struct pageshare_window_page *page);
-bool pageshare_window_lent(struct pageshare_window_page *page, uint32_t slot, uint32_t frame);
+bool pageshare_window_done(struct pageshare_window_page *page, struct pageshare_window_counts *part);
+bool pageshare_window_refused(struct pageshare_window_page *page, struct pageshare_window_counts *part);
+bool pageshare_window_unknown(struct pageshare_window_page *page, struct pageshare_window_counts *part);
+bool pageshare_window_lent(struct pageshare_window_page *page, struct pageshare_window_counts *part, uint32_t slot,
+                           uint32_t frame);
+
+/* A copy over the page's frame was found, or it has memory of its own. Returns false, and changes nothing, while an order is open that
+ * touches the page. */
+bool pageshare_window_written(struct pageshare_window_page *page, struct pageshare_window_counts *part);
+
+/* Whether a call of the monitor may go on that the facts are for: no write waits, and a page that must have memory of its own shows no frame. */
+bool pageshare_window_may_go_on(const struct pageshare_window_page *page, const struct pageshare_window_facts *facts);
+/* Whether a page's memory may be exchanged for other memory: it isn't held, and nothing bars it. */
+bool pageshare_window_is_movable(const struct pageshare_window_page *page, const struct pageshare_window_facts *facts);
+/* Whether a page over a frame has to stay where it is, while writes to it wait: it is to get its copy there, or it has memory of its own
+ * (`is_copy`) that a device may hold. */
+bool pageshare_window_stays(const struct pageshare_window_page *page, const struct pageshare_window_facts *facts, bool is_copy);
+
+/* What was put at a page's place: a frame with this clue; or memory of its own, moved there or mapped, perhaps as the first page of it. */
+void pageshare_window_cover(struct pageshare_window_page *page, struct pageshare_window_counts *part, uint16_t clue);
+void pageshare_window_uncover(struct pageshare_window_page *page, struct pageshare_window_counts *part, bool moved, bool begins);
+/* The page before one got other memory: the page begins what was moved, if it was moved. */
+void pageshare_window_begin_moved(struct pageshare_window_page *page);
+
+/* A page was given back as zeros and has no memory; or it has memory. Nothing is noted of a page over a frame. */
+void pageshare_window_give_back(struct pageshare_window_page *page, struct pageshare_window_counts *part, bool is_zeros);
+/* It shows no frame of a lender that is gone. */
+void pageshare_window_stop_past(struct pageshare_window_page *page, struct pageshare_window_counts *part);
+/* Its content was given up. */
+void pageshare_window_give_up(struct pageshare_window_page *page, struct pageshare_window_counts *part);
+/* It was unmapped, or something else was mapped in its place. It has left its window. */
+void pageshare_window_unmap(struct pageshare_window_page *page, struct pageshare_window_counts *part);
+/* It has left its window, with what it contains. */
+void pageshare_window_leave(struct pageshare_window_page *page, struct pageshare_window_counts *part);
+/* Its lender is gone, and no slot of it counts any more. What the page shows stays. */
+void pageshare_window_detach(struct pageshare_window_page *page, struct pageshare_window_counts *part);
+
+/* What looks have found of a page counts no more. */
+void pageshare_window_forget(struct pageshare_window_page *page, struct pageshare_window_counts *part);
+/* Whether it was seen elsewhere, or is zeros. */
+void pageshare_window_see(struct pageshare_window_page *page, struct pageshare_window_counts *part, bool is_seen);
 
 /*
- * A copy over the page's frame was found, or it has memory of its own; or it was given up. Returns false, and changes nothing, while an
- * order is open that touches the page.
+ * How many of these pages, from the first one on,
+ *   are over frames or not, and have left the window or not, as the first is and has;
+ *   are the window's (a frame lies under them still, or they haven't left it), or aren't, as the first;
+ *   can be mapped or given back by one call: their orders to map are open, and their frames are in a row; or their orders to give memory back
+ *   are open. 0 if neither is so of the first.
  */
-bool pageshare_window_written(struct pageshare_window_page *page);
-bool pageshare_window_discarded(struct pageshare_window_page *page);
+size_t pageshare_window_alike(const struct pageshare_window_page *pages, size_t count);
+size_t pageshare_window_here(const struct pageshare_window_page *pages, size_t count);
+size_t pageshare_window_row(const struct pageshare_window_page *pages, size_t count);
+/* How many of them come before the first one whose slot is to be released, and of which no order is open. */
+size_t pageshare_window_before_release(const struct pageshare_window_page *pages, size_t count);
 
 /* What is to be done with a part of a window: the pages that one huge page could hold. */
 enum pageshare_window_part_order {
@@ -207,10 +348,15 @@ enum pageshare_window_part_order {
     PAGESHARE_WINDOW_MAKE_WHOLE = 2 /* copy it to a huge page, and put that in its place */
 };
 
+/* A part. The library alone writes the members, but for `whole`: the caller writes it when that has changed. */
 struct pageshare_window_part {
-    bool whole;    /* it is left to the system's huge pages: nothing of it is lent. The caller writes it when that has changed */
+    bool whole;    /* it is left to the system's huge pages: nothing of it is lent */
     uint8_t pause; /* looks at it until it may change again */
     uint8_t alone; /* looks in a row that found next to nothing shared in it */
+    uint8_t rest;  /* idle pages that a look leaves out for each one that it takes, since next to nothing changes there */
+    uint8_t left;  /* looks until they may be more */
+    bool is_still; /* nothing at all had changed there at the last look */
+    uint32_t own;  /* pages that had memory of their own at the last look */
 };
 
 /* When parts are split, and when they are made whole. */
@@ -240,6 +386,119 @@ struct pageshare_window_part_look {
  */
 uint8_t pageshare_window_next_of_part(struct pageshare_window_part *part, const struct pageshare_window_part_config *config,
                                       const struct pageshare_window_part_look *look);
+
+/* ---- looks ---- */
+
+/* A look, and how often it takes what. */
+struct pageshare_window_look {
+    uint32_t look;     /* its number */
+    uint16_t turns;    /* a page that nobody else has is asked about again at one look in so many; 0 counts as 8 */
+    uint8_t rest_most; /* idle pages that it leaves out at most for each one that it takes, where a part rests */
+};
+
+/* What comes of a look at a page. */
+enum pageshare_window_act {
+    PAGESHARE_WINDOW_PASS = 0, /* nothing */
+    PAGESHARE_WINDOW_MEET = 1, /* the page is new, or has changed: it isn't read before it stays as it is */
+    PAGESHARE_WINDOW_KEEP = 2, /* the fingerprint of the last read counts */
+    PAGESHARE_WINDOW_READ = 3  /* the page is read */
+};
+
+/* What a look does with a page, before any byte of it is read. */
+struct pageshare_window_way {
+    bool glances; /* it glances at the page first; if the glance isn't the last one's, the page has changed */
+    uint8_t act;  /* enum pageshare_window_act: what comes of it otherwise */
+};
+
+/* A part that a look comes back to, and when. */
+struct pageshare_window_return {
+    uint32_t part;
+    uint64_t due_ns;
+};
+
+/* Where a look at a window is. */
+struct pageshare_window_steps {
+    uint32_t parts;     /* how many the window has */
+    uint32_t next_part; /* that one comes next */
+    uint32_t count;     /* of returns */
+    struct pageshare_window_return returns[64];
+};
+
+enum pageshare_window_step {
+    PAGESHARE_WINDOW_STEP_OVER = 0,  /* it has come to all parts */
+    PAGESHARE_WINDOW_STEP_PART = 1,  /* it comes to a part */
+    PAGESHARE_WINDOW_STEP_RETURN = 2 /* it comes back to one, whose pages may be idle by now */
+};
+
+/* Begins a look; returns what comes next, enum pageshare_window_step, and which part that is; and takes that a part was looked at: whether it
+ * rests, and how many of its pages may be idle soon. `now`: the time in ns. */
+void pageshare_window_begin_look(struct pageshare_window_steps *steps, uint32_t parts);
+uint8_t pageshare_window_next_step(struct pageshare_window_steps *steps, uint64_t now, uint32_t *part);
+bool pageshare_window_looked(struct pageshare_window_steps *steps, uint32_t part, uint64_t now, bool rests, uint32_t young);
+
+/* What a look found, and what it took. */
+struct pageshare_window_finds {
+    uint64_t took_ms;  /* how long it lasted */
+    uint64_t spent_ns; /* its processor time */
+    uint64_t found;    /* pages that came to be shared */
+    uint64_t asked;    /* questions, */
+    uint64_t again;    /* and those of them that were asked before */
+    uint64_t pages;    /* of all windows */
+};
+
+/* When looks begin. */
+struct pageshare_window_times {
+    uint32_t period_ms; /* between the beginnings of two looks, where nothing makes it shorter or longer */
+    uint32_t calm;      /* looks in a row that found next to nothing */
+    uint32_t eager;     /* looks that come sooner still */
+    uint32_t turns;     /* a page that nobody else has is asked about again at one look in so many */
+    uint64_t now_ms;    /* between the beginnings of the last look and the next one */
+};
+
+/* Begins the times of looks; makes the next ones come sooner, since there is a new window or lender; takes what a look found, and whether there
+ * was a lender; and returns how many milliseconds pass until the next look, after one that lasted so long. */
+void pageshare_window_begin_times(struct pageshare_window_times *times, uint32_t period_ms);
+void pageshare_window_be_eager(struct pageshare_window_times *times);
+void pageshare_window_look_ended(struct pageshare_window_times *times, const struct pageshare_window_finds *finds, bool may_lend);
+uint64_t pageshare_window_pause_ms(const struct pageshare_window_times *times, uint64_t took_ms);
+
+/*
+ * Finds which pages a look takes, of those whose `found` isn't 0, or of all if `all` is true. The first page has the number `first` in its
+ * window. `is_return`: the look comes back for the pages that may be idle soon. Writes their places to `taken`, which has as many entries as
+ * there are pages, and returns how many there are.
+ */
+size_t pageshare_window_take_pages(const struct pageshare_window_page *pages, size_t count, const uint8_t *found,
+                                   size_t found_count, const struct pageshare_window_part *part,
+                                   const struct pageshare_window_look *look, uint32_t first, bool is_return, bool all,
+                                   uint16_t *taken, size_t taken_most);
+/* What the look does with a page. */
+struct pageshare_window_way pageshare_window_way(const struct pageshare_window_page *page,
+                                                 const struct pageshare_window_part *part,
+                                                 const struct pageshare_window_look *look, uint32_t number);
+/* Whether it leaves a page out, where the part rests; and whether a glance at a page is so likely that its bytes are fetched before. */
+bool pageshare_window_is_left_out(const struct pageshare_window_page *page, const struct pageshare_window_part *part,
+                                  const struct pageshare_window_look *look, uint32_t number);
+bool pageshare_window_is_to_fetch(const struct pageshare_window_page *page, const struct pageshare_window_part *part,
+                                  const struct pageshare_window_look *look, uint32_t number);
+/* The number that says where a glance at a page looks. A glance is a number below 32,768. */
+uint64_t pageshare_window_glanced_by(const struct pageshare_window_page *page, uint32_t number);
+/* A page is new, or has changed, and this is what a glance finds there. Or it was read: its fingerprint, and a glance by that. */
+void pageshare_window_met(struct pageshare_window_page *page, struct pageshare_window_counts *part, uint32_t number,
+                          uint16_t glance);
+void pageshare_window_read(struct pageshare_window_page *page, struct pageshare_window_counts *part, uint64_t fingerprint,
+                           uint16_t glance);
+/* A page was asked about in vain; it can't be lent now; it is to be asked about at once; or it was to be held, and was, or wasn't. */
+void pageshare_window_asked(struct pageshare_window_page *page, struct pageshare_window_counts *part);
+void pageshare_window_asked_last(struct pageshare_window_page *page, struct pageshare_window_counts *part);
+void pageshare_window_ask_at_once(struct pageshare_window_page *page, struct pageshare_window_counts *part);
+void pageshare_window_held(struct pageshare_window_page *page, struct pageshare_window_counts *part, bool was_held);
+/* Whether others mustn't find a page by the question about it. */
+bool pageshare_window_is_in_passing(const struct pageshare_window_page *page, const struct pageshare_window_part *part,
+                                    const struct pageshare_window_look *look, uint32_t number);
+/* What a look found of a part: idle pages that have changed, and pages with memory of their own. Or its rest ends. */
+void pageshare_window_set_rest(struct pageshare_window_part *part, const struct pageshare_window_look *look, uint32_t changes,
+                               uint32_t own);
+void pageshare_window_wake(struct pageshare_window_part *part);
 
 #ifdef __cplusplus
 }

@@ -25,7 +25,7 @@ int begin_parts(struct window *window) {
     unlock_set(window->windows);
     window->keeps_huge = window->keeps_huge && advice_allows_huge(&window->found);
     if (!window->keeps_huge || count == 0) return advice_begin(window->at, window->count);
-    for (size_t page = first; page < end; page += PART) part_of(window, page)->whole = true;
+    for (size_t page = first; page < end; page += PART) part_of(window, page)->is.whole = true;
     int cause = first > 0 ? advice_begin(window->at, first) : 0;
     if (cause == 0 && end < window->count) cause = advice_begin(address_of(window, end), window->count - end);
     return cause;
@@ -35,7 +35,7 @@ void count_parts(struct window *window, bool is_more) {
     struct windows_counts *counts = &window->windows->counts;
     size_t count = 0, whole = 0, huge = 0, first = full_parts(window, &count);
     for (size_t page = first; page < first + count * PART; page += PART) {
-        whole += part_of(window, page)->whole ? 1 : 0;
+        whole += part_of(window, page)->is.whole ? 1 : 0;
         huge += part_of(window, page)->is_huge ? 1 : 0;
     }
     size_t split = window->keeps_huge ? count - whole : 0;
@@ -58,7 +58,7 @@ int window_say_huge(struct window *window, size_t first, size_t count, bool may)
     for (size_t page = first, run = 0; page < first + count; page += run) {
         run = rest_of_part(window, page);
         if (run > first + count - page) run = first + count - page;
-        bool is_said = is_here(window, page) && (!may || (run == PART && part_of(window, page)->whole));
+        bool is_said = is_here(window, page) && (!may || (run == PART && part_of(window, page)->is.whole));
         int refused = is_said ? advice_say(address_of(window, page), run, may ? MADV_HUGEPAGE : MADV_NOHUGEPAGE) : 0;
         if (refused != 0) cause = refused;
     }
@@ -74,7 +74,7 @@ int window_say_huge(struct window *window, size_t first, size_t count, bool may)
 static void set_whole(struct window *window, size_t first, bool is_whole) {
     struct windows_counts *counts = &window->windows->counts;
     counts->mappings -= mappings_of(window, first, PART);
-    part_of(window, first)->whole = is_whole;
+    part_of(window, first)->is.whole = is_whole;
     note_huge(window, first, is_whole);
     counts->mappings += mappings_of(window, first, PART);
     counts->parts_whole += is_whole ? 1 : (size_t)-1;
@@ -90,16 +90,15 @@ static void split(struct window *window, size_t first, bool is_huge) {
     /* (what has left the window is the monitor's) */
     for (size_t page = first, end = 0; page < first + PART && cause == 0; page = end) {
         end = page + alike(window, page, first + PART - page);
-        if (window->pages[page].out == 0) cause = advice_split(address_of(window, page), end - page, is_huge);
+        if (!is_out(&window->pages[page])) cause = advice_split(address_of(window, page), end - page, is_huge);
     }
     if (cause != 0) {
         window->windows->advice_cause = cause;
         return;
     }
     for (size_t page = first; page < first + PART; page++) {
-        if (window->pages[page].seen == 0) continue;
-        note_seen(window, page, false);
-        window->pages[page].asks = 0; /* (so that it is asked about at once) */
+        if (!is_seen(&window->pages[page])) continue;
+        pageshare_window_ask_at_once(&window->pages[page], &part_of(window, page)->counts);
     }
     set_whole(window, first, false);
 }
@@ -143,12 +142,13 @@ static int guard_part(struct window *window, size_t first) {
 /* Notes that all pages of a part have memory of their own, in one mapping. */
 static void note_one_memory(struct window *window, size_t first) {
     bool was_over[PART];
-    for (size_t i = 0; i < PART; i++) was_over[i] = window->pages[first + i].over == 1;
+    for (size_t i = 0; i < PART; i++) was_over[i] = is_over(&window->pages[first + i]);
     note_moved(window, first, PART);
     for (size_t i = 0; i < PART; i++) {
         hear_written(window, first + i);
         note_zero(window, first + i, false);
         if (!was_over[i]) continue;
+        forget_content(window, first + i); /* (no glance was noted of it) */
         window->windows->counts.taken_home++;
         trace_copy(window->windows->trace, window->base + (uint32_t)(first + i), address_of(window, first + i));
     }
@@ -189,7 +189,7 @@ static struct pageshare_window_part_look found_of(const struct window *window, s
     const struct windows *windows = window->windows;
     bool may_be_huge = window->keeps_huge && windows->pagemap.scans && first + PART <= window->ready;
     return (struct pageshare_window_part_look){.own = (uint32_t)own,
-                                               .shareable = part_of(window, first)->shareable,
+                                               .shareable = part_of(window, first)->counts.shareable,
                                                .is_huge = is_huge,
                                                .may_be_huge = may_be_huge,
                                                .may_lend = can_lend(window),
@@ -204,11 +204,10 @@ static void find_facts(const struct window *window, size_t first, struct pagesha
     const struct windows *windows = window->windows;
     look->has_mappings = pageshare_window_has_mappings(windows->mappings_most, windows->counts.mappings, PART);
     look->is_loose = may_give_up(window, first, PART);
-    for (size_t page = first; page < first + PART; page++) {
-        const struct pageshare_window_bars bars = bars_of(window, page);
-        if (is_barred(&bars)) look->is_movable = false;
+    for (size_t page = first; page < first + PART && look->is_movable; page++) {
+        const struct pageshare_window_facts facts = facts_of(window, page);
+        look->is_movable = pageshare_window_is_movable(&window->pages[page], &facts);
     }
-    look->is_movable = look->is_movable && look->is_loose;
 }
 
 /* The numbers by which parts change. */
@@ -225,28 +224,27 @@ static enum pageshare_window_part_order next_of_part(struct window *window, size
     struct part *part = part_of(window, first);
     const struct pageshare_window_part_config config = config_of(windows);
     struct pageshare_window_part_look look = found_of(window, first, own, is_huge);
-    struct pageshare_window_part its = {.whole = part->whole, .pause = part->pause, .alone = part->alone}, wanted = its;
+    struct pageshare_window_part its = part->is, wanted = its;
     unsigned order = pageshare_window_next_of_part(&wanted, &config, &look);
     if (order != PAGESHARE_WINDOW_STAY) {
         find_facts(window, first, &look);
-        if (order == PAGESHARE_WINDOW_SPLIT && !look.has_mappings) note_crowded(windows, part->shareable);
+        if (order == PAGESHARE_WINDOW_SPLIT && !look.has_mappings) note_crowded(windows, part->counts.shareable);
         order = pageshare_window_next_of_part(&its, &config, &look);
     } else {
         its = wanted;
     }
-    bool is_due = part->alone < config.alone && its.alone >= config.alone;
+    bool is_due = part->is.alone < config.alone && its.alone >= config.alone;
     if (is_due && order == PAGESHARE_WINDOW_STAY) windows->counts.not_made_whole++;
-    part->pause = its.pause;
-    part->alone = its.alone;
+    part->is = its;
     return order;
 }
 
 void settle_part(struct window *window, size_t first, size_t own, bool is_huge) {
     struct part *part = part_of(window, first);
-    if (rest_of_part(window, first) < PART || window->ends || (!part->whole && !window->keeps_huge)) return;
+    if (rest_of_part(window, first) < PART || window->ends || (!part->is.whole && !window->keeps_huge)) return;
     enum pageshare_window_part_order order = next_of_part(window, first, own, is_huge);
     if (order == PAGESHARE_WINDOW_STAY) return;
-    part->rest = part->left = 0;
+    pageshare_window_wake(&part->is);
     if (order == PAGESHARE_WINDOW_SPLIT) split(window, first, is_huge);
     else make_whole(window, first);
 }

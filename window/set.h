@@ -16,9 +16,7 @@ enum {
     SCRATCH = 512,       /* pages that were taken out are discarded together, since that interrupts all processors */
     HOME_MOST = 64,      /* pages that are guarded at once while they are copied home */
     STILL = 3,           /* looks with the same fingerprint that make a page idle */
-    ASKS_APART_MOST = 3, /* a page that nobody else has is asked about at each 2^n-th look, n up to this */
-    TOGETHER = 64,       /* pages in a row are asked about in the same looks, so that runs of them get frames in a row */
-    PINS_MOST = UINT16_MAX,
+    ASKS_APART_MOST = 3, /* questions about a page that were in vain are counted up to this number */
     CLUES = 1 << GLANCE_BITS,
     TRANSFERS_MOST = 128 /* transfers under way that are kept by their places */
 };
@@ -27,61 +25,54 @@ enum {
 static const uint32_t ZEROS = WINDOW_NO_FRAME - 1;
 
 /*
- * A page. What is believed of it is written by `believe` alone, which has it from the library.
+ * A page is struct pageshare_window_page: the proved library writes it, and decides by it.
  *
  * A page that has left its window is the caller's alone, unless a frame is mapped at its place still. Then its own copy, which a device
  * may have pinned, stays where it is. Nothing is lent of it any more, but a discard must not uncover the frame.
  */
-struct __attribute__((packed)) page {
-    uint64_t kept; /* its slot and its loan's frame, if it has a slot; otherwise its fingerprint at its last read, if any */
-    uint32_t clue : GLANCE_BITS; /* of the frame at its place (`clue_of`); or the last glance, if `looks` isn't 0 */
-    uint32_t over : 1;           /* a frame is mapped at its place; the page is that frame or a private copy */
-    uint32_t past : 1;           /* the frame is of a lender that is gone */
-    uint32_t out : 1;            /* it has left the window */
-    uint32_t same : 1;    /* nobody has written to it since it was given back as zeros, or the lender of its frame is gone */
-    uint32_t seen : 1;    /* it counts among its part's `shareable` */
-    uint32_t moved : 1;   /* its memory was moved to its place, and so is in no mapping with what is beside it */
-    uint32_t begins : 1;  /* it is the first page of what was moved */
-    uint32_t looks : 2;   /* looks that found it the same, at most STILL. The first only glanced, unless it lies over a frame */
-    uint32_t asks : 2;    /* asked about in vain; or, if it isn't idle, changed again. At most ASKS_APART_MOST */
-    uint32_t belief : 5;  /* enum pageshare_window_belief */
-    uint32_t ordered : 1; /* an order was given, and nothing is known of it yet */
-};
-_Static_assert(sizeof(struct page) == 12, "a page takes 12 bytes of tables");
-_Static_assert(PAGESHARE_WINDOW_PUTTING_BACK < 32, "a belief takes 5 bits");
+typedef struct pageshare_window_page page_entry;
+_Static_assert(sizeof(page_entry) == 12, "a page takes 12 bytes of tables");
+
+static inline unsigned belief_of(const page_entry *page) { return page->belief & PAGESHARE_WINDOW_BELIEF; }
+static inline bool is_over(const page_entry *page) { return (page->belief & PAGESHARE_WINDOW_OVER) != 0; }
+static inline bool is_past(const page_entry *page) { return (page->belief & PAGESHARE_WINDOW_PAST) != 0; }
+static inline bool is_out(const page_entry *page) { return (page->belief & PAGESHARE_WINDOW_OUT) != 0; }
+static inline bool is_ordered(const page_entry *page) { return (page->looks & PAGESHARE_WINDOW_ORDERED) != 0; }
+static inline bool is_same(const page_entry *page) { return (page->looks & PAGESHARE_WINDOW_SAME) != 0; }
+static inline bool is_moved(const page_entry *page) { return (page->looks & PAGESHARE_WINDOW_MOVED) != 0; }
+static inline bool begins_moved(const page_entry *page) { return (page->looks & PAGESHARE_WINDOW_BEGINS) != 0; }
+static inline bool is_seen(const page_entry *page) { return (page->clue & PAGESHARE_WINDOW_SEEN) != 0; }
+static inline unsigned clue_in(const page_entry *page) { return page->clue & PAGESHARE_WINDOW_CLUE; }
+
+static inline unsigned looks_of(const page_entry *page) { return page->looks >> 4 & 3u; }
+static inline unsigned asks_of(const page_entry *page) { return page->looks >> 6; }
+static inline uint64_t kept_of(const page_entry *page) { return (uint64_t)page->frame << 32 | page->slot; }
+/* Whether a page is idle, and was asked about in vain so often that it is asked about again at some looks only. */
+static inline bool is_asked_again(const page_entry *page) { return looks_of(page) == STILL && asks_of(page) == ASKS_APART_MOST; }
+
+/* Whether it may be idle soon. One that changes always isn't young. */
+static inline bool is_young(const page_entry *page) { return looks_of(page) < STILL && asks_of(page) == 0; }
 
 /* Whether a page shows its frame, as far as is known. */
-static inline bool is_lent(const struct page *page) {
-    return page->belief >= PAGESHARE_WINDOW_SHOWN && page->belief <= PAGESHARE_WINDOW_HOMING;
+static inline bool is_lent(const page_entry *page) {
+    return belief_of(page) >= PAGESHARE_WINDOW_SHOWN && belief_of(page) <= PAGESHARE_WINDOW_HOMING;
 }
 /* Whether the host counts a slot for it. */
-static inline bool has_slot(const struct page *page) {
-    return page->belief >= PAGESHARE_WINDOW_LOANED && page->belief <= PAGESHARE_WINDOW_UNRELEASED;
-}
-/* Whether writes to it may wait. */
-static inline bool is_held(const struct page *page) {
-    bool is_loan = page->belief >= PAGESHARE_WINDOW_HELD && page->belief <= PAGESHARE_WINDOW_LETTING_GO;
-    return is_loan || page->belief >= PAGESHARE_WINDOW_HELD_ZEROS;
+static inline bool has_slot(const page_entry *page) {
+    return belief_of(page) >= PAGESHARE_WINDOW_LOANED && belief_of(page) <= PAGESHARE_WINDOW_UNRELEASED;
 }
 /* Whether it shows a frame of a lender that is gone, as far as is known; or was given back as zeros, and has no memory since. */
-static inline bool shows_past(const struct page *page) { return page->over == 1 && page->same == 1; }
-static inline bool is_given_back(const struct page *page) { return page->over == 0 && page->same == 1; }
+static inline bool shows_past(const page_entry *page) { return is_over(page) && is_same(page); }
+static inline bool is_given_back(const page_entry *page) { return !is_over(page) && is_same(page); }
 
 /*
  * PART pages of a window that one huge page could hold; at the ends of a window fewer. A whole part is left to the system's huge pages:
  * nothing of it is lent or given back, so no frame lies under its pages. It is split before pages of it are lent.
  */
 struct part {
-    uint16_t releases;  /* slots that are to be released */
-    uint16_t own;       /* pages that had memory of their own at the last look */
-    uint16_t shareable; /* of a whole part: pages that are zeros or were seen elsewhere */
-    uint8_t rest;       /* idle pages that a look leaves out for each one at which it glances, since nothing changes there; */
-    uint8_t left;       /* and looks until they may be more */
-    uint8_t alone;      /* looks in a row that found nearly all pages of a split part with memory of their own */
-    uint8_t pause;      /* looks at it until it may be split, or become whole, again */
-    bool whole;
-    bool is_huge;  /* it is whole, and was a huge page when it was looked at last */
-    bool is_still; /* nothing at all had changed there when it was looked at last */
+    struct pageshare_window_counts counts; /* of its pages */
+    struct pageshare_window_part is;       /* whole or split, since when, and whether it rests */
+    bool is_huge;                          /* it is whole, and was a huge page when it was looked at last */
 };
 
 struct window {
@@ -91,7 +82,7 @@ struct window {
     size_t count;  /* of pages */
     size_t lead;   /* pages of its first part that lie before it */
     uint32_t base; /* the number of its first page among all windows' */
-    struct page *pages;
+    page_entry *pages;
     struct part *parts;
     uint16_t *pins;      /* of each page; NULL: none was pinned yet */
     struct advice found; /* what was said of the range before it was a window */
@@ -100,12 +91,6 @@ struct window {
     bool keeps_huge; /* the system may back parts of it by huge pages */
     bool ends;       /* nothing is lent of it any more */
     bool ended;      /* the range is the caller's again; only slots are left to release */
-};
-
-/* Memory of which a transfer by O_DIRECT is under way, which may have pinned its pages. */
-struct transfer {
-    bool is_there;
-    const uint8_t *begin, *end;
 };
 
 /* A page that was held and could not be let go. `scratch`: its place in the scratch area, or NOWHERE if it is at its own. */
@@ -133,13 +118,13 @@ struct windows {
     size_t scratch_used;
     struct stuck stuck[PART];
     size_t stuck_count;
-    size_t past; /* pages that show frames of a lender that is gone */
     enum windows_pins pins;
     enum windows_pins (*find_pins)(void *opaque);
     void *find_pins_opaque;
-    struct transfer transfers[TRANSFERS_MOST];
-    size_t transfers_count;     /* how many places have one */
-    size_t transfers_elsewhere; /* transfers under way that have no place there */
+    /* Transfers by O_DIRECT that are under way, which may have pinned the pages of their memory. */
+    struct pageshare_window_transfer transfers[TRANSFERS_MOST];
+    size_t transfers_count;       /* how many places have one */
+    uint64_t transfers_elsewhere; /* those that have no place there */
     size_t mappings_most, locked_kib;
     bool follows_limit;      /* nobody said how many mappings there may be: the system's limit counts, also when it is raised */
     uint64_t locks_after_ns; /* smaps isn't read before this time */
@@ -185,9 +170,15 @@ static inline struct window_result result_of(enum window_status status, int caus
     return (struct window_result){.status = status, .cause = cause};
 }
 
+/* The look under way, as the library takes it. */
+static inline struct pageshare_window_look look_now(const struct windows *windows) {
+    return (struct pageshare_window_look){
+        .look = (uint32_t)windows->counts.looks, .turns = windows->tuning.turns, .rest_most = windows->tuning.rest_most};
+}
+
 /* Whether a page is the window's: no other may be touched. */
 static inline bool is_here(const struct window *window, size_t page) {
-    return window->pages[page].out == 0 || window->pages[page].over == 1;
+    return !is_out(&window->pages[page]) || is_over(&window->pages[page]);
 }
 
 /* Whether anything of a window may be lent. A child of a fork would go on showing frames that are released. With the lock. */
@@ -235,52 +226,34 @@ bool is_one_mapping(const struct window *window, size_t page);
 /* How many mappings begin at these pages, or at the one behind them. */
 size_t mappings_of(const struct window *window, size_t first, size_t count);
 
-/* Notes that a page was given back as zeros, or that it has memory again. No frame lies there. */
-static inline void note_zero(struct window *window, size_t page, bool is_zero) {
-    window->windows->counts.zeros_now += (is_zero ? 1u : 0u) - (size_t)is_given_back(&window->pages[page]);
-    if (window->pages[page].over == 0) window->pages[page].same = is_zero ? 1 : 0;
-}
+/* ---- what the library decides of pages. All with the lock ---- */
 
-/* What is known of a page's content counts no more. */
-void forget_content(struct window *window, size_t page);
-/* Notes whether a page of a whole part could be shared. */
-void note_seen(struct window *window, size_t page, bool is_seen);
-
-/* Notes that a page shows no frame of a lender that is gone. */
-void stop_showing_past(struct window *window, size_t page);
-
-/* ---- what is believed of pages: belief.c. All with the lock ---- */
-
-/* What is believed of a page, and what keeps it from being lent. */
-struct pageshare_window_page believed(const struct page *page);
-struct pageshare_window_bars bars_of(const struct window *window, size_t page);
-struct pageshare_window_bars bars_with(const struct window *window, size_t page, struct pageshare_window_bars why);
-/* Notes what is believed of a page from now on. */
-void believe(struct window *window, size_t page, const struct pageshare_window_page *believed);
-/* Whether something keeps a page from being lent, whatever is believed of it. */
-bool is_barred(const struct pageshare_window_bars *bars);
-/* Whether a page could be lent, or given back, if its part were split. */
-bool is_free(const struct window *window, size_t page);
-/* The next order of a page. What is believed changes with it, and isn't noted yet. */
-enum pageshare_window_order order_of(struct window *window, size_t page, struct pageshare_window_page *believed);
+/* What is so of a page; `why`: what is so besides, from now on. */
+struct pageshare_window_facts facts_of(const struct window *window, size_t page);
+struct pageshare_window_facts facts_with(const struct window *window, size_t page, struct pageshare_window_facts why);
+/* Gives the next order of a page. */
+enum pageshare_window_order order_of(struct window *window, size_t page);
+/* What came of the order of a page that is open. */
+void note_order(struct window *window, size_t page, bool is_done);
 /* Orders a page to be released. Returns false if there is nothing to release. */
 bool order_release(struct window *window, size_t page);
-/* Whether a call of the monitor may go on by each of these pages, after which they must have memory of their own; `why`: what bars them from
- * now on, beside what does so already. */
-bool may_go_on(const struct window *window, size_t first, size_t count, struct pageshare_window_bars why);
+/* Whether a call of the monitor may go on by each of these pages, of which `why` is so from then on, beside what is so already. */
+bool may_go_on(const struct window *window, size_t first, size_t count, struct pageshare_window_facts why);
 /* Whether one may that gives them up: no write to any of them waits. */
 bool may_give_up(const struct window *window, size_t first, size_t count);
-/* What came of the order of a page that is open. */
-void note_done(struct window *window, size_t page);
-void note_refused(struct window *window, size_t page);
-/* A page was written to or got memory of its own, or was given up, by another's call. */
+/* A page was written to, or got memory of its own, by another's call. */
 void hear_written(struct window *window, size_t page);
-void hear_discarded(struct window *window, size_t page);
+/* Pages were given back as zeros, or have memory again. */
+void note_zero(struct window *window, size_t page, bool is_zero);
+/* A page shows no frame of a lender that is gone. */
+void stop_showing_past(struct window *window, size_t page);
+/* What is known of a page's content counts no more. */
+void forget_content(struct window *window, size_t page);
+/* Whether a page of a whole part could be shared. */
+void note_seen(struct window *window, size_t page, bool is_seen);
 /* A slot's number of a lender in 32 bits, and back. */
 uint32_t slot_name(uint64_t slot);
 uint64_t slot_number(uint32_t name);
-/* No slot of the lender counts any more. */
-void forget_loan(struct window *window, size_t page);
 
 /* Makes the scratch area, or makes it anew. Returns 0 or an errno. */
 int make_scratch(struct windows *windows);
@@ -338,7 +311,7 @@ size_t alike(const struct window *window, size_t first, size_t most);
  * where it is, over its frame. `why`: what keeps them from being lent from now on, beside what does so already. With the lock.
  */
 struct window_result take_home(struct window *window, size_t first, size_t count);
-struct window_result take_home_for(struct window *window, size_t first, size_t count, struct pageshare_window_bars why);
+struct window_result take_home_for(struct window *window, size_t first, size_t count, struct pageshare_window_facts why);
 /* Says of pages in the window, but for those over frames, what was said of them before. What the system refuses the next look reports. */
 void end_advice(struct window *window, size_t first, size_t count);
 /* Takes everything home, in parts, since the windows' memory is locked. Takes the lock. */

@@ -11,16 +11,17 @@ void free_window(struct window *window) {
     table_free(window, 1, sizeof *window);
 }
 
-/* The first numbers that no window has, for `count` pages. Returns false if there are none. With the lock. */
-static bool find_numbers(const struct windows *windows, size_t count, uint32_t *base) {
-    uint64_t from = 0;
-    for (const struct window *window = windows->first; window != NULL;) {
-        bool meets = from < (uint64_t)window->base + window->count && window->base < from + count;
-        if (meets) from = (uint64_t)window->base + window->count;
-        window = meets ? windows->first : window->next;
-    }
-    *base = (uint32_t)from;
-    return from + count <= UINT32_MAX;
+/* Gives a new window's pages numbers that no window has. With the lock. */
+static struct window_result find_numbers(const struct windows *windows, struct window *made) {
+    size_t places = 1, count = 0;
+    for (const struct window *window = windows->first; window != NULL; window = window->next) places++;
+    struct pageshare_window_taken *taken = table_make(places, sizeof *taken);
+    if (taken == NULL) return result_of(WINDOW_NO_MEMORY, ENOMEM);
+    for (const struct window *window = windows->first; window != NULL; window = window->next)
+        taken[count++] = (struct pageshare_window_taken){.base = window->base, .count = (uint32_t)window->count};
+    bool are_there = pageshare_window_find_numbers(taken, count, (uint32_t)made->count, &made->base);
+    table_free(taken, places, sizeof *taken);
+    return are_there ? result_of(WINDOW_OK, 0) : result_of(WINDOW_BAD_RANGE, EINVAL);
 }
 
 /* Whether a page of the range is another window's. Pages that have left one may become a new one's. */
@@ -89,8 +90,9 @@ struct window_result window_make(struct window **made, struct windows *windows, 
     if (window == NULL) return result_of(WINDOW_NO_MEMORY, ENOMEM);
     result = prepare(window, &facts, flags);
     lock_set(windows);
-    bool fits = !meets_other(windows, window->at, window->count) && find_numbers(windows, window->count, &window->base);
-    if (result.status == WINDOW_OK && !fits) result = result_of(WINDOW_BAD_RANGE, EINVAL);
+    bool meets = result.status == WINDOW_OK && meets_other(windows, window->at, window->count);
+    if (meets) result = result_of(WINDOW_BAD_RANGE, EINVAL);
+    if (result.status == WINDOW_OK) result = find_numbers(windows, window);
     if (result.status == WINDOW_OK) {
         window->next = windows->first;
         windows->first = window;
@@ -116,7 +118,7 @@ static void set_ends(struct window *window, bool ends) {
 static bool has_frames(struct window *window) {
     bool has = false;
     lock_set(window->windows);
-    for (size_t page = 0; page < window->count && !has; page++) has = window->pages[page].over == 1;
+    for (size_t page = 0; page < window->count && !has; page++) has = is_over(&window->pages[page]);
     unlock_set(window->windows);
     return has;
 }
@@ -137,7 +139,6 @@ struct window_result window_free(struct window *window, enum window_end end) {
     windows->counts.pages -= window->count;
     windows->counts.mappings -= 1 + mappings_of(window, 0, window->count);
     count_parts(window, false);
-    for (size_t page = 0; page < window->count; page++) note_zero(window, page, false);
     end_advice(window, 0, window->count);
     window->ended = window->ends = true; /* (the looking thread may free it from now on) */
     unlock_set(windows);
@@ -147,11 +148,9 @@ struct window_result window_free(struct window *window, enum window_end end) {
 /* Says something of all pages that are the window's. Returns 0 or the first errno. With the lock. */
 static int say_everywhere(struct window *window, int advice) {
     int cause = 0;
-    for (size_t page = 0, end = 0; page < window->count; page = end) {
-        for (end = page + 1; end < window->count && is_here(window, end) == is_here(window, page); end++) {
-        }
-        if (is_here(window, page) && madvise(address_of(window, page), bytes_of(end - page), advice) < 0 && cause == 0)
-            cause = errno;
+    for (size_t page = 0, run = 0; page < window->count; page += run) {
+        run = pageshare_window_here(window->pages + page, window->count - page);
+        if (is_here(window, page) && madvise(address_of(window, page), bytes_of(run), advice) < 0 && cause == 0) cause = errno;
     }
     return cause;
 }
@@ -182,7 +181,7 @@ struct window_result window_advise(struct window *window, int advice) {
 enum window_page window_page_is(struct window *window, size_t page) {
     enum window_page is = WINDOW_PAGE_OUT;
     lock_set(window->windows);
-    if (page < window->count && window->pages[page].out == 0)
+    if (page < window->count && !is_out(&window->pages[page]))
         is = is_lent(&window->pages[page]) || shows_past(&window->pages[page]) ? WINDOW_PAGE_LENT
              : is_given_back(&window->pages[page])                             ? WINDOW_PAGE_ZERO
                                                                                : WINDOW_PAGE_PRIVATE;

@@ -170,19 +170,15 @@ struct window_result windows_attach(struct windows *windows, const struct window
 
 /* No slot of the window counts any more; what it shows is of the past. */
 static void detach_window(struct window *window) {
-    struct windows *windows = window->windows;
-    for (size_t i = 0; i < window->count; i++) {
-        struct page *page = &window->pages[i];
-        bool shows = is_lent(page) || shows_past(page);
-        if (is_lent(page)) windows->past++;
-        forget_loan(window, i);
-        forget_content(window, i);
-        if (page->over == 0) continue;
-        page->past = 1;
-        page->same = shows ? 1 : 0;
+    size_t *mappings = &window->windows->counts.mappings;
+    const bool is_counted = !window->ended; /* (those of a window that has ended aren't) */
+    *mappings -= is_counted ? mappings_of(window, 0, window->count) : 0;
+    for (size_t i = 0; i < window->count; i++) pageshare_window_detach(&window->pages[i], &part_of(window, i)->counts);
+    *mappings += is_counted ? mappings_of(window, 0, window->count) : 0;
+    for (size_t i = 0; i < parts_in(window); i++) {
+        struct part *part = &window->parts[i];
+        *part = (struct part){.counts = part->counts, .is.whole = part->is.whole, .is_huge = part->is_huge};
     }
-    for (size_t i = 0; i < parts_in(window); i++)
-        window->parts[i] = (struct part){.whole = window->parts[i].whole, .is_huge = window->parts[i].is_huge};
 }
 
 void windows_detach(struct windows *windows) {
@@ -200,9 +196,8 @@ int windows_each_slot(struct windows *windows, int (*each)(void *opaque, uint32_
     lock_for_look(windows);
     for (struct window *window = windows->first; window != NULL && stopped == 0; window = window->next)
         for (size_t i = 0; i < window->count && stopped == 0; i++) {
-            const struct page *page = &window->pages[i];
-            if (!has_slot(page)) continue;
-            stopped = each(opaque, window->base + (uint32_t)i, slot_number(believed(page).slot), is_lent(page));
+            const page_entry *page = &window->pages[i];
+            if (has_slot(page)) stopped = each(opaque, window->base + (uint32_t)i, slot_number(page->slot), is_lent(page));
         }
     unlock_set(windows);
     return stopped;
@@ -221,27 +216,19 @@ void windows_set_pins(struct windows *windows, enum windows_pins pins) {
 }
 
 size_t windows_transfer_begin(struct windows *windows, const void *at, size_t bytes) {
-    size_t place = 0;
+    const uint64_t begin = (uintptr_t)at;
     lock_set(windows);
-    while (place < TRANSFERS_MOST && windows->transfers[place].is_there) place++;
-    if (place < TRANSFERS_MOST) {
-        windows->transfers[place] = (struct transfer){.is_there = true, .begin = at, .end = (const uint8_t *)at + bytes};
-        windows->transfers_count++;
-    } else {
-        windows->transfers_elsewhere++;
-    }
+    size_t place =
+        pageshare_window_begin_transfer(windows->transfers, TRANSFERS_MOST, &windows->transfers_elsewhere, begin, begin + bytes);
+    if (place < TRANSFERS_MOST) windows->transfers_count++;
     unlock_set(windows);
     return place;
 }
 
 void windows_transfer_end(struct windows *windows, size_t transfer) {
     lock_set(windows);
-    if (transfer < TRANSFERS_MOST) {
-        windows->transfers[transfer].is_there = false;
-        windows->transfers_count--;
-    } else {
-        windows->transfers_elsewhere--;
-    }
+    pageshare_window_end_transfer(windows->transfers, TRANSFERS_MOST, &windows->transfers_elsewhere, transfer);
+    if (transfer < TRANSFERS_MOST) windows->transfers_count--;
     unlock_set(windows);
 }
 
@@ -266,6 +253,10 @@ void windows_count(struct windows *windows, struct windows_counts *counts) {
     counts->table_bytes = sizeof *windows;
     for (const struct window *window = windows->first; window != NULL; window = window->next) {
         size_t parts = parts_in(window);
+        for (size_t i = 0; i < parts && !window->ended; i++) {
+            counts->lent += window->parts[i].counts.lent;
+            counts->zeros_now += window->parts[i].counts.zeros;
+        }
         counts->table_bytes += sizeof *window + window->count * sizeof window->pages[0] + parts * sizeof window->parts[0];
         if (window->pins != NULL) counts->table_bytes += window->count * sizeof window->pins[0];
     }

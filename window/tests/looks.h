@@ -5,21 +5,42 @@
 #include "../set.h"
 #include "check.h"
 
-/* Between looks nothing is ordered, and nothing is believed of a page that only a step of one may believe. */
+/* Whether this may be believed of a page between looks: nothing that only a step of a look may believe. */
+static inline bool lasts(const page_entry *page) {
+    unsigned belief = belief_of(page);
+    bool is_loan = belief == PAGESHARE_WINDOW_LOANED || belief == PAGESHARE_WINDOW_SHOWN || belief == PAGESHARE_WINDOW_LEAVING;
+    bool is_stuck = belief == PAGESHARE_WINDOW_LETTING_GO || belief == PAGESHARE_WINDOW_PUTTING_BACK;
+    return !is_ordered(page) && (belief == PAGESHARE_WINDOW_PRIVATE || is_loan || is_stuck);
+}
+
+/* Whether the counts of a part are those of its pages. */
+static inline bool are_counted(const struct window *window, size_t first) {
+    const struct pageshare_window_counts *counts = &part_of(window, first)->counts;
+    unsigned releases = 0, lent = 0, zeros = 0, past = 0, shareable = 0;
+    for (size_t page = first; page < first + rest_of_part(window, first); page++) {
+        const page_entry *its = &window->pages[page];
+        releases += has_slot(its) && !is_lent(its) ? 1 : 0;
+        lent += is_lent(its) ? 1 : 0;
+        zeros += is_given_back(its) ? 1 : 0;
+        past += shows_past(its) ? 1 : 0;
+        shareable += is_seen(its) ? 1 : 0;
+    }
+    bool are_slots = counts->releases == releases && counts->lent == lent;
+    return are_slots && counts->zeros == zeros && counts->past == past && counts->shareable == shareable;
+}
+
+/* Between looks nothing is ordered, nothing is half done, and all is counted. */
 static inline void check_between_looks(struct windows *windows) {
-    bool are_so = true;
+    bool are_so = true, is_counted = true;
     pthread_mutex_lock(&windows->lock);
     for (const struct window *window = windows->first; window != NULL; window = window->next) {
-        for (size_t page = 0; page < window->count; page++) {
-            unsigned belief = window->pages[page].belief;
-            bool lasts = belief == PAGESHARE_WINDOW_PRIVATE || belief == PAGESHARE_WINDOW_LOANED ||
-                         belief == PAGESHARE_WINDOW_SHOWN || belief == PAGESHARE_WINDOW_LEAVING ||
-                         belief == PAGESHARE_WINDOW_LETTING_GO || belief == PAGESHARE_WINDOW_PUTTING_BACK;
-            are_so = are_so && lasts && window->pages[page].ordered == 0;
-        }
+        for (size_t page = 0; page < window->count; page++) are_so = are_so && lasts(&window->pages[page]);
+        for (size_t page = 0; page < window->count; page += rest_of_part(window, page))
+            is_counted = is_counted && are_counted(window, page);
     }
     pthread_mutex_unlock(&windows->lock);
     check(are_so, "no step of a look is left half done");
+    check(is_counted, "the counts of each part are those of its pages");
 }
 
 static inline struct window_result look(struct windows *windows) {

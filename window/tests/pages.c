@@ -630,44 +630,49 @@ static void samples(void) {
     munmap(at, MANY * PAGE);
 }
 
-/* Whether the library has a slot released, or asks after one, before a page of this belief is private. */
-static bool releases(struct pageshare_window_page page) {
-    const struct pageshare_window_bars bars = {.ended = true};
-    for (;;) {
-        switch (pageshare_window_next(&page, &bars)) {
-        case PAGESHARE_WINDOW_WAIT: return false;
-        case PAGESHARE_WINDOW_RELEASE:
-        case PAGESHARE_WINDOW_FIND_SLOT: return true;
-        case PAGESHARE_WINDOW_FIND_LOAN: pageshare_window_refused(&page); break;
-        default: pageshare_window_done(&page);
-        }
+/* Whether a slot of a page of which this is believed is to be released, or would be once lending has ended. */
+static bool releases(page_entry page) {
+    const struct pageshare_window_facts facts = {.ended = true};
+    struct pageshare_window_counts part = {.releases = 1, .lent = 1};
+    for (int i = 0; i < 4; i++) {
+        unsigned order = pageshare_window_next(&page, &part, &facts);
+        if (order == PAGESHARE_WINDOW_RELEASE || order == PAGESHARE_WINDOW_FIND_SLOT) return true;
+        if (order == PAGESHARE_WINDOW_WAIT) return false;
+        if (!pageshare_window_done(&page, &part)) pageshare_window_refused(&page, &part);
+    }
+    return false;
+}
+
+/* What C reads in a page's bytes is what the library says: which pages show a frame, have a slot, or are held. */
+static void beliefs(void) {
+    const struct pageshare_window_facts called = {.called = true}, leaves = {.leaves = true};
+    for (uint8_t belief = 0; belief <= PAGESHARE_WINDOW_PUTTING_BACK; belief++) {
+        const page_entry page = {.slot = 5, .frame = 7, .belief = belief};
+        bool waits = !pageshare_window_may_go_on(&page, &called);
+        check(belief_of(&page) == belief && !is_over(&page) && !is_ordered(&page), "a belief is read as it is");
+        check((waits || is_lent(&page)) == !pageshare_window_may_go_on(&page, &leaves), "a page is lent where it shows a frame");
+        check(has_slot(&page) == releases(page), "a page has a slot where one is to be released");
     }
 }
 
-/* Which pages are held, show a frame and have a slot is what the library says; and what is believed of a page is kept as it is. */
-static void beliefs(void) {
-    const struct pageshare_window_bars called = {.called = true}, left = {.left = true};
-    const struct pageshare_window_page none = {.belief = PAGESHARE_WINDOW_PRIVATE};
-    struct fixture fixture = fixture_make(&never_pinned, PAGES);
-    uint8_t *at = memory(PAGES);
-    struct window *window = window_over(&fixture, at, PAGES);
-    for (uint8_t belief = 0; belief <= PAGESHARE_WINDOW_PUTTING_BACK; belief++) {
-        const struct pageshare_window_page its = {.slot = 5, .frame = 7, .belief = belief, .ordered = belief % 2 == 0};
-        const struct page *page = &window->pages[0];
-        believe(window, 0, &its);
-        struct pageshare_window_page kept = believed(page);
-        check(kept.belief == belief && kept.ordered == its.ordered, "a belief is kept as it is");
-        check(kept.slot == (has_slot(page) ? 5 : 0) && kept.frame == (has_slot(page) ? 7 : 0), "a slot is kept with its frame");
-        kept.ordered = false;
-        check(is_held(page) == !pageshare_window_may_go_on(&kept, &called), "a page is held where writes to it may wait");
-        check((is_held(page) || is_lent(page)) == !pageshare_window_may_go_on(&kept, &left),
-              "a page is lent where it shows a frame");
-        check(has_slot(page) == releases(kept), "a page has a slot where one is to be released");
-    }
-    believe(window, 0, &none);
-    must(window_free(window, WINDOW_DROP), "window_free");
-    fixture_free(&fixture);
-    munmap(at, PAGES * PAGE);
+/* What C reads of a page's place is what was noted of it. */
+static void places(void) {
+    page_entry page = {.belief = PAGESHARE_WINDOW_PRIVATE};
+    struct pageshare_window_counts part = {0};
+    pageshare_window_cover(&page, &part, 321);
+    check(is_over(&page) && clue_in(&page) == 321 && !is_past(&page) && !shows_past(&page), "a frame lies under a page");
+    pageshare_window_uncover(&page, &part, true, false);
+    check(!is_over(&page) && is_moved(&page) && !begins_moved(&page) && clue_in(&page) == 0, "its memory was moved there");
+    pageshare_window_begin_moved(&page);
+    check(begins_moved(&page), "it begins what was moved");
+    pageshare_window_give_back(&page, &part, true);
+    check(is_given_back(&page) && part.zeros == 1, "it was given back");
+    pageshare_window_see(&page, &part, true);
+    check(is_seen(&page) && part.shareable == 1, "it was seen");
+    pageshare_window_give_up(&page, &part);
+    check(!is_given_back(&page) && !is_seen(&page) && part.zeros == 0 && part.shareable == 0, "it was given up");
+    pageshare_window_leave(&page, &part);
+    check(is_out(&page) && !is_over(&page), "it has left");
 }
 
 /* Frames in a row have clues in a row. Those at about the same place of two machines have not. */
@@ -681,6 +686,25 @@ static void clues(void) {
     }
     check(in_a_row >= FRAMES - 2 * FRAMES / CLUES, "frames in a row have clues in a row");
     check(apart == 0, "frames of two machines are in no row");
+}
+
+static bool is_apart(const void *at) { return (uintptr_t)at >> 44 == 2; }
+
+/* Memory for windows themselves is apart from what the system chooses, also when each place there was used once. */
+static void apart(void) {
+    enum { TIMES = 150, KEPT = 6, KIND = MAP_PRIVATE | MAP_ANONYMOUS | MAP_NORESERVE };
+    const size_t much = (size_t)1 << 38;
+    uint8_t *kept[KEPT];
+    bool are_apart = true;
+    for (int i = 0, each = 0; i < TIMES; i++) {
+        if (i % (TIMES / KEPT) == 0) kept[each++] = map_apart(PAGE, PROT_READ | PROT_WRITE, KIND, NO_FILE);
+        void *at = map_apart(much, PROT_NONE, KIND, NO_FILE);
+        check(at != MAP_FAILED, "much is mapped");
+        are_apart = are_apart && is_apart(at) && is_apart(kept[each - 1]);
+        munmap(at, much);
+    }
+    check(are_apart, "all of it is apart");
+    for (size_t i = 0; i < KEPT; i++) munmap(kept[i], PAGE);
 }
 
 int main(void) {
@@ -697,7 +721,9 @@ int main(void) {
     ends();
     mappings();
     beliefs();
+    places();
     clues();
+    apart();
     second_userfaultfd();
     marks(false);
     marks(true);
