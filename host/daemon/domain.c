@@ -156,14 +156,17 @@ static int until_tick_ms(const struct domain *domain) {
     return now < domain->next_tick_ns ? (int)((domain->next_tick_ns - now) / 1000000) + 1 : 0;
 }
 
+/* Whether slots of processes that have ended are to be released. A lend that waits for the memory of free frames comes first. */
+static bool is_to_release(const struct domain *domain) { return domain->ending > 0 && !domain->is_lend_waiting; }
+
 static void *serve(void *of) {
     struct domain *domain = of;
     struct epoll_event events[EVENTS];
     ask_for_short_slices(); /* all clients wait for this thread */
     for (bool goes_on = true; goes_on && !atomic_load(&domain->must_end);) {
-        int count = epoll_wait(domain->poll, events, EVENTS, domain->ending ? 0 : until_tick_ms(domain));
+        int count = epoll_wait(domain->poll, events, EVENTS, is_to_release(domain) ? 0 : until_tick_ms(domain));
         for (int i = 0; i < count && goes_on; i++) goes_on = handle(domain, (union event_key){.key = events[i].data.u64});
-        if (domain->ending) clients_release_some(domain);
+        if (is_to_release(domain)) clients_release_some(domain);
         if (now_ns() < domain->next_tick_ns) continue;
         domain->next_tick_ns = now_ns() + tick_ns;
         clients_tick(domain);

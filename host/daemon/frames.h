@@ -33,18 +33,20 @@ struct frames {
     pthread_mutex_t lending;
     atomic_bool is_wanted; /* a lend waits for the lock: the thread that gives memory back calls frames_free_again */
     int free_again;        /* an eventfd, which is readable then */
+    int needed;            /* one for that thread: a lend waits until no frame is listed */
 };
 
 #define FRAMES_NONE                                                                                                              \
-    { .file = -1, .file_for_clients = -1, .at = (void *)-1, .lending = PTHREAD_MUTEX_INITIALIZER, .free_again = -1 }
+    { .file = -1, .file_for_clients = -1, .at = (void *)-1, .lending = PTHREAD_MUTEX_INITIALIZER, .free_again = -1, .needed = -1 }
 
 /* Makes a file with memory for `count` frames. Returns false if the system refuses, after it has printed why. */
 bool frames_make(struct frames *frames, uint32_t count);
 void frames_free(struct frames *frames);
 
 /*
- * Before a call of the library that may lend. Returns false if memory is being given back and that takes a while: then the call has
- * to wait until `free_again` is readable.
+ * Before a call of the library that may lend. Returns false if memory is being given back, or is to be: then the call has to wait until
+ * `free_again` is readable. A device of a client may be reading the memory of a frame that became free, so another page's bytes must not be
+ * written to it.
  */
 bool frames_begin_lend(struct frames *frames);
 /* A slot has frame `frame` now. Between frames_begin_lend and frames_end_lend. */

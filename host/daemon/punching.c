@@ -73,16 +73,14 @@ static bool punch_run(struct punching *punching) {
     return true;
 }
 
-/* Gives back runs until a turn's time is over, a lend waits, or nothing is listed any more. */
+/* Gives back runs until a turn's time is over and no lend waits, or nothing is listed any more. */
 static void punch_some(struct punching *punching) {
     struct frames *frames = punching->frames;
     uint64_t begin = now_ns();
-    bool is_lend_waiting = false;
-    while (!is_lend_waiting && atomic_load(&frames->waiting) > 0 && now_ns() - begin < turn_ns) {
+    while (!atomic_load(&punching->must_end) && atomic_load(&frames->waiting) > 0 &&
+           (atomic_load(&frames->is_wanted) || now_ns() - begin < turn_ns))
         if (!punch_run(punching)) punching->next_listed = 0;
-        is_lend_waiting = atomic_load(&frames->is_wanted);
-        frames_free_again(frames);
-    }
+    if (atomic_load(&frames->waiting) == 0) frames_free_again(frames);
 }
 
 /* The first byte from `at` on that has memory; the file's end if none has. */
@@ -126,13 +124,16 @@ static int do_turn(struct punching *punching) {
 
 static void *give_back(void *of) {
     struct punching *punching = of;
-    struct pollfd ends = {.fd = punching->end, .events = POLLIN};
+    struct pollfd ends[] = {{.fd = punching->end, .events = POLLIN}, {.fd = punching->frames->needed, .events = POLLIN}};
+    eventfd_t times;
     int pause_ms = IDLE_MS;
     ask_for_short_slices(); /* a lend may wait for this thread */
     while (!atomic_load(&punching->must_end)) {
         int wait_ms = pause_ms < IDLE_MS ? pause_ms : IDLE_MS;
-        if (poll(&ends, 1, wait_ms) < 0 && errno != EINTR) usleep((useconds_t)wait_ms * 1000);
-        pause_ms -= wait_ms;
+        int count = poll(ends, 2, wait_ms);
+        if (count < 0 && errno != EINTR) usleep((useconds_t)wait_ms * 1000);
+        bool is_needed = count > 0 && ends[1].revents != 0 && eventfd_read(punching->frames->needed, &times) == 0;
+        pause_ms = is_needed ? 0 : pause_ms - wait_ms;
         if (pause_ms == 0) pause_ms = do_turn(punching);
     }
     return NULL;
