@@ -16,25 +16,13 @@
 #include <unistd.h>
 
 enum {
-    PERIOD_MS = 1000, /* between two looks */
-    BUSY_PART = 4,    /* while much is found it is so many times shorter */
-    CALM_PART = 2,    /* while nothing is found it is so many times longer */
-    CALM_LOOKS = 30,  /* looks that find nothing until then */
-    MUCH_PART = 128,  /* a look that finds one in so many pages, and MUCH of them, makes the next one come sooner */
-    MUCH = 256,
-    LEAST_PART = 16,       /* between two looks that last long the thread sleeps for a so many-th of the period */
+    PERIOD_MS = 1000,      /* between the beginnings of two looks, where nothing makes it shorter or longer */
     MANY_MAPPINGS = 65536, /* what is said of mappings is a multiple of this */
-    LITTLE = 4,
-    ASKED_LITTLE = 32, /* where so many pages at most are asked about that weren't asked about before, nothing is found */
-    EAGER_LOOKS = 8,   /* looks that come sooner after there is a new host or a new window */
-    FIRST_NICE = -10,  /* the nice value of the thread, if it may have it */
-    CPU_PERCENT = 2,   /* of one processor, which the thread may use unless its settings or the host say; also for what is new */
+    FIRST_NICE = -10,      /* the nice value of the thread, if it may have it */
+    CPU_PERCENT = 2, /* of one processor, which the thread may use unless its settings or the host say; also for what is new */
     BURST_PERCENT = 25,
-    HUGE_FROM = 64,  /* pages of a huge page that could be shared, until which it stays whole */
-    TURNS_LEAST = 4, /* looks until a page that nobody else has is asked about again, if looks are short; and at most */
-    TURNS_MOST = 512,
+    HUGE_FROM = 64,    /* pages of a huge page that could be shared, until which it stays whole */
     FORGET_LOOKS = 64, /* looks that fail with nothing, after which a failure is printed again */
-    AGAIN_NS = 250,    /* processor time that asking about a page again takes, about */
     REST_MOST = 7,     /* idle pages that a look leaves out for one at which it glances, where nothing changes */
     /* processor time that may be used at the burst's rate. FIRST_NS: for each page of a new window, or beside a new host; FRESH_NS: for
      * one that is new in its window; SHARED_NS: for one that was lent or given back */
@@ -67,11 +55,10 @@ static struct {
     bool is_memory_short;
     struct budget budget;
     struct windows_counts before, at_chores;
-    unsigned period_ms, calm, eager, turns;
-    size_t windows_before;
+    struct pageshare_window_times times;
     unsigned printed;    /* a bit for each status of a look that was printed, so that each is printed once */
     unsigned good_looks; /* in turn, that failed with nothing */
-} my = {.remote = REMOTE_CLOSED, .turns = TURNS_LEAST};
+} my = {.remote = REMOTE_CLOSED};
 
 bool connection_is_wanted(void) {
     const char *path = getenv("PAGESHARE_SOCKET");
@@ -127,7 +114,7 @@ void connection_prepare(void) {
     settings.flags = fork && strcmp(fork, "1") == 0 ? WINDOW_NO_CHILD : 0;
     if (*counts)
         settings.counts = sharing_own((int)syscall(SYS_openat, AT_FDCWD, counts, O_WRONLY | O_CREAT | O_TRUNC | O_CLOEXEC, 0644));
-    my.period_ms = settings.period_ms;
+    pageshare_window_begin_times(&my.times, settings.period_ms);
     counts_file_make();
     end_preload();
 }
@@ -146,7 +133,7 @@ static bool pace(void *unused);
 static struct windows_tuning tuning(void) {
     bool is_split = my.is_memory_short && settings.huge_from <= WINDOWS_HUGE_PAGES;
     return (struct windows_tuning){
-        .huge_from = (uint16_t)(is_split ? 1 : settings.huge_from), .rest_most = REST_MOST, .turns = (uint16_t)my.turns};
+        .huge_from = (uint16_t)(is_split ? 1 : settings.huge_from), .rest_most = REST_MOST, .turns = (uint16_t)my.times.turns};
 }
 
 /* Makes the set of windows, which needs the host's descriptor if the process may make no userfaultfd itself. */
@@ -179,14 +166,14 @@ static bool make_windows(void) {
 /* Pages are lent by this host from now on. Where that can't be it is tried again later, not too often. */
 static void attach(void) {
     struct window_lender lender = remote_lender(&my.remote);
-    if (my.is_attached) windows_detach(my.windows);
+    if (my.is_attached) windows_detach(my.windows), devices_closed(); /* (that closes a descriptor, too) */
     struct window_result result = windows_attach(my.windows, &lender);
     bool was_unattached = my.was_unattached;
     my.is_attached = result.status == WINDOW_OK;
     my.was_unattached = !my.is_attached;
     my.next_try_ns = now_ns() + retry_ns;
     if (my.is_attached) {
-        my.eager = EAGER_LOOKS;
+        pageshare_window_be_eager(&my.times);
         budget_give_credit(&my.budget, FIRST_NS * (uint64_t)my.before.pages);
     } else if (!was_unattached) {
         log_line("the host's frames can't be used: %s (%s); it is tried again each second", window_status_words(result.status),
@@ -219,7 +206,6 @@ static bool connect_host(void) {
         attach();
         return my.is_attached;
     }
-    devices_closed(); /* (with the last connection; a descriptor may have come to the monitor instead, so that there are as many) */
     enum remote_found found = remote_connect(&my.remote, settings.socket);
     if (found == REMOTE_NONE) {
         if (!my.was_reported) report_no_host(errno);
@@ -330,31 +316,17 @@ static bool pace(void *unused) {
     return !is_to_end();
 }
 
-/*
- * How often pages that nobody else has are asked about again. Where a look lasts long for them fewer of them take their turn in it, so that
- * what has just changed is looked at again soon.
- */
-static void choose_turns(const struct windows_counts *now) {
-    uint64_t took_ms = (now_ns() - my.look_begun_ns) / 1000000, all_ns = now->look_ns - my.before.look_ns;
-    uint64_t again_ns = AGAIN_NS * (now->again - my.before.again);
-    if (took_ms > 2 * (uint64_t)settings.period_ms && 8 * again_ns > all_ns && my.turns < TURNS_MOST) my.turns *= 2;
-    else if ((2 * took_ms < settings.period_ms || 32 * again_ns < all_ns) && my.turns > TURNS_LEAST) my.turns /= 2;
-}
-
-/* The time until the next look. */
-static void choose_period(const struct windows_counts *now) {
-    uint64_t found = now->lends - my.before.lends + (now->zeros - my.before.zeros);
-    uint64_t asked = now->asked - my.before.asked, again = now->again - my.before.again;
-    if (now->windows > my.windows_before) my.eager = EAGER_LOOKS;
-    my.windows_before = now->windows;
-    bool is_eager = my.eager > 0 && my.is_attached;
-    my.eager -= is_eager;
-    my.calm = found <= LITTLE && asked <= again + ASKED_LITTLE ? my.calm + 1 : 0;
-    if (is_eager || (found >= MUCH && found >= now->pages / MUCH_PART)) my.period_ms = settings.period_ms / BUSY_PART;
-    else if (my.calm >= CALM_LOOKS)
-        my.period_ms = my.period_ms < settings.period_ms * CALM_PART ? my.period_ms + settings.period_ms / 4 : my.period_ms;
-    else my.period_ms = settings.period_ms;
-    if (my.period_ms == 0) my.period_ms = 1;
+/* Takes what the last look found: the proved library says when the next one begins, and which pages it asks about again. */
+static void note_look(const struct windows_counts *now) {
+    const struct windows_counts *before = &my.before;
+    const struct pageshare_window_finds finds = {.took_ms = (now_ns() - my.look_begun_ns) / 1000000,
+                                                 .spent_ns = now->look_ns - before->look_ns,
+                                                 .found = now->lends - before->lends + (now->zeros - before->zeros),
+                                                 .asked = now->asked - before->asked,
+                                                 .again = now->again - before->again,
+                                                 .pages = now->pages};
+    if (now->windows > before->windows) pageshare_window_be_eager(&my.times);
+    pageshare_window_look_ended(&my.times, &finds, my.is_attached);
     my.before = *now;
 }
 
@@ -391,11 +363,11 @@ static void write_counts(const struct windows_counts *now) {
         (unsigned long long)now->changed, (unsigned long long)now->pinned, (unsigned long long)now->no_frame,
         (unsigned long long)now->no_mapping, (unsigned long long)now->lender_failures, (unsigned long long)now->look_ns,
         (unsigned long long)now->ask_ns, (unsigned long long)now->lend_ns, (unsigned long long)now->map_ns,
-        (unsigned long long)now->hold_most_ns, (unsigned long long)clock_ns(CLOCK_THREAD_CPUTIME_ID), my.period_ms,
+        (unsigned long long)now->hold_most_ns, (unsigned long long)clock_ns(CLOCK_THREAD_CPUTIME_ID), (unsigned)my.times.now_ms,
         (int)ranges_devices(), now->parts_whole, now->parts_split, now->parts_huge, (unsigned long long)now->splits,
         (unsigned long long)now->made_whole, (unsigned long long)now->not_made_whole, (unsigned)tuning().huge_from,
         (unsigned long long)now->reads, (unsigned long long)now->fresh, (unsigned long long)(now->round_ns / 1000000),
-        my.budget.counted.percent, (long long)(my.budget.counted.credit / 1000000), my.is_memory_short, my.turns,
+        my.budget.counted.percent, (long long)(my.budget.counted.credit / 1000000), my.is_memory_short, my.times.turns,
         (double)now->lent / (double)(now->mappings + 1), held);
     bool fits = length > 0 && (size_t)length < sizeof text;
     if (!fits || pwrite(settings.counts, text, (size_t)length, 0) != length || ftruncate(settings.counts, length) != 0) {
@@ -404,13 +376,10 @@ static void write_counts(const struct windows_counts *now) {
     }
 }
 
-/* How long the thread sleeps between two looks. What the last one took is a part of the period. Where nothing is found it sleeps as long as
- * that took, at least. */
-static unsigned until_look_ms(void) {
+/* How long the thread sleeps until the next look. */
+static uint64_t until_look_ms(void) {
     uint64_t took_ms = my.look_begun_ns > 0 ? (now_ns() - my.look_begun_ns) / 1000000 : 0;
-    unsigned least_ms = my.period_ms / LEAST_PART + 1;
-    if (my.calm >= CALM_LOOKS && took_ms > least_ms) least_ms = (unsigned)took_ms;
-    return took_ms + least_ms < my.period_ms ? my.period_ms - (unsigned)took_ms : least_ms;
+    return pageshare_window_pause_ms(&my.times, took_ms);
 }
 
 /* One turn of the thread. */
@@ -419,13 +388,13 @@ static void turn(void) {
     connect_host();
     if (!my.windows) return;
     do_chores(false);
+    if (ranges_have_early()) return;
     my.look_begun_ns = now_ns();
     my.was_connected = my.remote.socket >= 0;
     report_look(windows_look(my.windows));
     windows_count(my.windows, &counts);
     report_crowd(&counts);
-    choose_turns(&counts);
-    choose_period(&counts);
+    note_look(&counts);
     write_counts(&counts);
 }
 
@@ -461,8 +430,8 @@ void *connection_thread(void *unused) {
     ask_for_short_slices();
     set_budget();
     for (;;) {
-        unsigned pause_ms = until_look_ms();
-        struct timespec pause = {.tv_sec = pause_ms / 1000, .tv_nsec = (long)(pause_ms % 1000) * 1000000};
+        uint64_t pause_ms = until_look_ms();
+        struct timespec pause = {.tv_sec = (time_t)(pause_ms / 1000), .tv_nsec = (long)(pause_ms % 1000) * 1000000};
         nanosleep(&pause, NULL);
         turn();
     }

@@ -17,6 +17,8 @@ void *connection_thread(void *unused);
 
 /* The set that windows are made in. */
 void ranges_use(struct windows *set);
+/* Whether transfers by O_DIRECT are under way that began before there was a set: it doesn't know of them. */
+bool ranges_have_early(void);
 void ranges_open(unsigned flags);
 enum devices ranges_devices(void);
 /* Devices that were found to be open. */

@@ -5,7 +5,7 @@
 
 static struct pageshare_window_range ranges[RANGES_MOST];
 static size_t count;
-static atomic_uintptr_t lowest = UINTPTR_MAX, highest; /* all ranges lie between them */
+static atomic_uintptr_t lowest, highest; /* all ranges lie between them; 0: there is none */
 
 static uint64_t number_of(const uint8_t *at) { return (uintptr_t)at / PAGE; }
 
@@ -17,13 +17,10 @@ static uint8_t *address_of(uint64_t number) { return (uint8_t *)(uintptr_t)(numb
 static struct window *window_of(uint64_t window) { return (struct window *)(uintptr_t)window; }
 
 static void set_bounds(void) {
-    uint64_t low = UINTPTR_MAX / PAGE, high = 0;
-    for (size_t i = 0; i < count; i++) {
-        low = ranges[i].begin < low ? ranges[i].begin : low;
-        high = ranges[i].end > high ? ranges[i].end : high;
-    }
-    atomic_store(&lowest, low * PAGE);
-    atomic_store(&highest, high * PAGE);
+    struct pageshare_window_range_bounds bounds;
+    pageshare_window_bounds(ranges, count, &bounds);
+    atomic_store(&lowest, bounds.begin * PAGE);
+    atomic_store(&highest, bounds.end * PAGE);
 }
 
 bool ranges_near(const uint8_t *at, const uint8_t *end) {
@@ -41,19 +38,17 @@ struct piece ranges_next(const uint8_t *at, const uint8_t *end) {
                           .first = (size_t)found.first};
 }
 
-struct piece ranges_at(size_t i) { return ranges_next(address_of(ranges[i].begin), address_of(ranges[i].end)); }
+struct piece ranges_at(size_t i) {
+    return ranges_next(address_of(ranges[i].begin), address_of(ranges[i].end));
+}
 
 size_t ranges_count(void) { return count; }
 
-bool ranges_are_of(const struct window *window) {
-    return pageshare_window_is_part_left(ranges, count, (uintptr_t)window);
-}
+bool ranges_are_of(const struct window *window) { return pageshare_window_is_part_left(ranges, count, (uintptr_t)window); }
 
 bool ranges_are_all(const struct piece *piece) {
-    const size_t place = (size_t)(piece->range - ranges), behind = place + 1;
-    bool has_others = pageshare_window_is_part_left(ranges, place, piece->range->window) ||
-                      pageshare_window_is_part_left(ranges + behind, count - behind, piece->range->window);
-    return !has_others && piece->bytes == (size_t)(piece->range->end - piece->range->begin) * PAGE;
+    const size_t place = (size_t)(piece->range - ranges);
+    return pageshare_window_is_all_left(ranges, count, place, number_of(piece->at), number_of(piece->at + piece->bytes));
 }
 
 bool ranges_add(uint8_t *at, size_t bytes, uint64_t now_ns) {

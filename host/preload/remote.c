@@ -17,8 +17,9 @@ _Static_assert(REMOTE_UNHEARD % WINDOW_BATCH == 0, "slots that may be unheard of
 enum { PATIENCE_SECONDS = 5, DESCRIPTORS = 3, HEAD_BYTES = 8 };
 static const size_t buffer_bytes = (size_t)WINDOW_BATCH * WINDOW_PAGE_BYTES;
 
+/* (a descriptor may come to the monitor in its place, so that there are as many as before) */
 static void shut(int *descriptor) {
-    if (*descriptor >= 0) close(*descriptor);
+    if (*descriptor >= 0) close(*descriptor), devices_closed();
     *descriptor = NOTHING;
 }
 

@@ -350,10 +350,25 @@ static struct iovec around(const struct iovec *buffers, int count) {
     return high == 0 ? (struct iovec){.iov_base = NULL} : (struct iovec){.iov_base = (void *)low, .iov_len = high - low};
 }
 
+/* Transfers under way that began before there were windows, in place of which they have this. Nothing is lent before they have ended. */
+static atomic_size_t early;
+static const size_t EARLY = SIZE_MAX;
+
+bool ranges_have_early(void) { return atomic_load(&early) > 0; }
+
 void sharing_transfers_begin(struct sharing_transfers *transfers, const struct iovec *buffers, int count) {
     struct windows *set = atomic_load(&windows);
     transfers->count = 0;
-    if (inside || !set || !is_owner()) return;
+    if (inside || !is_owner()) return;
+    if (!set) {
+        atomic_fetch_add(&early, 1);
+        set = atomic_load(&windows);
+        if (!set) {
+            transfers->transfers[transfers->count++] = EARLY;
+            return;
+        }
+        atomic_fetch_sub(&early, 1);
+    }
     inside++;
     for (int i = 0; i < count; i++) {
         bool is_last = transfers->count == SHARING_TRANSFERS_MOST - 1;
@@ -366,8 +381,12 @@ void sharing_transfers_begin(struct sharing_transfers *transfers, const struct i
 
 void sharing_transfers_end(const struct sharing_transfers *transfers) {
     struct windows *set = atomic_load(&windows);
+    if (!is_owner()) return; /* (a child after a fork, where the lock inside may be another thread's for ever) */
     inside++;
-    for (size_t i = 0; i < transfers->count; i++) windows_transfer_end(set, transfers->transfers[i]);
+    for (size_t i = 0; i < transfers->count; i++) {
+        if (transfers->transfers[i] == EARLY) atomic_fetch_sub(&early, 1);
+        else windows_transfer_end(set, transfers->transfers[i]);
+    }
     inside--;
 }
 

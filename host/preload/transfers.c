@@ -77,23 +77,59 @@ static struct sharing_transfers begin(int file, void *buffer, size_t bytes) {
     return transfers;
 }
 
-static void end(void *transfers) {
+/*
+ * The transfers of the calls in which this thread is: of one, and of those that handlers of signals make in it. A thread that is cancelled in
+ * a call leaves them here, and its end ends them: else their pages would never be lent again. So does one that leaves a call by a jump, which a
+ * handler may do: a cleanup of the call's own would be left behind, and be called where its frame was once.
+ */
+enum { CALLS_MOST = 4 };
+static _Thread_local struct {
+    size_t count;
+    struct sharing_transfers of[CALLS_MOST];
+} calls __attribute__((tls_model("initial-exec")));
+static pthread_key_t key;
+static bool has_key;
+
+/* Ends what is under way since a place. */
+static void end_since(size_t place) {
+    while (calls.count > place) {
+        struct sharing_transfers transfers = calls.of[calls.count - 1];
+        calls.of[calls.count - 1].count = 0;
+        calls.count--;
+        sharing_transfers_end(&transfers);
+    }
+}
+
+static void end_thread(void *unused) {
+    (void)unused;
+    end_since(0);
+}
+
+__attribute__((constructor)) static void make_key(void) { has_key = pthread_key_create(&key, end_thread) == 0; }
+
+/* Keeps transfers that have begun. Returns their place, or CALLS_MOST if there is none. */
+static size_t keep(const struct sharing_transfers *transfers) {
+    size_t place = calls.count;
+    if (!has_key || place >= CALLS_MOST || pthread_setspecific(key, &calls) != 0) return CALLS_MOST;
+    calls.count = place + 1; /* (a handler may come at any time) */
+    calls.of[place] = *transfers;
+    return place;
+}
+
+static void end(size_t place, const struct sharing_transfers *transfers) {
     int cause = errno;
-    sharing_transfers_end(transfers);
+    if (place < CALLS_MOST) end_since(place);
+    else sharing_transfers_end(transfers);
     errno = cause;
 }
 
-/*
- * Makes a call between the beginning and the end of its transfers. A thread that is cancelled in the call ends them, too: else their pages
- * would never be lent again.
- */
+/* Makes a call between the beginning and the end of its transfers. */
 #define TRANSFER(BEGIN, CALL)                                                                                                    \
-    struct sharing_transfers transfers = BEGIN;                                                                                  \
-    ssize_t status;                                                                                                              \
+    const struct sharing_transfers transfers = BEGIN;                                                                            \
     if (transfers.count == 0) return CALL;                                                                                       \
-    pthread_cleanup_push(end, &transfers);                                                                                       \
-    status = CALL;                                                                                                               \
-    pthread_cleanup_pop(1);                                                                                                      \
+    const size_t place = keep(&transfers);                                                                                       \
+    const ssize_t status = CALL;                                                                                                 \
+    end(place, &transfers);                                                                                                      \
     return status
 
 /* ---- one buffer ---- */
