@@ -7,11 +7,13 @@
 #include "breaker/ring.h"
 #include "offered.h"
 #include <aio.h>
+#include <alloca.h>
 #include <dirent.h>
 #include <errno.h>
 #include <fcntl.h>
 #include <linux/vfio.h>
 #include <pthread.h>
+#include <setjmp.h>
 #include <signal.h>
 #include <stdatomic.h>
 #include <sys/ioctl.h>
@@ -287,6 +289,11 @@ static void *reads_for_ever(void *at) {
     return NULL;
 }
 
+static void *reads_a_page(void *at) {
+    if (read(empty[0], at, PAGE) != PAGE) exit(2);
+    return NULL;
+}
+
 static void *reads_parts_for_ever(void *at) {
     const struct iovec parts[] = {{at, PAGE}, {(uint8_t *)at + 2 * PAGE, PAGE}};
     if (readv(empty[0], parts, 2) != 0) exit(2);
@@ -309,6 +316,55 @@ static void cancelled_reads(void) {
     fill(at, 8, 1);
     check(wait_for_count("lends", lends + 8, 10), "the pages that they read to are lent again");
     check(differing(at, 0, PAGES, 1) == 0, "all is there");
+}
+
+/* A signal's handler leaves such a read by a jump, and later the thread ends. */
+static sigjmp_buf back;
+static void jump(int number) { siglongjmp(back, number); }
+
+static void *ends_after_jump(void *at) {
+    if (sigsetjmp(back, 1) == 0) reads_for_ever(at);
+    memset(alloca(PAGE), 0xa5, PAGE); /* (where the read's frame was is something else by now) */
+    pthread_exit(at);
+}
+
+static void jumped(void) {
+    pthread_t thread;
+    void *status = NULL;
+    uint8_t *at = lent(PAGES);
+    signal(SIGUSR1, jump);
+    if (pipe2(empty, O_CLOEXEC) != 0 || fcntl(empty[0], F_SETFL, O_DIRECT) != 0) exit(2);
+    if (pthread_create(&thread, NULL, ends_after_jump, at) != 0) exit(2);
+    usleep(200000); /* (by now it reads) */
+    pthread_kill(thread, SIGUSR1);
+    check(pthread_join(thread, &status) == 0 && status == at, "the thread ends as it wants to");
+    long lends = library_count("lends");
+    fill(at, 2, 1);
+    check(wait_for_count("lends", lends + 2, 10), "the page that it read to is lent again");
+    check(differing(at, 0, PAGES, 1) == 0, "all is there");
+}
+
+/* A thread that has the lock of stderr calls for memory near a window while a part of the window leaves it, which is said there. */
+static atomic_bool has_stderr;
+static void *leaves_meanwhile(void *at) {
+    while (!atomic_load(&has_stderr)) usleep(1000);
+    check(mprotect(at, HALF * PAGE, PROT_READ | PROT_WRITE) == 0, "mprotect");
+    return NULL;
+}
+
+static void locked_stderr(void) {
+    pthread_t thread;
+    uint8_t *at = lent(PAGES);
+    if (pthread_create(&thread, NULL, leaves_meanwhile, at) != 0) exit(2);
+    flockfile(stderr);
+    atomic_store(&has_stderr, true);
+    usleep(200000); /* (by now it leaves) */
+    alarm(SECONDS / 2);
+    check(madvise(at + HALF * PAGE, PAGE, MADV_DONTNEED) == 0, "a discard");
+    funlockfile(stderr);
+    pthread_join(thread, NULL);
+    alarm(0);
+    check(differing(at, 0, HALF, 1) == 0, "all is there");
 }
 
 /* ---- arrays of buffers, and descriptors ---- */
@@ -711,6 +767,24 @@ static void direct(void) {
     check(is_full_of(at + PAGES * PAGE, PAGE, 'd'), "what was read is there");
 }
 
+/* A thread reads by O_DIRECT since before there were windows: nothing is lent until that has ended. Who runs this stops the host after the
+ * line "stop", and lets it go on after "go", and answers each by a line. */
+static void early_read(void) {
+    pthread_t thread;
+    if (pipe2(empty, O_CLOEXEC) != 0 || fcntl(empty[0], F_SETFL, O_DIRECT) != 0) exit(2);
+    puts("stop"), fflush(stdout), getchar();
+    uint8_t *at = offered(PAGES);
+    if (pthread_create(&thread, NULL, reads_a_page, at) != 0) exit(2);
+    usleep(200000); /* (by now it reads) */
+    puts("go"), fflush(stdout), getchar();
+    check(wait_for_count("windows", 1, SECONDS), "there is a window");
+    sleep(3);
+    check(library_count("lent") == 0, "nothing is lent meanwhile");
+    check(write(empty[1], at, PAGE) == PAGE && pthread_join(thread, NULL) == 0, "what it reads comes");
+    check(wait_for_count("lent", PAGES, SECONDS), "all is lent");
+    check(differing(at, 0, PAGES, 1) == 0, "all is there");
+}
+
 /* ---- locks, mappings, and an end ---- */
 
 /* Pages that had left are locked: the others go on being lent. */
@@ -813,11 +887,13 @@ static void not_opened(void) {
 
 /* ---- guests that start later ---- */
 
+static void number(uint8_t *page, uint64_t number) { memcpy(page + 100, &number, sizeof number); }
+
 /* Pages of which each content, a number, is so many times there. */
 static uint8_t *numbered(size_t pages, size_t times) {
     uint8_t *at = mmap(NULL, pages * PAGE, PROT_READ | PROT_WRITE, MAP_PRIVATE | MAP_ANONYMOUS, -1, 0);
     if (at == MAP_FAILED) perror("mmap"), exit(2);
-    for (size_t i = 0; i < pages; i++) memcpy(at + i * PAGE + 100, &(uint64_t){1000 + i / times}, sizeof(uint64_t));
+    for (size_t i = 0; i < pages; i++) number(at + i * PAGE, 1000 + i / times);
     madvise(at, pages * PAGE, MADV_MERGEABLE);
     madvise(at, pages * PAGE, MADV_DONTFORK);
     return at;
@@ -840,6 +916,45 @@ static void newcomer(void) {
     printf("  %ld of %d pages are lent\n", library_count("lent"), HALF);
 }
 
+/* Other pages get new contents all the time, each of which is there twice, so that frames come into use. */
+static void *renumbers_always(void *of) {
+    uint8_t *at = of;
+    for (uint64_t i = 0; !atomic_load(&over); i++) {
+        number(at + i % (4 * PAGES) * PAGE, 1000000 + i / 2);
+        if (i % 128 == 127) usleep(20000);
+    }
+    return NULL;
+}
+
+/* A pipe has pages of a window, as a device that reads them for a file, when their slots are released: it reads what they contained. */
+static void read_late(void) {
+    enum { TIMES = 40, APART = 4 };
+    pthread_t thread;
+    uint8_t read_there[PAGE];
+    unsigned others = 0;
+    uint8_t *at = numbered(TIMES * APART, 2);
+    check(wait_for_count("lent", TIMES * APART, SECONDS), "all pages are lent");
+    uint8_t *more = numbered(4 * PAGES, 2);
+    if (pthread_create(&thread, NULL, renumbers_always, more) != 0) exit(2);
+    sleep(2);
+    for (size_t i = 0; i < TIMES; i++) {
+        int ends[2];
+        uint8_t *page = at + i * APART * PAGE;
+        const struct iovec its = {page, PAGE};
+        if (pipe2(ends, O_CLOEXEC) != 0 || vmsplice(ends[1], &its, 1, 0) != PAGE) exit(2);
+        check(mprotect(page, 2 * PAGE, PROT_READ | PROT_WRITE) == 0, "mprotect"); /* (both pages that have its frame) */
+        usleep(250000);
+        if (read(ends[0], read_there, PAGE) != PAGE) exit(2);
+        others += memcmp(read_there, page, PAGE) != 0;
+        close(ends[0]);
+        close(ends[1]);
+    }
+    atomic_store(&over, true);
+    pthread_join(thread, NULL);
+    printf("  %ld lends; %u of %d reads found other bytes\n", library_count("lends"), others, TIMES);
+    check(others == 0, "what is read late is what was there");
+}
+
 static const struct way {
     const char *name;
     void (*run)(void);
@@ -856,12 +971,14 @@ static const struct way {
     {"inherited", inherited},
     {"late", noticed_late},
     {"direct", direct},
+    {"early-read", early_read},
     {"locked", locked},
     {"mappings", many_mappings},
     {"ended", ended},
     {"not-opened", not_opened},
     {"pairs", pairs},
     {"newcomer", newcomer},
+    {"read-late", read_late},
     {"refused-hole", refused_hole},
     {"late-hole", late_hole},
     {"limited", limited},
@@ -869,6 +986,8 @@ static const struct way {
     {"interrupted", interrupted},
     {"cancelled", cancelled},
     {"cancelled-reads", cancelled_reads},
+    {"jumped", jumped},
+    {"locked-stderr", locked_stderr},
     {"bad-buffers", bad_buffers},
     {"by-process", by_process},
     {"by-another", by_another},

@@ -78,8 +78,8 @@ def case_parts() -> None:
 
 def case_calls() -> None:
     """Calls of a monitor where the system has no room, within pages, in a signal's handler, of threads that are to end, and odd ones."""
-    run_parts(("limited", "within-pages", "interrupted", "cancelled", "cancelled-reads", "bad-buffers", "by-process", "by-another",
-               "put-over", "late-room", "said-once", "request", "requests"))
+    run_parts(("limited", "within-pages", "interrupted", "cancelled", "cancelled-reads", "jumped", "locked-stderr", "bad-buffers", "by-process",
+               "by-another", "put-over", "late-room", "said-once", "request", "requests"))
     run_parts(("counted",), more={"LD_PRELOAD": f"{compile_shim('count_memory')} {HERE.library}"})
 
 
@@ -99,9 +99,13 @@ def case_malloc() -> None:
     host.stop()
 
 
+# Where a program asks for it the host stands still for a while.
+STANDING: During = {"stop": lambda host: host.signal(signal.SIGSTOP), "go": lambda host: host.signal(signal.SIGCONT)}
+
+
 def case_forks() -> None:
     """Children of forks: those that begin amid other calls, and a range that they are to have while the host stands still."""
-    run_parts(("children", "forked", "inherited"), {"stop": lambda host: host.signal(signal.SIGSTOP), "go": lambda host: host.signal(signal.SIGCONT)})
+    run_parts(("children", "forked", "inherited"), STANDING)
 
 
 def case_pins() -> None:
@@ -110,8 +114,13 @@ def case_pins() -> None:
 
 
 def case_lent_again() -> None:
-    """With files by O_DIRECT pages go on being lent."""
-    run_parts(("direct",))
+    """With files by O_DIRECT pages go on being lent, but not during a read that began before there were windows."""
+    run_parts(("direct", "early-read"), STANDING)
+
+
+def case_read_late() -> None:
+    """A device that reads a lent page is late: it reads what was there, though the frame is lent anew."""
+    run_parts(("read-late",))
 
 
 def case_locks() -> None:

@@ -23,9 +23,11 @@ static unsigned wrong;
         if (!(is_so)) fprintf(stderr, "remote.c:%d: not so: %s\n", __LINE__, #is_so), wrong++;                                   \
     } while (0)
 
-/* (The library marks its descriptors; here nothing needs it.) */
+/* (The library marks its descriptors and counts what it closes; here nothing needs it.) */
 int sharing_own(int descriptor);
 int sharing_own(int descriptor) { return descriptor; }
+void devices_closed(void);
+void devices_closed(void) {}
 
 /* ---- the stand-in for a host ---- */
 
