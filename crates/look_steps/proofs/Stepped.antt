@@ -5,40 +5,40 @@ use Rattle.std.proofs.lemmas.Bool.{ltb-true, ltb-false, leb-true, and_parts}
 use Rattle.look_steps.specs.declared.step.PartReturn.{PartReturn}
 use Rattle.look_steps.specs.declared.step.Step.TheVariants.{Look, Return, Over}
 use Rattle.look_steps.specs.Steps.{Steps, begun, due_part, without_due, step_by, next_by, step_of, stepped, is_added, return_to, looked_then}
-use Rattle.look_steps.specs.Laws.{Move, asks, has_looked, run, looked_at, came_back, looks_in, returns_in, added_in, parts_of, row, all_due, asked_for, EachComesOnce, OverIsAll, NoneIsLost, Due, ReturnsAreDue, AllComeBack}
+use Rattle.look_steps.specs.Laws.{Move, asks, has_looked, run, looked_at, came_back, looks_in, returns_in, added_in, parts_of, numbers_from, all_due, asked_for, EachComesOnce, OverIsAll, NoneIsLost, Due, ReturnsAreDue, AllComeBack}
 
 -- what these moves do to the number of the next part
 record Goes (s : Steps) (ms : List Move) : Type 0 where
   parts : (run s ms).parts ≡ s.parts
   from : s.next_part ≤ (run s ms).next_part
   to : (run s ms).next_part ≤ s.parts
-  looks : looks_in s ms ≡ row s.next_part ((run s ms).next_part - s.next_part)
+  looks : looks_in s ms ≡ numbers_from s.next_part ((run s ms).next_part - s.next_part)
 
-row_more : (first last : ℕ) → first + 1 ≤ last → first ∷ row (first + 1) (last - (first + 1)) ≡ row first (last - first)
-row_more first last h =
+numbers_more : (first last : ℕ) → first + 1 ≤ last → first ∷ numbers_from (first + 1) (last - (first + 1)) ≡ numbers_from first (last - first)
+numbers_more first last h =
     let is : last - first ≡ suc (last - (first + 1)) = omega (arith, h) in
-    sym (ap (λ n. row first n) is)
+    sym (ap (λ n. numbers_from first n) is)
 
 -- the next part comes, or all have come
 part_goes : (s : Steps) (rs : List PartReturn) (ms : List Move) → s.next_part ≤ s.parts →
     ((next : ℕ) → next ≤ s.parts → Goes (record { parts = s.parts; next_part = next; returns = rs }) ms) → (b : Bool) → nat_lt s.next_part s.parts ≡ b →
     (t : Steps) → t ≡ record { parts = s.parts; next_part = cond b (s.next_part + 1) s.next_part; returns = rs } →
     (((run t ms).parts ≡ s.parts) × ((s.next_part ≤ (run t ms).next_part) × ((run t ms).next_part ≤ s.parts))) ×
-    (looked_at (cond b (Look s.next_part) Over) ++ looks_in t ms ≡ row s.next_part ((run t ms).next_part - s.next_part))
+    (looked_at (cond b (Look s.next_part) Over) ++ looks_in t ms ≡ numbers_from s.next_part ((run t ms).next_part - s.next_part))
 part_goes s rs ms h each true e t is =
     let below : s.next_part < s.parts = ltb-true s.next_part s.parts e in
     let g : Goes t ms = subst (λ (t : Steps). Goes t ms) (sym is) (each (s.next_part + 1) (omega (arith, below))) in
     let next : t.next_part ≡ s.next_part + 1 = ap (λ (t : Steps). t.next_part) is in
     let parts : t.parts ≡ s.parts = ap (λ (t : Steps). t.parts) is in (
       (g.parts ∙ parts, (omega (arith, g.from, next), omega (arith, g.to, parts))),
-      ap (λ xs. s.next_part ∷ xs) (g.looks ∙ ap (λ n. row n ((run t ms).next_part - n)) next)
-          ∙ row_more s.next_part (run t ms).next_part (omega (arith, g.from, next)),
+      ap (λ xs. s.next_part ∷ xs) (g.looks ∙ ap (λ n. numbers_from n ((run t ms).next_part - n)) next)
+          ∙ numbers_more s.next_part (run t ms).next_part (omega (arith, g.from, next)),
     )
 part_goes s rs ms h each false e t is =
     let g : Goes t ms = subst (λ (t : Steps). Goes t ms) (sym is) (each s.next_part h) in
     let next : t.next_part ≡ s.next_part = ap (λ (t : Steps). t.next_part) is in
     let parts : t.parts ≡ s.parts = ap (λ (t : Steps). t.parts) is in
-    ((g.parts ∙ parts, (omega (arith, g.from, next), omega (arith, g.to, parts))), g.looks ∙ ap (λ n. row n ((run t ms).next_part - n)) next)
+    ((g.parts ∙ parts, (omega (arith, g.from, next), omega (arith, g.to, parts))), g.looks ∙ ap (λ n. numbers_from n ((run t ms).next_part - n)) next)
 
 -- it is asked what comes next
 step_goes : (s : Steps) (now : ℕ) (ms : List Move) → s.next_part ≤ s.parts → ((t : Steps) → t.next_part ≤ t.parts → Goes t ms) → Goes s (asks now ∷ ms)
@@ -53,7 +53,7 @@ step_goes s now ms h each = pick (due_part s.returns now) refl where
         to = g.to;
         looks =
             ap (λ o. looked_at (step_by o s) ++ looks_in (stepped s now) ms) e ∙ g.looks
-            ∙ ap (λ n. row n ((run (stepped s now) ms).next_part - n)) next;
+            ∙ ap (λ n. numbers_from n ((run (stepped s now) ms).next_part - n)) next;
       }
   pick None e =
       let all =
@@ -70,7 +70,7 @@ step_goes s now ms h each = pick (due_part s.returns now) refl where
 goes : (ms : List Move) (s : Steps) → s.next_part ≤ s.parts → Goes s ms
 goes [] s h =
     let none : s.next_part - s.next_part ≡ 0 = omega arith in
-    record { parts = refl; from = omega arith; to = h; looks = sym (ap (λ n. row s.next_part n) none) }
+    record { parts = refl; from = omega arith; to = h; looks = sym (ap (λ n. numbers_from s.next_part n) none) }
 goes (has_looked part now rests young ∷ ms) s h =
     let g : Goes (looked_then s part now rests young) ms = goes ms (looked_then s part now rests young) h in
     record { parts = g.parts; from = g.from; to = g.to; looks = g.looks }
@@ -80,7 +80,7 @@ pub each_comes_once : EachComesOnce
 each_comes_once parts ms =
     let g : Goes (begun parts) ms = goes ms (begun parts) (omega arith) in
     let all : (run (begun parts) ms).next_part - 0 ≡ (run (begun parts) ms).next_part = omega arith in
-    g.looks ∙ ap (λ n. row 0 n) all
+    g.looks ∙ ap (λ n. numbers_from 0 n) all
 
 over_at : (s : Steps) (now : ℕ) → step_of s now ≡ Over → s.parts ≤ s.next_part
 over_at s now e = pick (due_part s.returns now) (nat_lt s.next_part s.parts) refl e where
@@ -94,7 +94,7 @@ over_is_all parts ms now e =
     let g : Goes (begun parts) ms = goes ms (begun parts) (omega arith) in
     let all : (run (begun parts) ms).parts ≤ (run (begun parts) ms).next_part = over_at (run (begun parts) ms) now e in
     let is : (run (begun parts) ms).next_part ≡ parts = omega (arith, all, g.to, g.parts) in
-    each_comes_once parts ms ∙ ap (λ n. row 0 n) is
+    each_comes_once parts ms ∙ ap (λ n. numbers_from 0 n) is
 
 -- ---- returns ----
 

@@ -55,17 +55,17 @@ parts_of [] = []
 parts_of (r ∷ rs) = r.part ∷ parts_of rs
 
 -- so many numbers in a row from this one on
-abbrev pub row : ℕ → ℕ → List ℕ
-row first zero = []
-row first (suc n) = first ∷ row (first + 1) n
+abbrev pub numbers_from : ℕ → ℕ → List ℕ
+numbers_from first zero = []
+numbers_from first (suc n) = first ∷ numbers_from (first + 1) n
 
 -- Whatever was asked and found: the parts that were looked at are those before the next one, each once and in order.
 abbrev pub EachComesOnce : Type 0
-EachComesOnce = (parts : ℕ) (ms : List Move) → looks_in (begun parts) ms ≡ row 0 (run (begun parts) ms).next_part
+EachComesOnce = (parts : ℕ) (ms : List Move) → looks_in (begun parts) ms ≡ numbers_from 0 (run (begun parts) ms).next_part
 
 -- Once the look is over, these are all.
 abbrev pub OverIsAll : Type 0
-OverIsAll = (parts : ℕ) (ms : List Move) (now : ℕ) → step_of (run (begun parts) ms) now ≡ Over → looks_in (begun parts) ms ≡ row 0 parts
+OverIsAll = (parts : ℕ) (ms : List Move) (now : ℕ) → step_of (run (begun parts) ms) now ≡ Over → looks_in (begun parts) ms ≡ numbers_from 0 parts
 
 -- The parts that the look was to come back to, in order, are those that it came back to and those that it comes back to still.
 abbrev pub NoneIsLost : Type 0
