@@ -16,7 +16,7 @@ ghost use Rattle.page_lender.specs.Decisions.{is_busy, is_movable, may_go_on, mu
 ghost use Rattle.page_lender.specs.Events.{HeardRightly, IsFree, ShowsNone};
 ghost use Rattle.page_lender.specs.declared.order.Notice.TheVariants as Notice;
 ghost use Rattle.page_lender.specs.declared.order.Outcome.TheVariants as Outcome;
-ghost use Rattle.window_lender.specs.Runs.{IsChosen, IsHeard, IsOrdered, is_free, order_due};
+ghost use Rattle.window_lender.specs.Calls.{IsChosen, IsHeard, IsOrdered, is_free, order_due};
 ghost use Rattle.window_lender.specs.Huge.{order_of, part_then};
 ghost use Rattle.window_pages.specs.Runs.{is_here_as, keeps_slot, lies_as, row_of};
 ghost use Rattle.pageshare_window_c.specs.Budgets.{ledger_of, rates};

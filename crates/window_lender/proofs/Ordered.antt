@@ -6,7 +6,7 @@ use Rattle.page_lender.specs.Slots.{NamesOwn}
 use Rattle.page_lender.specs.declared.order.Order.{Order}
 use Rattle.page_lender.specs.declared.order.Order.TheVariants.{Wait}
 use Rattle.page_lender.specs.declared.page.PageLender.{PageLender}
-use Rattle.window_lender.specs.Runs.{IsOrdered}
+use Rattle.window_lender.specs.Calls.{IsOrdered}
 
 pub is_ordered : (order : Order) (x y : PageLender) → (x.ordered ≡ true → (order ≡ Wait) × (y ≡ x)) → (x.ordered ≡ false → y.belief ≡ prepared x.bars x.belief) →
     (x.ordered ≡ false → order ≡ due y.belief) → (x.ordered ≡ false → NamesOwn order y.belief) → (x.ordered ≡ false → y.ordered ≡ is_given order) → y.bars ≡ x.bars →

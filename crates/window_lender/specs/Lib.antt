@@ -1,6 +1,3 @@
-pub mod Events
-pub mod Histories
+pub mod Calls
 pub mod Huge
 pub mod Packing
-pub mod Runs
-pub mod Works

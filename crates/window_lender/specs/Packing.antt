@@ -1,8 +1,6 @@
--- A page's lender in two numbers, a kind and a byte.
-use Rattle.std.specs.Prelude.{ℕ, ◌+◌, ◌*◌, ◌/◌, ◌%◌, ◌==◌, Bool, true, false}
-use Rattle.page_lender.specs.declared.bars.Bars.{Bars}
+-- A belief as a kind and two numbers.
+use Rattle.std.specs.Prelude.{ℕ, true, false}
 use Rattle.page_lender.specs.declared.belief.Belief.{Belief}
-use Rattle.page_lender.specs.declared.page.PageLender.{PageLender}
 use Rattle.window_lender.specs.declared.packed.Kind.{Kind}
 
 -- which belief it is
@@ -82,30 +80,3 @@ belief_in Kind.Zeros slot n = Belief.Zeros
 belief_in Kind.HeldZeros slot n = Belief.HeldZeros
 belief_in Kind.EqualZeros slot n = Belief.EqualZeros
 belief_in Kind.PuttingBack slot n = Belief.PuttingBack
-
-abbrev pub digit : Bool → ℕ
-digit true = 1
-digit false = 0
-
--- whether an order is open, and the bars, as bits of a byte
-abbrev pub flags_of : Bool → Bars → ℕ
-flags_of ordered bars =
-    digit ordered + 2 * digit bars.called + 4 * digit bars.pinned + 8 * digit bars.inherited + 16 * digit bars.locked + 32 * digit bars.left + 64 * digit bars.ended
-
--- one of the facts
-abbrev pub bit : ℕ → ℕ → Bool
-bit flags weight = flags / weight % 2 == 1
-
-abbrev pub bars_in : ℕ → Bars
-bars_in flags = record {
-  called = bit flags 2;
-  pinned = bit flags 4;
-  inherited = bit flags 8;
-  locked = bit flags 16;
-  left = bit flags 32;
-  ended = bit flags 64;
-}
-
--- the lender of a page
-abbrev pub page_in : Kind → ℕ → ℕ → ℕ → PageLender
-page_in kind slot n flags = record { belief = belief_in kind slot n; ordered = bit flags 1; bars = bars_in flags }

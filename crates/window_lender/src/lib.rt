@@ -1,17 +1,13 @@
-//! A lender of many pages of one window: orders for runs of pages, over 12 bytes for each page.
+//! What callers of a page's lender rest on, and when a part of a window is split or made whole: the next order of a page and all that is
+//! said of it in one record, a belief taken apart and put together again, and the policy of parts.
 #![tactic(auto)]
 
 mod huge;
 pub mod laws;
-mod lender;
+mod next;
 mod packed;
-mod pages;
-mod parts;
-mod run;
 mod settle;
 
 pub use huge::{PART_PAGES, Part, PartConfig, PartLook, PartOrder};
-pub use lender::WindowLender;
+pub use next::next_of;
 pub use packed::{Kind, belief_of, frame_of, kind_of, slot_of};
-pub use parts::next_of;
-pub use run::{Loan, Run, Work};

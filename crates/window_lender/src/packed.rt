@@ -1,10 +1,8 @@
-//! A page's lender in 12 bytes.
-ghost use Rattle.std.specs.Prelude.{◌≡◌, ◌<◌, ◌≤◌};
-ghost use Rattle.window_lender.specs.Packing.{kind_of, slot_in, frame_in, belief_in, digit, flags_of, bit, bars_in};
+//! A belief as a kind and two numbers.
+ghost use Rattle.std.specs.Prelude.{◌≡◌};
+ghost use Rattle.window_lender.specs.Packing.{kind_of, slot_in, frame_in, belief_in};
 
-use page_lender::{Bars, Belief, PageLender};
-use std::marker::Model;
-use std::mem::size_of;
+use page_lender::Belief;
 
 /// A belief without its slot and frame.
 #[derive(Clone, Copy, Debug, PartialEq, Eq)]
@@ -29,49 +27,6 @@ pub enum Kind {
     HeldZeros,
     EqualZeros,
     PuttingBack,
-}
-
-// A page's lender: its slot and its frame, or 0, which belief it is, and a bit for each fact of its order and its bars.
-#[derive(Drop)]
-pub(crate) struct PackedPage {
-    slot: u32,
-    frame: u32,
-    kind: Kind,
-    flags: u8,
-}
-
-const _: () = prove!(size_of::<PackedPage>() == 12);
-
-impl Model for PackedPage {
-    ghost use Rattle.page_lender.specs.declared.page.PageLender.{PageLender};
-    ghost use Rattle.window_lender.specs.Packing.{page_in};
-
-    ghost Value = { PageLender };
-
-    ghost view = { λ p. page_in p.kind p.slot p.frame p.flags };
-}
-
-impl PackedPage {
-    pub(crate) fn new(page: PageLender) -> PackedPage
-        ensures { result ≡ page }
-    {
-        PackedPage {
-            slot: slot_of(page.belief),
-            frame: frame_of(page.belief),
-            kind: kind_of(page.belief),
-            flags: flags_of(page.ordered, page.bars),
-        }
-    }
-
-    pub(crate) fn get(&self) -> PageLender
-        ensures { result ≡ self.now }
-    {
-        PageLender {
-            belief: belief_of(self.kind, self.slot, self.frame),
-            ordered: bit(self.flags, 1),
-            bars: bars_of(self.flags),
-        }
-    }
 }
 
 /// Returns which belief it is.
@@ -170,46 +125,5 @@ pub fn belief_of(kind: Kind, slot: u32, frame: u32) -> Belief
         Kind::HeldZeros => Belief::HeldZeros,
         Kind::EqualZeros => Belief::EqualZeros,
         Kind::PuttingBack => Belief::PuttingBack,
-    }
-}
-
-// Returns 1 for true.
-fn digit(fact: bool) -> u8
-    ensures value { result ≡ digit fact }
-    ensures bound { result ≤ 1 }
-{
-    if fact { 1 } else { 0 }
-}
-
-// Returns the facts as bits of a byte.
-fn flags_of(ordered: bool, bars: Bars) -> u8
-    ensures { result ≡ flags_of ordered bars }
-{
-    let low = digit(ordered)
-        + 2 * digit(bars.called)
-        + 4 * digit(bars.pinned)
-        + 8 * digit(bars.inherited);
-    low + 16 * digit(bars.locked) + 32 * digit(bars.left) + 64 * digit(bars.ended)
-}
-
-// Returns one of the facts.
-fn bit(flags: u8, weight: u8) -> bool
-    requires { 0 < weight }
-    ensures { result ≡ bit flags weight }
-{
-    flags / weight % 2 == 1
-}
-
-// Returns the bars.
-fn bars_of(flags: u8) -> Bars
-    ensures { result ≡ bars_in flags }
-{
-    Bars {
-        called: bit(flags, 2),
-        pinned: bit(flags, 4),
-        inherited: bit(flags, 8),
-        locked: bit(flags, 16),
-        left: bit(flags, 32),
-        ended: bit(flags, 64),
     }
 }

@@ -1,5 +1,5 @@
 //! When a part is split, and when it is made whole.
-ghost use Rattle.std.specs.Prelude.{◌≡◌, ◌<◌, ◌≤◌, true};
+ghost use Rattle.std.specs.Prelude.{◌≡◌, ◌<◌, ◌≤◌, true, false};
 ghost use Rattle.window_lender.specs.Huge.{is_worth, is_alone, alone_then, order_of, left_then, part_then, done_then};
 ghost use Rattle.window_lender.specs.declared.huge.PartOrder.TheVariants as PartOrder;
 
@@ -35,7 +35,7 @@ impl Part {
     }
 
     // Returns what is to be done with it.
-    pub(crate) fn order(
+    fn order(
         &self,
         config: &PartConfig,
         look: &PartLook,
@@ -106,7 +106,8 @@ impl Part {
     }
 
     /// Returns what is to be done with the part after a look. `is_loose`: none of its pages is held. `is_movable`: nor does anything keep one
-    /// from being lent.
+    /// from being lent. The part is split only while it is loose, and made whole only while it is movable and no device may have pinned a page
+    /// of it.
     pub fn next(
         &mut self,
         config: &PartConfig,
@@ -115,6 +116,9 @@ impl Part {
         is_movable: bool,
     ) -> PartOrder
         ensures order { result ≡ order_of config.now self.old look.now is_loose is_movable }
+        ensures split { result ≡ PartOrder.Split → is_loose ≡ true }
+        ensures whole { result ≡ PartOrder.MakeWhole → is_movable ≡ true }
+        ensures pins { result ≡ PartOrder.MakeWhole → look.now.may_pin ≡ false }
         ensures part { self.new ≡ part_then config.now self.old look.now result }
     {
         let order = self.order(config, look, is_loose, is_movable);

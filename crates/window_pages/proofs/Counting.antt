@@ -6,8 +6,7 @@ use Rattle.std.proofs.lemmas.List.Sums.{count_by-le-length, sum_by-append, sum_b
 use Rattle.std.proofs.lemmas.List.{length-append}
 use Rattle.std.proofs.lemmas.List.Folds.{sum_by-replicate}
 use Rattle.page_lender.specs.Decisions.{shows}
-use Rattle.window_lender.specs.Packing.{digit}
-use Rattle.window_pages.specs.Bytes.{known_of, notes_of}
+use Rattle.window_pages.specs.Bytes.{digit, known_of, notes_of}
 use Rattle.window_pages.specs.Counted.{count_then, is_to_release}
 use Rattle.window_pages.specs.Known.{is_given_back, shows_past}
 use Rattle.window_pages.specs.Laws.{BeginsCounted, EachIsCounted, NoneIsLost, new_page}

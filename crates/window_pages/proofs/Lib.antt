@@ -1,3 +1,4 @@
+mod Apart
 mod Counting
 mod Lived
 mod Rows

@@ -10,7 +10,7 @@ use Rattle.window_events.specs.declared.page.Page.{Page}
 use Rattle.window_pages.specs.Bytes.{belief_of}
 use Rattle.window_pages.specs.Lives.{Calls, EachLifeIsWell, IsOthers, Life, OneChanges, begins, calls, chooses, events_for, gives_up, hears, orders, others, places, takes}
 use Rattle.window_pages.specs.Laws.{new_page}
-use Rattle.window_lender.proofs.Followed.{apart_keeps, differs, events_apart}
+use Rattle.window_pages.proofs.Apart.{apart_keeps, differs, events_apart}
 use Rattle.page_lender.specs.Decisions.{due}
 use Rattle.window_events.specs.declared.event.Event.{Event}
 use Rattle.std.proofs.lemmas.Bool.{eqb-false, eqb-true}

@@ -3,9 +3,9 @@ use Rattle.std.proofs.Common.{◌≡◌, ◌∙◌, ℕ, ◌+◌, ◌*◌, ◌/�
 use Rattle.std.specs.Prelude.{nat_eq}
 use Rattle.page_lender.specs.declared.belief.Belief.{Belief}
 use Rattle.page_lender.specs.declared.belief.Belief.TheVariants.{Private, Chosen, Copied, Unanswered, Loaned, Held, Equal, LettingGo, Shown, Homing, Leaving, Unreleased, Zeros, HeldZeros, EqualZeros, PuttingBack}
-use Rattle.window_lender.specs.Packing.{kind_of, slot_in, frame_in, belief_in, digit}
+use Rattle.window_lender.specs.Packing.{kind_of, slot_in, frame_in, belief_in}
 use Rattle.window_lender.specs.declared.packed.Kind.{Kind}
-use Rattle.window_pages.specs.Bytes.{belief_byte, belief_of, kind_by, kind_number, known_of, looks_byte}
+use Rattle.window_pages.specs.Bytes.{belief_byte, belief_of, digit, kind_by, kind_number, known_of, looks_byte}
 use Rattle.window_pages.specs.Known.{has_slot}
 use Rattle.window_pages.specs.declared.page.KnownPage.{KnownPage}
 use Rattle.window_pages.specs.declared.page.WindowPage.{WindowPage}

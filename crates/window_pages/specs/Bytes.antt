@@ -1,8 +1,8 @@
 -- What the bytes of a page mean.
-use Rattle.std.specs.Prelude.{ℕ, ◌+◌, ◌*◌, ◌/◌, ◌%◌, ◌^◌, ◌==◌, Bool, if◌then◌else◌}
+use Rattle.std.specs.Prelude.{ℕ, ◌+◌, ◌*◌, ◌/◌, ◌%◌, ◌^◌, ◌==◌, Bool, true, false, if◌then◌else◌}
 use Rattle.page_lender.specs.declared.belief.Belief.{Belief}
 use Rattle.window_lender.specs.declared.packed.Kind.{Kind}
-use Rattle.window_lender.specs.Packing.{belief_in, bit, digit, kind_of}
+use Rattle.window_lender.specs.Packing.{belief_in, kind_of}
 use Rattle.window_pages.specs.declared.page.KnownPage.{KnownPage}
 use Rattle.window_pages.specs.declared.page.PageNotes.{PageNotes}
 use Rattle.window_pages.specs.declared.page.WindowPage.{WindowPage}
@@ -34,6 +34,14 @@ kind_number Kind.PuttingBack = 16
 -- what is believed of a page
 abbrev pub belief_of : WindowPage → Belief
 belief_of page = belief_in (kind_by (page.belief % 32)) page.slot page.frame
+
+abbrev pub digit : Bool → ℕ
+digit true = 1
+digit false = 0
+
+-- one of the facts of a byte
+abbrev pub bit : ℕ → ℕ → Bool
+bit facts weight = facts / weight % 2 == 1
 
 -- what is known of it
 abbrev pub known_of : WindowPage → KnownPage

@@ -1,8 +1,7 @@
 -- Counts of the pages of a part.
 use Rattle.std.specs.Prelude.{ℕ, ◌+◌, ◌-◌, min, Bool, not, ◌&&◌}
 use Rattle.page_lender.specs.Decisions.{shows}
-use Rattle.window_lender.specs.Packing.{digit}
-use Rattle.window_pages.specs.Bytes.{known_of, notes_of}
+use Rattle.window_pages.specs.Bytes.{digit, known_of, notes_of}
 use Rattle.window_pages.specs.Known.{has_slot, is_given_back, shows_past}
 use Rattle.window_pages.specs.declared.counts.PartCounts.{PartCounts}
 use Rattle.window_pages.specs.declared.page.KnownPage.{KnownPage}

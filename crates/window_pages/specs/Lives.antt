@@ -12,7 +12,7 @@ use Rattle.window_events.specs.Played.{played, refused_from}
 use Rattle.window_events.specs.Windows.{Mappings, is_bare, shown_in, step}
 use Rattle.window_events.specs.declared.event.Event.{Event}
 use Rattle.window_events.specs.declared.page.Page.{Page}
-use Rattle.window_lender.specs.Runs.{IsChosen, IsDone, IsHeard, IsOrdered}
+use Rattle.window_lender.specs.Calls.{IsChosen, IsDone, IsHeard, IsOrdered}
 use Rattle.window_pages.specs.Bytes.{belief_of, known_of}
 use Rattle.window_pages.specs.Changed.{Lends, discarded}
 use Rattle.window_pages.specs.Known.{no_bars}

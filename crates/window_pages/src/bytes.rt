@@ -1,7 +1,7 @@
 //! What is known of a page, as bytes.
 ghost use Rattle.std.specs.Prelude.{◌≡◌, ◌+◌, ◌*◌, ◌/◌, ◌%◌, ◌^◌, ◌<◌, ◌≤◌, if◌then◌else◌};
-ghost use Rattle.window_lender.specs.Packing.{bit, digit, frame_in, slot_in};
-ghost use Rattle.window_pages.specs.Bytes.{belief_byte, belief_of, kind_by, kind_number, known_of, looks_byte, nibble, notes_of};
+ghost use Rattle.window_lender.specs.Packing.{frame_in, slot_in};
+ghost use Rattle.window_pages.specs.Bytes.{belief_byte, belief_of, bit, digit, kind_by, kind_number, known_of, looks_byte, nibble, notes_of};
 ghost use Rattle.window_pages.specs.Known.{has_slot, kept_by, stored};
 
 use crate::{KnownPage, PageNotes, WindowPage};

@@ -1,6 +1,6 @@
 //! Counts of the pages of a part.
 ghost use Rattle.std.specs.Prelude.{◌≡◌};
-ghost use Rattle.window_lender.specs.Packing.{digit};
+ghost use Rattle.window_pages.specs.Bytes.{digit};
 ghost use Rattle.window_pages.specs.Counted.{count_then, counts_then, is_to_release};
 ghost use Rattle.window_pages.specs.Known.{is_given_back, shows_past};
 ghost use Rattle.page_lender.specs.Decisions.{shows};

@@ -2,7 +2,7 @@
 ghost use Rattle.std.specs.Prelude.{◌≡◌, ◌&&◌, not, true, false};
 ghost use Rattle.page_lender.specs.Decisions.{due, is_busy, is_movable, is_outcome, may_go_on, must_own};
 ghost use Rattle.page_lender.specs.Events.{IsFree, ShowsNone};
-ghost use Rattle.window_lender.specs.Runs.{IsChosen, IsDone, IsHeard, IsOrdered, is_free};
+ghost use Rattle.window_lender.specs.Calls.{IsChosen, IsDone, IsHeard, IsOrdered, is_free};
 ghost use Rattle.window_pages.specs.Bytes.{known_of, notes_of};
 ghost use Rattle.window_pages.specs.Changed.{Lends, lender_with};
 ghost use Rattle.window_pages.specs.Known.{bars_of, lender_of, no_bars, takes, chosen_as};

@@ -1,7 +1,8 @@
-//! Traces of windows, lenders of one page and of a window beside the protocol of windows, what is known of each page, the budget of
-//! their thread, its looks and when they begin, the mappings that windows take, the ranges that become windows, the pages that a device may hold, and the
-//! numbers of new windows. It is by the public calls of `page_lender`, `window_lender`, `window_pages`, `window_events`, `work_budget`,
-//! `idle_pages`, `look_steps`, `look_times`, `mapping_room`, `offered_ranges`, `page_pins` and `window_numbers`. This crate has only tests.
+//! Traces of windows, the lender of one page and a table of pages beside the protocol of windows, what is known of each page, when parts
+//! are split, the budget of their thread, its looks and when they begin, the mappings that windows take, the ranges that become windows,
+//! the pages that a device may hold, and the numbers of new windows. It is by the public calls of `page_lender`, `window_lender`,
+//! `window_pages`, `window_events`, `work_budget`, `idle_pages`, `look_steps`, `look_times`, `mapping_room`, `offered_ranges`, `page_pins`
+//! and `window_numbers`. This crate has only tests.
 #![tactic(auto)]
 
 #[cfg(test)]

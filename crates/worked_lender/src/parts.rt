@@ -1,12 +1,8 @@
 //! A part of a window is split and made whole, as looks find it.
 use crate::checks::{equal, holds};
-use crate::moves::{is_bare, must, page_of};
 use crate::numbers::Numbers;
-use page_lender::{Bars, Notice};
-use std::alloc::Allocator;
 use std::process::Abort;
-use window_events::{Event, Mappings};
-use window_lender::{Part, PartConfig, PartLook, PartOrder, Run, WindowLender};
+use window_lender::{Part, PartConfig, PartLook, PartOrder};
 
 const CONFIG: PartConfig = PartConfig {
     pause: 3,
@@ -22,22 +18,6 @@ pub struct PartLife {
     since: u32,
     pub splits: u32,
     pub wholes: u32,
-}
-
-impl PartLife {
-    /// A whole part that hasn't changed yet.
-    pub fn new() -> PartLife {
-        PartLife {
-            part: Part {
-                whole: true,
-                pause: 0,
-                alone: 0,
-            },
-            since: 3,
-            splits: 0,
-            wholes: 0,
-        }
-    }
 }
 
 /// Makes what a look finds.
@@ -66,55 +46,65 @@ fn count(rt: &impl Abort, life: &mut PartLife, order: PartOrder) {
     }
 }
 
-/// Gives all pages of a window memory of their own, with what they show. The lender hears of it.
-fn make_whole<A: Allocator, B: Allocator>(
-    rt: &impl Abort,
-    lender: &mut WindowLender<A>,
-    mappings: &mut Mappings<B>,
-    first: u32,
-) {
-    let pages = lender.len();
-    for place in 0..pages {
-        let page = first.wrapping_add(place);
-        let known = page_of(rt, mappings, page);
-        if is_bare(&known) {
-            let shown = mappings.shown(page).expect(rt, "there is a page");
-            must(rt, mappings, Event::Write(page, shown));
+impl PartLife {
+    /// A whole part that hasn't changed yet.
+    pub fn new() -> PartLife {
+        PartLife {
+            part: Part {
+                whole: true,
+                pause: 0,
+                alone: 0,
+            },
+            since: 3,
+            splits: 0,
+            wholes: 0,
         }
     }
-    holds(rt, lender.is_quiet(0, pages));
-    lender.heard(0, pages, Notice::Written);
+
+    /// Looks at the part, and returns what is to be done with it. It is split only while no page of it is held. It is made whole only while
+    /// nothing keeps a page of it from being lent either, and no device may have pinned one.
+    pub fn look(
+        &mut self,
+        rt: &impl Abort,
+        numbers: &mut Numbers,
+        is_loose: bool,
+        is_movable: bool,
+    ) -> PartOrder {
+        let look = some_look(numbers);
+        let order = self.part.next(&CONFIG, &look, is_loose, is_movable);
+        if order == PartOrder::Stay {
+            self.since = self.since.saturating_add(1);
+            return order;
+        }
+        count(rt, self, order);
+        holds(rt, order == PartOrder::MakeWhole || is_loose);
+        holds(
+            rt,
+            order == PartOrder::Split || (is_movable && !look.may_pin),
+        );
+        order
+    }
+
+    /// This was done with the part.
+    pub fn done(&mut self, order: PartOrder) {
+        self.part.done(order);
+    }
 }
 
-/// Looks at a part that has all pages of a window, whose first one is `first`. Where the part is to change, no write to a page waits.
-pub fn look_at<A: Allocator, B: Allocator>(
-    rt: &impl Abort,
-    life: &mut PartLife,
-    numbers: &mut Numbers,
-    lender: &mut WindowLender<A>,
-    mappings: &mut Mappings<B>,
-    first: u32,
-) {
-    let look = some_look(numbers);
-    let pages = lender.len();
-    let order = lender.next_of_part(0, pages, &mut life.part, &CONFIG, &look);
-    if order == PartOrder::Stay {
-        life.since = life.since.saturating_add(1);
-        return;
+#[test]
+fn parts_change_as_chance_has_it(rt: HostRuntime) {
+    let mut numbers = Numbers { state: 1 };
+    let mut life = PartLife::new();
+    for _ in 0..20_000 {
+        let is_loose = numbers.coin();
+        let is_movable = is_loose && numbers.coin();
+        let order = life.look(&rt, &mut numbers, is_loose, is_movable);
+        if numbers.coin() {
+            life.done(order);
+        }
     }
-    count(rt, life, order);
-    holds(rt, order == PartOrder::Split || !look.may_pin);
-    for place in 0..pages {
-        let page = page_of(rt, mappings, first.wrapping_add(place));
-        holds(rt, !page.guarded);
-    }
-    if numbers.coin() {
-        return;
-    }
-    if order == PartOrder::MakeWhole {
-        make_whole(rt, lender, mappings, first);
-    }
-    life.part.done(order);
+    holds(&rt, life.splits > 1_000);
+    holds(&rt, life.wholes > 1_000);
 }
 
 /// What a look finds of a huge page of which 20 pages could be shared.
@@ -128,53 +118,28 @@ const SHAREABLE: PartLook = PartLook {
     may_pin: false,
 };
 
-/// Returns what is to be done with a part of four pages after such a look.
-fn asked<A: Allocator>(lender: &WindowLender<A>, part: &mut Part) -> PartOrder {
-    lender.next_of_part(0, lender.len(), part, &CONFIG, &SHAREABLE)
-}
-
-/// Orders a copy of a page, so that the page is held.
-fn hold<A: Allocator>(rt: &impl Abort, lender: &mut WindowLender<A>) -> Run {
-    holds(rt, lender.len() == 4);
-    holds(rt, lender.choose(2));
-    holds(rt, lender.len() == 4);
-    lender.next(2, 1)
-}
-
-/// Bars all pages by a call of the monitor, or ends that.
-fn bar<A: Allocator>(lender: &mut WindowLender<A>, called: bool) {
-    let bars = Bars {
-        called,
-        pinned: false,
-        inherited: false,
-        locked: false,
-        left: false,
-        ended: false,
-    };
-    let pages = lender.len();
-    lender.bar(0, pages, bars);
+/// Ends the test if something else is to be done with a part after such a look.
+fn asked(rt: &impl Abort, part: &mut Part, pages: (bool, bool), order: PartOrder) {
+    let (is_loose, is_movable) = pages;
+    equal(
+        rt,
+        part.next(&CONFIG, &SHAREABLE, is_loose, is_movable),
+        order,
+    );
 }
 
 #[test]
 fn a_part_is_split_and_made_whole(rt: HostRuntime) {
-    let mut lender = WindowLender::new(rt.alloc(), 0, 4).expect(&rt, "memory");
     let mut part = PartLife::new().part;
-    let run = hold(&rt, &mut lender);
-    equal(&rt, asked(&lender, &mut part), PartOrder::Stay);
-    holds(&rt, lender.is_open(run));
-    lender.withdraw(run);
-    let order = asked(&lender, &mut part);
-    equal(&rt, order, PartOrder::Split);
-    part.done(order);
+    asked(&rt, &mut part, (false, false), PartOrder::Stay);
+    asked(&rt, &mut part, (true, false), PartOrder::Split);
+    part.done(PartOrder::Split);
     for _ in 0..4 {
-        equal(&rt, asked(&lender, &mut part), PartOrder::Stay);
+        asked(&rt, &mut part, (true, true), PartOrder::Stay);
     }
-    bar(&mut lender, true);
-    equal(&rt, asked(&lender, &mut part), PartOrder::Stay);
-    bar(&mut lender, false);
-    let order = asked(&lender, &mut part);
-    equal(&rt, order, PartOrder::MakeWhole);
-    part.done(order);
+    asked(&rt, &mut part, (true, false), PartOrder::Stay);
+    asked(&rt, &mut part, (true, true), PartOrder::MakeWhole);
+    part.done(PartOrder::MakeWhole);
     equal(
         &rt,
         part,

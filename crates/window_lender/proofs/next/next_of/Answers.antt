@@ -1,5 +1,5 @@
 use Rattle.window_lender.proofs.Ordered.{is_ordered}
-use Rattle.window_lender.proofs.parts.next_of.Goals as goal
+use Rattle.window_lender.proofs.next.next_of.Goals as goal
 
 pub returns : goal.returns
 returns c =
