@@ -94,8 +94,8 @@ impl Belief {
         }
     }
 
-    // Whether the page may show a frame itself.
-    pub(crate) fn shows(&self) -> bool
+    /// Returns whether the page may show a frame itself.
+    pub fn shows(&self) -> bool
         ensures { result ≡ shows self.now }
     {
         match *self {

@@ -6,7 +6,6 @@ ghost use Rattle.window_pages.specs.Counted.{counts_then};
 ghost use Rattle.window_pages.specs.Known.{bars_of, clued, forgotten, lender_of, may_be_copy};
 
 use crate::bytes::{CLUES, clue_word, has_slot};
-use crate::counts::shows;
 use crate::{KnownPage, PageNotes, PartCounts, WindowFacts, WindowPage};
 use page_lender::{Bars, Belief, PageLender};
 
@@ -76,7 +75,7 @@ pub(crate) fn change(page: &mut WindowPage, part: &mut PartCounts, known: &Known
 fn forgets_at(old: Belief, new: Belief) -> bool
     ensures { result ≡ forgets_at old new }
 {
-    (shows(old) && !shows(new)) || (has_slot(new) && !has_slot(old))
+    (old.shows() && !new.shows()) || (has_slot(new) && !has_slot(old))
 }
 
 // Makes of a page what its lender knows of it now.
@@ -99,7 +98,7 @@ impl KnownPage {
     fn may_be_copy(&self) -> bool
         ensures { result ≡ may_be_copy self.now }
     {
-        self.over && !shows(self.belief) && !self.shows_past()
+        self.over && !self.belief.shows() && !self.shows_past()
     }
 
     /// Returns what keeps the page from being lent while this is so.

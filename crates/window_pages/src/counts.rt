@@ -7,7 +7,6 @@ ghost use Rattle.page_lender.specs.Decisions.{shows};
 
 use crate::bytes::has_slot;
 use crate::{KnownPage, WindowPage};
-use page_lender::Belief;
 
 /// Counts of the pages of a part of a window.
 #[repr(C)]
@@ -41,36 +40,12 @@ fn count_then(count: u16, before: bool, after: bool) -> u16
         .saturating_add(digit(after))
 }
 
-// Returns whether a page shows its frame, as far as is known.
-pub(crate) fn shows(belief: Belief) -> bool
-    ensures { result ≡ shows belief }
-{
-    match belief {
-        Belief::Private => false,
-        Belief::Chosen => false,
-        Belief::Copied => false,
-        Belief::Unanswered => false,
-        Belief::Loaned(_, _) => false,
-        Belief::Held(_, _) => false,
-        Belief::Equal(_, _) => false,
-        Belief::LettingGo(_) => false,
-        Belief::Shown(_, _) => true,
-        Belief::Homing(_, _, _) => true,
-        Belief::Leaving(_) => false,
-        Belief::Unreleased(_) => false,
-        Belief::Zeros => false,
-        Belief::HeldZeros => false,
-        Belief::EqualZeros => false,
-        Belief::PuttingBack => false,
-    }
-}
-
 impl KnownPage {
     // Returns whether its slot is to be released.
     pub(crate) fn is_to_release(&self) -> bool
         ensures { result ≡ is_to_release self.now }
     {
-        has_slot(self.belief) && !shows(self.belief)
+        has_slot(self.belief) && !self.belief.shows()
     }
 
     // Returns whether it was given back as zeros, and has no memory since.
@@ -97,7 +72,7 @@ impl PartCounts {
         let after = new.known();
         *self = PartCounts {
             releases: count_then(self.releases, before.is_to_release(), after.is_to_release()),
-            lent: count_then(self.lent, shows(before.belief), shows(after.belief)),
+            lent: count_then(self.lent, before.belief.shows(), after.belief.shows()),
             zeros: count_then(self.zeros, before.is_given_back(), after.is_given_back()),
             past: count_then(self.past, before.shows_past(), after.shows_past()),
             shareable: count_then(self.shareable, old.notes().seen, new.notes().seen),

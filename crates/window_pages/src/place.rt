@@ -7,7 +7,6 @@ ghost use Rattle.window_pages.specs.Counted.{counts_then};
 ghost use Rattle.window_pages.specs.Known.{clued, homes_in_place, kept_by, shows_past, stays, stored};
 
 use crate::change::change;
-use crate::counts::shows;
 use crate::lend::hear_of;
 use crate::{KnownPage, PageNotes, PartCounts, WindowFacts, WindowPage};
 use page_lender::{Belief, Notice, PageLender};
@@ -219,7 +218,7 @@ pub fn detach(page: &mut WindowPage, part: &mut PartCounts)
     ensures { Becomes (detached (known_of page.old)) true page.old page.new part.old part.new }
 {
     let known = page.known();
-    let shown = known.over && shows(known.belief);
+    let shown = known.over && known.belief.shows();
     let detached = KnownPage {
         belief: known.left_alone(),
         ordered: false,

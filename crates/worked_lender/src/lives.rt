@@ -149,6 +149,7 @@ fn live<A: Allocator>(rt: &impl Abort, mappings: &mut Mappings<A>, seed: u64, mo
         go_on(rt, &mut life, mappings);
         let page = page_of(rt, mappings, 0);
         holds(rt, is_right(life.lender.belief, &page));
+        holds(rt, life.lender.belief.shows() || !is_bare(&page));
         holds(rt, life.host.agrees(life.lender.belief));
     }
     life
