@@ -1,17 +1,18 @@
 -- Each life of a page keeps what is believed right.
-use Rattle.std.proofs.Common.{◌≡◌, ◌∙◌, ℕ, zero, suc, ◌+◌, ◌<◌, inl, inr, Bool, true, false, List, length, Some, refl, ap, sym, subst, arith}
-use Rattle.std.specs.Prelude.{nat_eq, replicate, slice_get, unwrap_or}
+use Rattle.std.proofs.Common.{◌≡◌, ◌∙◌, ℕ, zero, suc, ◌+◌, ◌<◌, inl, inr, Bool, true, false, ◌&&◌, cond, List, length, Option, Some, None, refl, ap, sym, subst, arith}
+use Rattle.std.specs.Prelude.{nat_eq, option_map, replicate, slice_get, unwrap_or}
 use Rattle.page_lender.specs.Events.{Believes, Fits}
 use Rattle.page_lender.specs.declared.belief.Belief.{Belief}
-use Rattle.page_lender.specs.declared.belief.Belief.TheVariants.{Private}
+use Rattle.page_lender.specs.declared.belief.Belief.TheVariants.{Private, PuttingBack}
 use Rattle.page_lender.proofs.Kept.{kept_by_guest, kept_by_others}
 use Rattle.window_events.specs.Windows.{Mappings, shown_in, step}
 use Rattle.window_events.specs.declared.page.Page.{Page}
 use Rattle.window_pages.specs.Bytes.{belief_of}
-use Rattle.window_pages.specs.Lives.{Calls, EachLifeIsWell, IsOthers, Life, OneChanges, begins, calls, chooses, events_for, gives_up, hears, orders, others, places, takes}
+use Rattle.window_pages.specs.Changed.{left_alone}
+use Rattle.window_pages.specs.Lives.{Calls, EachLifeIsWell, HasNothing, IsOthers, IsRightStill, Life, OneChanges, ShowsOn, WasDetached, begins, calls, chooses, detaches, events_for, gives_up, hears, left_page, orders, others, places, takes}
 use Rattle.window_pages.specs.Laws.{new_page}
 use Rattle.window_pages.proofs.Apart.{apart_keeps, differs, events_apart}
-use Rattle.page_lender.specs.Decisions.{due}
+use Rattle.page_lender.specs.Decisions.{Nothing, account, due, waiting}
 use Rattle.window_events.specs.declared.event.Event.{Event}
 use Rattle.std.proofs.lemmas.Bool.{eqb-false, eqb-true}
 use Rattle.std.proofs.lemmas.List.{length-replicate}
@@ -60,6 +61,7 @@ life_count : (first count : ℕ) (w : Mappings) (pages : List WindowPage) (now :
 life_count first count w pages now begins = length-replicate count new_page
 life_count first count w pages now (calls old new i x y before next l c k) = c.count ∙ life_count first count w old before l
 life_count first count w pages now (others its before e l o) = life_count first count w its before l
+life_count first count w pages now (detaches old new before next l d n) = d.count ∙ life_count first count w old before l
 
 -- a call for one page of a table
 one_changed : (first : ℕ) (old new : List WindowPage) (k : ℕ) (y z : WindowPage) (before next : Mappings) →
@@ -82,6 +84,24 @@ one_changed first old new k y z before next all c m i x e = pick (nat_eq i k) re
       let other : nat_eq (first + k) (first + i) ≡ false = differs (first + k) (first + i) (λ s. apart_of t (omega (arith, s))) in
       call_spares (first + k) (first + i) before y z next (belief_of x) other m (all i x kept)
 
+-- what is believed of a page whose lender is gone
+left_fits : (belief : Belief) (frames : List ℕ) (stands : Bool) (page : Page) → Fits belief page → Fits (left_alone belief) (left_page frames stands page)
+left_fits belief frames stands page f = pick (waiting belief) refl where
+  pick : (b : Bool) → waiting belief ≡ b → Fits (left_alone belief) (left_page frames stands page)
+  pick true e = subst (λ b. Fits (cond b PuttingBack Private) (left_page frames stands page)) (sym e) (record { holds = refl; view = refl; waits = λ h. cc; copy = refl })
+  pick false e = subst (λ b. Fits (cond b PuttingBack Private) (left_page frames stands page)) (sym e) (record { holds = refl; view = refl; waits = λ h. ap (λ g. g && stands) (f.waits e); copy = refl })
+
+left_belief : (i : ℕ) (old : List WindowPage) (y : WindowPage) (d : WasDetached i old y) → belief_of y ≡ left_alone (belief_of d.page)
+left_belief i old y d = ap (λ k. k.belief) d.becomes.known
+
+left_right : (p i : ℕ) (old : List WindowPage) (y : WindowPage) (now next : Mappings) (stands : Bool) (d : WasDetached i old y) →
+    slice_get next.pages p ≡ option_map (left_page now.frames stands) (slice_get now.pages p) → Believes (belief_of d.page) now p → Believes (belief_of y) next p
+left_right p i old y now next stands d n b = subst (λ z. Believes z next p) (sym (left_belief i old y d)) (record {
+  page = left_page now.frames stands b.page;
+  there = n ∙ ap (option_map (left_page now.frames stands)) b.there;
+  fits = left_fits (belief_of d.page) now.frames stands b.page b.fits;
+})
+
 life_right : (first count : ℕ) (w : Mappings) → ((i : ℕ) → i < count → Believes Private w (first + i)) → (pages : List WindowPage) (now : Mappings) → Life first count w pages now →
     (i : ℕ) (x : WindowPage) → slice_get pages i ≡ Some x → Believes (belief_of x) now (first + i)
 life_right first count w b pages now begins i x e =
@@ -92,6 +112,10 @@ life_right first count w b pages now (calls old new k y z before next l c m) i x
 life_right first count w b pages now (others its before event l o) i x e =
     let n : i < count = omega (arith, slice_get_within its i x e, life_count first count w its before l) in
     others_spare (first + i) (belief_of x) before event (o i n) (life_right first count w b its before l i x e)
+life_right first count w b pages now (detaches old new before next l d n) i x e =
+    let its : WasDetached i old x = d.each i x e in
+    let s : i < count = omega (arith, slice_get_within old i its.page its.before, life_count first count w old before l) in
+    left_right (first + i) i old x before next (n.stands i) its (n.pages i s) (life_right first count w b old before l i its.page its.before)
 
 pub each_life_is_well : EachLifeIsWell
 each_life_is_well first count pages w now b l i x e =
@@ -100,3 +124,25 @@ each_life_is_well first count pages w now b l i x e =
       right = right;
       possible = λ new part after outcome was_done page g h t. (h.lender.events now (first + i) was_done (at (first + i) (belief_of x) now page right g) t).possible;
     }
+
+pub shows_on : ShowsOn
+shows_on first count i now next n s = ap (option_map (λ page. shown_in next.frames page.view)) (n.pages i s) ∙ same (slice_get now.pages (first + i)) where
+  same : (o : Option Page) → option_map (λ page. shown_in next.frames page.view) (option_map (left_page now.frames (n.stands i)) o) ≡ option_map (λ page. shown_in now.frames page.view) o
+  same None = refl
+  same (Some page) = refl
+
+pub is_right_still : IsRightStill
+is_right_still frames after stands page r = record {
+  shows = r.shows;
+  holds = λ n e. cc;
+  copy_waits = λ e. cc;
+  frame_waits = λ e. cc;
+  copied = λ x e. cc;
+  lends = λ n e. cc;
+}
+
+pub has_nothing : HasNothing
+has_nothing i old new d = ap account (left_belief i old new d) ∙ pick (waiting (belief_of d.page)) where
+  pick : (b : Bool) → account (cond b PuttingBack Private) ≡ Nothing
+  pick true = refl
+  pick false = refl

@@ -1,6 +1,6 @@
 -- Lives of a page: what came of its orders, what was heard and noted of it, and what others did in between.
-use Rattle.std.specs.Prelude.{◌≡◌, ℕ, ◌+◌, ◌<◌, Bool, true, false, List, length, replicate, Some, None, unwrap_or, slice_get, ◌⊎◌}
-use Rattle.page_lender.specs.Decisions.{due}
+use Rattle.std.specs.Prelude.{◌≡◌, ◌&&◌, ℕ, ◌+◌, ◌<◌, Bool, true, false, List, length, replicate, Some, None, unwrap_or, option_map, slice_get, ◌⊎◌}
+use Rattle.page_lender.specs.Decisions.{Nothing, account, due}
 use Rattle.page_lender.specs.Events.{Believes, HeardRightly, SaysTrue, events_of, is_guests, is_of}
 use Rattle.page_lender.specs.declared.bars.Bars.{Bars}
 use Rattle.page_lender.specs.declared.belief.Belief.{Belief}
@@ -9,12 +9,14 @@ use Rattle.page_lender.specs.declared.order.Notice.{Notice}
 use Rattle.page_lender.specs.declared.order.Order.{Order}
 use Rattle.page_lender.specs.declared.order.Outcome.{Outcome}
 use Rattle.window_events.specs.Played.{played, refused_from}
-use Rattle.window_events.specs.Windows.{Mappings, is_bare, shown_in, step}
+use Rattle.window_events.specs.Whole.{IsRight}
+use Rattle.window_events.specs.Windows.{Mappings, is_bare, shown, shown_in, step}
 use Rattle.window_events.specs.declared.event.Event.{Event}
 use Rattle.window_events.specs.declared.page.Page.{Page}
+use Rattle.window_events.specs.declared.page.View.TheVariants.{Own}
 use Rattle.window_lender.specs.Calls.{IsChosen, IsDone, IsHeard, IsOrdered}
 use Rattle.window_pages.specs.Bytes.{belief_of, known_of}
-use Rattle.window_pages.specs.Changed.{Lends, discarded}
+use Rattle.window_pages.specs.Changed.{Becomes, Lends, detached, discarded}
 use Rattle.window_pages.specs.Known.{no_bars}
 use Rattle.window_pages.specs.Laws.{new_page}
 use Rattle.window_pages.specs.declared.counts.PartCounts.{PartCounts}
@@ -56,16 +58,62 @@ pub record OneChanges (i : ℕ) (x y : WindowPage) (old new : List WindowPage) :
 abbrev pub IsOthers : ℕ → Event → Type 0
 IsOthers p e = (is_guests p e ≡ true) ⊎ (is_of p e ≡ false)
 
+-- A page whose lender is gone, where that lender's frames had these contents. A frame that it shows stays mapped and never changes, so what the
+-- page shows is memory of its own. Writes that waited wait still, if its guard stands. The page holds no frame of the next lender, and nothing of
+-- it is copied.
+abbrev pub left_page : List ℕ → Bool → Page → Page
+left_page frames stands page = record page {
+  view = Own (shown_in frames page.view);
+  guarded = page.guarded && stands;
+  copy = None;
+  copy_fresh = false;
+  held = None;
+  frame_fresh = false;
+}
+
+-- Another lender comes: each page of the table is as the first one left it, and each guard stands still or has gone. The frames are the next
+-- one's, and they and other pages are whatever they are.
+pub record NextLender (first count : ℕ) (now next : Mappings) : Type 0 where
+  pub stands : ℕ → Bool
+  pub pages : (i : ℕ) → i < count → slice_get next.pages (first + i) ≡ option_map (left_page now.frames (stands i)) (slice_get now.pages (first + i))
+
+-- The page at a place became this one, by the contract of `detach`.
+pub record WasDetached (i : ℕ) (old : List WindowPage) (new : WindowPage) : Type 0 where
+  pub page : WindowPage
+  pub before : slice_get old i ≡ Some page
+  pub part : PartCounts
+  pub after : PartCounts
+  pub becomes : Becomes (detached (known_of page)) true page new part after
+
+-- All pages of a table did.
+pub record AllDetached (old new : List WindowPage) : Type 0 where
+  pub count : length new ≡ length old
+  pub each : (i : ℕ) (y : WindowPage) → slice_get new i ≡ Some y → WasDetached i old y
+
 -- A life of a table of so many pages, of which the first has this number, from these mappings on: all bytes are zeros at first. Calls come in any
--- order, for any page, and events of guests and others in between.
+-- order, for any page, and events of guests and others in between. A lender goes, where all pages are detached, and another comes.
 pub data Life (first count : ℕ) (w : Mappings) : List WindowPage → Mappings → Type 0 where
   begins : Life first count w (replicate count new_page) w
   calls : (old new : List WindowPage) (i : ℕ) (x y : WindowPage) (now next : Mappings) → Life first count w old now → OneChanges i x y old new
       → Calls (first + i) now x y next → Life first count w new next
   others : (pages : List WindowPage) (now : Mappings) (e : Event) → Life first count w pages now
       → ((i : ℕ) → i < count → IsOthers (first + i) e) → Life first count w pages (unwrap_or (step now e) now)
+  detaches : (old new : List WindowPage) (now next : Mappings) → Life first count w old now → AllDetached old new → NextLender first count now next
+      → Life first count w new next
 
 abbrev pub EachLifeIsWell : Type 0
 EachLifeIsWell =
     (first count : ℕ) (pages : List WindowPage) (w now : Mappings) → ((i : ℕ) → i < count → Believes Private w (first + i)) →
     Life first count w pages now → (i : ℕ) (x : WindowPage) → slice_get pages i ≡ Some x → IsWell (first + i) x now
+
+-- where the lender goes and another comes, each page shows what it showed
+abbrev pub ShowsOn : Type 0
+ShowsOn = (first count i : ℕ) (now next : Mappings) → NextLender first count now next → i < count → shown next (first + i) ≡ shown now (first + i)
+
+-- what the protocol keeps right of a page is so over the next lender's frames, too: above all that it shows what was written last
+abbrev pub IsRightStill : Type 0
+IsRightStill = (frames next : List ℕ) (stands : Bool) (page : Page) → IsRight frames page → IsRight next (left_page frames stands page)
+
+-- no slot of a page counts any more
+abbrev pub HasNothing : Type 0
+HasNothing = (i : ℕ) (old : List WindowPage) (new : WindowPage) → WasDetached i old new → account (belief_of new) ≡ Nothing

@@ -1,6 +1,6 @@
 //! What counts and facts of pages are worth. The functions' bodies are empty: the contract is all there is.
 ghost use Rattle.std.specs.Prelude.{◌≡◌};
-ghost use Rattle.window_pages.specs.Lives.{EachLifeIsWell};
+ghost use Rattle.window_pages.specs.Lives.{EachLifeIsWell, HasNothing, IsRightStill, ShowsOn};
 ghost use Rattle.window_pages.specs.Laws.{BeginsCounted, CopiesArePinned, CopiesStay, EachIsCounted, GoneIsBarred, NoneIsLost};
 
 /// Of a part of at most 65,535 pages the counts are right at first, where all pages are structs of zeros, and stay right whatever page of it
@@ -27,8 +27,17 @@ pub fn gone_law()
     ensures { GoneIsBarred }
 {}
 
-/// Whatever calls there are for the pages of a table whose bytes are zeros at first, in whatever order, and whatever guests and others do in
-/// between: if what the calls say is so, what is believed of each page is right, and each event of its orders is possible.
+/// Whatever calls there are for the pages of a table whose bytes are zeros at first, in whatever order, whatever guests and others do in
+/// between, and however often the lender goes and another comes: if what the calls say is so, what is believed of each page is right, and
+/// each event of its orders is possible.
 pub fn life_law()
     ensures { EachLifeIsWell }
+{}
+
+/// Where the lender goes, all pages of a table are detached and another lender comes: each page shows what it showed. What was right of it by the
+/// protocol is so over the next lender's frames. And no slot of it counts any more.
+pub fn detach_law()
+    ensures shows { ShowsOn }
+    ensures right { IsRightStill }
+    ensures slots { HasNothing }
 {}

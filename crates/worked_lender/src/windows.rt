@@ -9,13 +9,13 @@ use crate::numbers::Numbers;
 use crate::pages::NEW_PAGE;
 use crate::parts::PartLife;
 use page_lender::{Bars, Notice, Order, Outcome};
-use std::alloc::Allocator;
+use std::alloc::{Allocator, Global};
 use std::process::Abort;
 use window_events::{Event, Mappings};
 use window_lender::PartOrder;
 use window_pages::{
-    PartCounts, WindowFacts, WindowPage, choose, cover, give_back, give_up, hear, is_movable,
-    may_go_on, next, row, take, uncover, withdraw,
+    PartCounts, WindowFacts, WindowPage, choose, cover, detach, give_back, give_up, hear,
+    is_movable, may_go_on, next, row, take, uncover, withdraw,
 };
 
 /// The number of the table's first page. Page 0 has another lender.
@@ -32,6 +32,7 @@ struct Tally {
     rows: u32,
     withdrawn: u32,
     given_back: u32,
+    let_go_late: u32,
 }
 
 /// The table, the counts of its pages, the facts of each, a host's own account of each, and the part that the pages are.
@@ -379,16 +380,62 @@ fn new_table(seed: u64) -> Table {
             rows: 0,
             withdrawn: 0,
             given_back: 0,
+            let_go_late: 0,
         },
     }
 }
 
+/// Returns what each page shows.
+fn contents_of<A: Allocator>(rt: &impl Abort, mappings: &Mappings<A>) -> [u64; 5] {
+    let mut contents = [0u64; 5];
+    for number in 0..5u32 {
+        contents[number as usize] = mappings.shown(number).expect(rt, "there is a page");
+    }
+    contents
+}
+
+/// The lender of a page is gone, and the next one has nothing for it.
+fn detach_one(rt: &impl Abort, table: &mut Table, place: usize) {
+    holds(rt, place < 4);
+    let mut page = table.pages[place];
+    detach(&mut page, &mut table.counts);
+    table.pages[place] = page;
+    table.hosts[place].given = None;
+}
+
+/// The lender goes and another comes, with frames of its own. Each page shows what it showed. Writes that waited wait still, or a guard
+/// has gone.
+fn next_lender(
+    rt: &impl Abort,
+    alloc: Global,
+    table: &mut Table,
+    mappings: &Mappings,
+) -> Mappings {
+    let content = u64::from(table.numbers.next() % 2);
+    let contents = contents_of(rt, mappings);
+    let mut after = Mappings::new(alloc, &contents, &[content, 1, 0]).expect(rt, "memory");
+    for place in 0..4usize {
+        let number = number_of(rt, place);
+        if page_of(rt, mappings, number).guarded && table.numbers.next() % 4 > 0 {
+            must(rt, &mut after, Event::Guard(number));
+            table.tally.let_go_late = table.tally.let_go_late.wrapping_add(1);
+        }
+        detach_one(rt, table, place);
+    }
+    after
+}
+
 /// Makes `moves` moves. After each one, every page's belief is right, and the host agrees.
-fn live<A: Allocator>(rt: &impl Abort, mappings: &mut Mappings<A>, seed: u64, moves: u32) -> Tally {
+fn live(rt: &impl Abort, alloc: Global, seed: u64, moves: u32) -> Tally {
+    let mut mappings = Mappings::new(alloc, &[1, 1, 1, 1, 1], &[0, 1, 1]).expect(rt, "memory");
     let mut table = new_table(seed);
     for _ in 0..moves {
-        go_on(rt, &mut table, mappings);
-        check(rt, &table, mappings);
+        if table.numbers.next() % 256 == 0 {
+            mappings = next_lender(rt, alloc, &mut table, &mappings);
+        } else {
+            go_on(rt, &mut table, &mut mappings);
+        }
+        check(rt, &table, &mappings);
     }
     holds(rt, table.part.splits > 10);
     holds(rt, table.part.wholes > 10);
@@ -399,14 +446,12 @@ fn live<A: Allocator>(rt: &impl Abort, mappings: &mut Mappings<A>, seed: u64, mo
 fn whatever_comes_to_a_window_is_possible(rt: HostRuntime) {
     let mut rows = 0u32;
     for seed in 0..4u64 {
-        let mut mappings = Mappings::new(rt.alloc(), &[1, 1, 1, 1, 1], &[0, 1, 1]).expect(
-            &rt, "memory",
-        );
-        let tally = live(&rt, &mut mappings, seed, 50_000);
+        let tally = live(&rt, rt.alloc(), seed, 50_000);
         holds(&rt, tally.mapped > 50);
         holds(&rt, tally.released > 100);
         holds(&rt, tally.withdrawn > 100);
         holds(&rt, tally.given_back > 50);
+        holds(&rt, tally.let_go_late > 10);
         rows = tally.rows.saturating_add(rows);
     }
     holds_at(&rt, rows, rows > 10);
