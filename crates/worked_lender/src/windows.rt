@@ -405,12 +405,7 @@ fn detach_one(rt: &impl Abort, table: &mut Table, place: usize) {
 
 /// The lender goes and another comes, with frames of its own. Each page shows what it showed. Writes that waited wait still, or a guard
 /// has gone.
-fn next_lender(
-    rt: &impl Abort,
-    alloc: Global,
-    table: &mut Table,
-    mappings: &Mappings,
-) -> Mappings {
+fn next_lender(rt: &impl Abort, alloc: Global, table: &mut Table, mappings: &Mappings) -> Mappings {
     let content = u64::from(table.numbers.next() % 2);
     let contents = contents_of(rt, mappings);
     let mut after = Mappings::new(alloc, &contents, &[content, 1, 0]).expect(rt, "memory");
