@@ -67,12 +67,11 @@ GUARDED = "return cause == 0 ? pagemap_are_guarded(&windows->pagemap, at, PART) 
 REFUSED = "else pageshare_window_refused("
 LEAVES = "(struct pageshare_window_facts){.leaves = true}"
 WITHDRAWN = "if (order != PAGESHARE_WINDOW_RELEASE) pageshare_window_withdraw(&window->pages[number]);"
-ENDED = "        if (ends_with_watch(hold, i)) outcome(hold, i, !is_stuck(windows, hold->first + i));"
+COMPARED = "is_equal = is_frame ? are_equal(page, windows->frames_at + bytes_of(frame)) : is_zero(page);"
 # In place of a call's name: its arguments are looked at, and the call is left out.
 LEFT_OUT = "(void)("
 BODIES = {
-    "lends without a comparison": Body("lend.c", "hold->equal[i] = are_equal(page, windows->frames_at + bytes_of(frame));",
-                                       "hold->equal[i] = true;", ["stress"]),
+    "lends without a comparison": Body("lend.c", COMPARED, "is_equal = is_frame || is_zero(page);", ["stress"]),
     "holds nothing": Body("lend.c", "if (!hold->moves && !is_over_frame && may_pin(windows)) return false;",
                           "hold->moves = false, memset(hold->held, 1, hold->count); return true;", ["stress"]),
     "takes what is shown for copies": Body("kernel.c", "(ENTRY_FILE | ENTRY_GUARDED)", "ENTRY_GUARDED", ["stress", "--scan", "0"]),
@@ -82,13 +81,15 @@ BODIES = {
     "copies a part unguarded": Body("parts.c", GUARDED, "return faults_end_watch(&windows->faults, at, PART);", ["parts"]),
     "copies what may be pinned": Body("parts.c", "if (cause == 0 && may_pin(windows)) cause = EBUSY;", "", ["parts"]),
     "lends what a child may have": Body("pages.c", ".inherited = !window->advice.dont_fork,", ".inherited = false,", ["pages"]),
-    "lends what a device has": Body("pages.c", ".pinned = is_pinned(window, number),", ".pinned = false,", ["parts"]),
-    "lends copies that a device may have": Body("pages.c", ".may_pin = may_pin(windows),", ".may_pin = false,", ["leaves"]),
+    "lends what a device has": Body("pages.c", "window->pins != NULL ? window->count : 0;", "0 * window->count;", ["parts"]),
+    "lends copies that a device may have": Body("pages.c", ".may_pin = windows->pins != WINDOWS_PINS_NEVER,", ".may_pin = false,", ["leaves"]),
     "lends what is locked": Body("pages.c", ".locked = windows->is_locked,", ".locked = false,", ["pages"]),
-    "lends after the end": Body("pages.c", ".ended = window->ends || windows->is_over};", ".ended = false};", ["leaves"]),
+    "lends after the end": Body("pages.c", ".ends = window->ends,", ".ends = false,", ["leaves"]),
     "says of no page that it leaves": Body("home.c", LEAVES, "(struct pageshare_window_facts){.leaves = false}", ["leaves"]),
     "forgets why pages go home": Body("home.c", "facts = facts_with(window, page, why);", "facts = facts_of(window, page);", ["leaves"]),
     "moves copies that a device may have": Body("home.c", "&facts, own[i]);", "&facts, false);", ["pages"]),
+    "forgets transfers": Body("pages.c", ".there = windows->transfers_count,", ".there = 0,", ["leaves"]),
+    "forgets transfers that have no place": Body("pages.c", ".elsewhere = windows->transfers_elsewhere,", ".elsewhere = 0,", ["leaves"]),
     "begins transfers of no byte": Body("windows.c", "begin, begin + bytes);", "begin, begin);", ["leaves"]),
     "notes no page that was given up": Body("home.c", "pageshare_window_give_up(", LEFT_OUT, ["pages"]),
     "notes no page that was unmapped": Body("home.c", "pageshare_window_unmap(", LEFT_OUT, ["leaves"]),
@@ -97,14 +98,14 @@ BODIES = {
     "notes no write": Body("pages.c", "pageshare_window_written(", LEFT_OUT, ["pages"]),
     "notes no write to a frame of the past": Body("pages.c", "pageshare_window_stop_past(", LEFT_OUT, ["leaves"]),
     "notes no zeros": Body("pages.c", "pageshare_window_give_back(", LEFT_OUT, ["parts"]),
-    "notes zeros as frames": Body("pages.c", "if (frame == ZEROS) pageshare", "if (frame == ZEROS && is_moved) pageshare", ["pages"]),
+    "notes zeros as frames": Body("pages.c", "if (is_own) pageshare", "if (is_own && is_moved) pageshare", ["pages"]),
     "counts a refused order as done": Body("pages.c", REFUSED, "else pageshare_window_done(", ["pages"]),
     "keeps an order with which nobody began": Body("pages.c", WITHDRAWN, "", ["guards"]),
-    "counts all pages in the first part": Body("pages.c", "return &part_of(window, number)->counts;",
-                                               "return &part_of(window, number * 0)->counts;", ["parts"]),
+    "counts all pages in the first part": Body("set.h", "return &window->counts[(page + window->lead) / PART];",
+                                               "return &window->counts[page * 0];", ["parts"]),
     "forgets slots to release": Body("set.h", "belief_of(page) <= PAGESHARE_WINDOW_UNRELEASED;",
                                      "belief_of(page) <= PAGESHARE_WINDOW_HOMING;", ["pages"]),
-    "never says that a watch ended": Body("lend.c", ENDED, "", ["guards"]),
+    "never says that a watch ended": Body("lend.c", "    note_step(hold, i, is_done);", "", ["guards"]),
 }
 
 

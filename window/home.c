@@ -24,8 +24,8 @@ static void clear(struct window *window, size_t first, size_t count) {
 /* Notes that pages were given up: they are zeros, and take no memory, unless they had to be cleared. */
 static void note_given_up(struct window *window, size_t first, size_t count, bool is_cleared) {
     struct windows *windows = window->windows;
+    pageshare_window_give_up(window->pages, window->count, window->counts, parts_in(window), window->lead, first, count);
     for (size_t page = first; page < first + count; page++) {
-        pageshare_window_give_up(&window->pages[page], &part_of(window, page)->counts);
         if (is_cleared) trace_copy(windows->trace, window->base + (uint32_t)page, address_of(window, page));
         else trace_discard(windows->trace, window->base + (uint32_t)page);
     }
@@ -117,7 +117,7 @@ struct home {
 static void order_home(struct window *window, size_t first, size_t count, struct pageshare_window_facts why) {
     for (size_t page = first; page < first + count; page++) {
         const struct pageshare_window_facts facts = facts_with(window, page, why);
-        if (is_lent(&window->pages[page])) pageshare_window_next(&window->pages[page], &part_of(window, page)->counts, &facts);
+        if (is_lent(&window->pages[page])) pageshare_window_next(&window->pages[page], part_counts(window, page), &facts);
     }
 }
 
@@ -290,8 +290,7 @@ static struct window_result cut_part(struct window *window, size_t first, size_t
     struct window_result result = take_home_for(window, first, count, (struct pageshare_window_facts){.leaves = true});
     if (result.status != WINDOW_OK) return result;
     end_advice(window, first, count);
-    for (size_t page = first; page < first + count; page++)
-        pageshare_window_leave(&window->pages[page], &part_of(window, page)->counts);
+    pageshare_window_leave(window->pages, window->count, window->counts, parts_in(window), window->lead, first, count);
     return result;
 }
 
@@ -309,10 +308,9 @@ struct window_result window_cut(struct window *window, size_t first, size_t coun
 void window_forget(struct window *window, size_t first, size_t count) {
     struct windows *windows = window->windows;
     windows->counts.mappings -= mappings_of(window, first, count);
-    for (size_t page = first; page < first + count; page++) {
+    for (size_t page = first; page < first + count; page++)
         if (is_here(window, page)) trace_discard(windows->trace, window->base + (uint32_t)page);
-        pageshare_window_unmap(&window->pages[page], &part_of(window, page)->counts);
-    }
+    pageshare_window_unmap(window->pages, window->count, window->counts, parts_in(window), window->lead, first, count);
     windows->counts.mappings += mappings_of(window, first, count);
 }
 

@@ -18,29 +18,26 @@ struct hold {
     size_t left;       /* how many of them are held still */
     bool moves;        /* they are taken out of their place; otherwise writes are guarded */
     size_t scratch;    /* where they are then, in the scratch area */
-    bool held[HOLD_MOST], equal[HOLD_MOST], shown[HOLD_MOST];
-    enum pageshare_window_order ordered[HOLD_MOST]; /* what is done with them just now */
+    bool any_file;     /* a frame was mapped */
+    bool held[HOLD_MOST];
+    uint8_t places[HOLD_MOST]; /* where the memory of each is: the library writes it */
 };
 
-static const page_entry *page_of(const struct hold *hold, size_t i) { return &hold->window->pages[hold->first + i]; }
+static page_entry *page_of(const struct hold *hold, size_t i) { return &hold->window->pages[hold->first + i]; }
 
-/* What is to be done with a page next. */
-static enum pageshare_window_order next_order(struct hold *hold, size_t i) {
-    if (hold->ordered[i] == PAGESHARE_WINDOW_WAIT) hold->ordered[i] = order_of(hold->window, hold->first + i);
-    return hold->ordered[i];
+static struct pageshare_window_counts *counts_of(const struct hold *hold, size_t i) {
+    return part_counts(hold->window, hold->first + i);
 }
 
-/* What came of it. */
-static void outcome(struct hold *hold, size_t i, bool is_done) {
-    note_order(hold->window, hold->first + i, is_done);
-    hold->ordered[i] = PAGESHARE_WINDOW_WAIT;
+/* What is to be done with a page next: enum pageshare_window_hold_step. */
+static unsigned step_of(const struct hold *hold, size_t i) {
+    const struct pageshare_window_facts facts = facts_of(hold->window, hold->first + i);
+    return pageshare_window_hold_step(page_of(hold, i), counts_of(hold, i), &facts, hold->places[i]);
 }
 
-/* Nothing is known of it. */
-static void doubt(struct hold *hold, size_t i) {
-    size_t number = hold->first + i;
-    pageshare_window_unknown(&hold->window->pages[number], &part_of(hold->window, number)->counts);
-    hold->ordered[i] = PAGESHARE_WINDOW_WAIT;
+/* Whether that was done. */
+static void note_step(struct hold *hold, size_t i, bool is_done) {
+    hold->places[i] = pageshare_window_hold_done(page_of(hold, i), counts_of(hold, i), hold->places[i], is_done);
 }
 
 static uint8_t *place_of(const struct hold *hold, size_t i) {
@@ -102,27 +99,33 @@ static bool begin_hold(struct hold *hold) {
 static void take(struct hold *hold) {
     bool is_begun = begin_hold(hold);
     for (size_t i = 0; i < hold->count; i++) {
-        if (is_begun && !hold->held[i]) doubt(hold, i);
-        else outcome(hold, i, hold->held[i]);
+        unsigned held = hold->moves ? PAGESHARE_WINDOW_TAKEN_ASIDE : PAGESHARE_WINDOW_TAKEN_GUARDED;
+        unsigned taking = hold->held[i] ? held : is_begun ? PAGESHARE_WINDOW_TAKEN_WATCHED : PAGESHARE_WINDOW_NOT_TAKEN;
+        hold->places[i] = pageshare_window_begin_hold(page_of(hold, i), counts_of(hold, i), (uint8_t)taking);
+        hold->left += hold->held[i] ? 1 : 0;
+        hold->window->windows->counts.pinned += hold->held[i] ? 0 : 1;
     }
 }
 
-/* Nobody can write a page that is held. */
-static void compare(struct hold *hold) {
+/* Compares a page that nobody can write. */
+static void compare_one(struct hold *hold, size_t i) {
     struct windows *windows = hold->window->windows;
-    for (size_t i = 0; i < hold->count; i++) {
-        if (!hold->held[i]) continue;
-        hold->left++;
-        const uint8_t *page = place_of(hold, i);
-        uint32_t frame = page_of(hold, i)->frame;
-        enum pageshare_window_order order = next_order(hold, i);
-        if (order == PAGESHARE_WINDOW_COMPARE_ZEROS) hold->equal[i] = is_zero(page);
-        if (order == PAGESHARE_WINDOW_COMPARE) hold->equal[i] = are_equal(page, windows->frames_at + bytes_of(frame));
-        trace_content(windows->trace, number_of(hold, i), page);
-        trace_guard(windows->trace, number_of(hold, i));
-        if (hold->equal[i] && order == PAGESHARE_WINDOW_COMPARE) trace_lend(windows->trace, number_of(hold, i), frame);
-        if (order == PAGESHARE_WINDOW_COMPARE || order == PAGESHARE_WINDOW_COMPARE_ZEROS) outcome(hold, i, hold->equal[i]);
-    }
+    const uint8_t *page = place_of(hold, i);
+    uint32_t frame = page_of(hold, i)->frame;
+    unsigned step = step_of(hold, i);
+    bool is_frame = step == PAGESHARE_WINDOW_HOLD_COMPARE;
+    bool is_compared = is_frame || step == PAGESHARE_WINDOW_HOLD_COMPARE_ZEROS, is_equal = false;
+    if (is_compared) is_equal = is_frame ? are_equal(page, windows->frames_at + bytes_of(frame)) : is_zero(page);
+    trace_content(windows->trace, number_of(hold, i), page);
+    trace_guard(windows->trace, number_of(hold, i));
+    if (is_equal && is_frame) trace_lend(windows->trace, number_of(hold, i), frame);
+    if (is_compared) note_step(hold, i, is_equal);
+    windows->counts.changed += is_equal ? 0 : 1;
+}
+
+static void compare(struct hold *hold) {
+    for (size_t i = 0; i < hold->count; i++)
+        if (hold->held[i]) compare_one(hold, i);
 }
 
 /* (each of these pages is asked about again at one of so many looks) */
@@ -149,116 +152,90 @@ static void note_held(struct hold *hold, size_t count) {
 }
 
 /* Maps frames in a row, or zeros, and lets the threads go on that wait for them. */
-static void map_run(struct hold *hold, size_t i, size_t count) {
+static void map_run(struct hold *hold, size_t i, size_t count, bool is_frame) {
     struct windows *windows = hold->window->windows;
-    bool is_frame = hold->ordered[i] == PAGESHARE_WINDOW_MAP;
-    /* (where a page was taken out of anonymous memory zeros are left) */
-    bool is_mapped = is_frame || !hold->moves;
-    const int protection = PROT_READ | PROT_WRITE;
     uint32_t target = is_frame ? page_of(hold, i)->frame : ZEROS;
-    int cause = is_mapped ? map_pages(hold->window, hold->first + i, count, target, protection) : 0;
+    int cause = map_pages(hold->window, hold->first + i, count, target, PROT_READ | PROT_WRITE);
     if (cause != 0) {
         note_crowded(windows, count);
         note_failure(windows, WINDOW_NO_MAPPING, cause);
     }
     for (size_t place = i; place < i + count; place++) {
-        hold->shown[place] = cause == 0;
-        if (is_mapped) outcome(hold, place, cause == 0);
+        note_step(hold, place, cause == 0);
+        if (cause == 0 && is_frame) trace_map(windows->trace, number_of(hold, place));
     }
+    if (cause != 0) return;
+    hold->any_file = hold->any_file || is_frame;
+    windows->counts.lends += is_frame ? count : 0;
     /* (if nobody is woken here the end of the watch does it; a page that was taken out is given back only then) */
-    if (cause == 0 && is_mapped && faults_wake(&windows->faults, address_of(hold->window, hold->first + i), count) == 0)
-        note_held(hold, count);
+    if (faults_wake(&windows->faults, address_of(hold->window, hold->first + i), count) == 0) note_held(hold, count);
 }
 
 /* Shows what is to be shown. */
 static void map(struct hold *hold) {
-    for (size_t i = 0; i < hold->count; i++)
-        if (hold->equal[i]) next_order(hold, i);
-    for (size_t i = 0, count = 0; i<hold->count; i += count> 0 ? count : 1) {
-        count = pageshare_window_row(page_of(hold, i), hold->count - i);
-        if (count > 0) map_run(hold, i, count);
+    unsigned steps[HOLD_MOST];
+    for (size_t i = 0; i < hold->count; i++) steps[i] = step_of(hold, i);
+    for (size_t i = 0, count = 1; i < hold->count; i += count, count = 1) {
+        if (steps[i] != PAGESHARE_WINDOW_HOLD_MAP && steps[i] != PAGESHARE_WINDOW_HOLD_GIVE_BACK) continue;
+        size_t row = pageshare_window_row(page_of(hold, i), hold->count - i);
+        count = row > 0 ? row : 1;
+        map_run(hold, i, count, steps[i] == PAGESHARE_WINDOW_HOLD_MAP);
     }
 }
 
-static bool is_stuck(const struct windows *windows, size_t page) {
-    for (size_t i = 0; i < windows->stuck_count; i++)
-        if (windows->stuck[i].page == page) return true;
-    return false;
-}
-
-/* Lets the threads go on that wait for these pages, but for those that could not be put back: their place must not be touched. */
-static void end_watch(struct hold *hold) {
+/* Puts back what was taken out and isn't shown. Returns whether other memory than the scratch area's is at its place since. */
+static bool put_back(struct hold *hold) {
     struct windows *windows = hold->window->windows;
-    size_t step = windows->stuck_count == 0 ? hold->count : 1;
-    for (size_t i = 0; i < hold->count; i += step) {
-        if (is_stuck(windows, hold->first + i)) continue;
-        int cause = let_waiters_go(hold->window, hold->first + i, step);
-        if (cause != 0) note_failure(windows, WINDOW_STUCK, cause);
-    }
-}
-
-/* Puts back what was taken out and isn't shown. */
-static void put_back(struct hold *hold, bool *any_remapped) {
-    struct windows *windows = hold->window->windows;
-    bool remapped = false;
-    for (size_t i = 0; i < hold->count && hold->moves; i++) {
-        if (!hold->held[i] || hold->shown[i]) continue;
+    bool any_remapped = false, remapped = false;
+    for (size_t i = 0; i < hold->count; i++) {
+        if (step_of(hold, i) != PAGESHARE_WINDOW_HOLD_PUT_BACK) continue;
         int cause = faults_put(&windows->faults, address_of(hold->window, hold->first + i), place_of(hold, i), &remapped);
-        if (cause == 0 && remapped) {
-            *any_remapped = true;
-            note_moved(hold->window, hold->first + i, 1);
-        }
+        note_step(hold, i, cause == 0);
+        if (cause == 0 && remapped) note_moved(hold->window, hold->first + i, 1);
+        any_remapped = any_remapped || (cause == 0 && remapped);
         if (cause == 0) continue;
         note_failure(windows, WINDOW_STUCK, cause);
-        windows->stuck[windows->stuck_count++] =
-            (struct stuck){.window = hold->window, .page = (uint32_t)(hold->first + i), .scratch = (uint32_t)(hold->scratch + i)};
+        add_stuck(windows, hold->window, hold->first + i, hold->places[i], hold->scratch + i);
     }
+    return any_remapped;
 }
 
-/* Whether a page isn't to be shown, and writes to it may wait still. */
-static bool is_to_go(const struct hold *hold, size_t i) {
+/* Notes that nobody waits for a page any longer, unless the system refused that. */
+static void note_end(struct hold *hold, size_t i, bool is_done) {
+    struct windows *windows = hold->window->windows;
     unsigned belief = belief_of(page_of(hold, i));
-    return belief == PAGESHARE_WINDOW_LETTING_GO || belief == PAGESHARE_WINDOW_PUTTING_BACK;
+    bool is_given = belief == PAGESHARE_WINDOW_EQUAL_ZEROS || hold->places[i] == PAGESHARE_WINDOW_PLACE_REPLACED;
+    note_step(hold, i, is_done);
+    if (belief == PAGESHARE_WINDOW_EQUAL_ZEROS) {
+        note_zero(hold->window, hold->first + i, true);
+        windows->counts.zeros++;
+        if (is_done) trace_discard(windows->trace, number_of(hold, i));
+    }
+    if (hold->held[i] && !is_given && is_done) trace_unguard(windows->trace, number_of(hold, i));
 }
 
-/* Whether what came of a page's order is known once the watch has ended. */
-static bool ends_with_watch(const struct hold *hold, size_t i) {
-    return is_to_go(hold, i) || hold->ordered[i] == PAGESHARE_WINDOW_GIVE_BACK;
+/* Lets the threads go on that wait for pages, but for those that could not be put back: their place must not be touched. */
+static void end_watch(struct hold *hold) {
+    for (size_t i = 0, count = 1; i < hold->count; i += count, count = 1) {
+        if (step_of(hold, i) != PAGESHARE_WINDOW_HOLD_END_WATCH) continue;
+        while (i + count < hold->count && step_of(hold, i + count) == PAGESHARE_WINDOW_HOLD_END_WATCH) count++;
+        int cause = let_waiters_go(hold->window, hold->first + i, count);
+        if (cause != 0) note_failure(hold->window->windows, WINDOW_STUCK, cause);
+        for (size_t place = i; place < i + count; place++) note_end(hold, place, cause == 0);
+    }
+    /* (what is stuck is ordered again by a later look) */
+    for (size_t i = 0; i < hold->count; i++)
+        if (hold->places[i] == PAGESHARE_WINDOW_PLACE_ASIDE) pageshare_window_withdraw(page_of(hold, i));
 }
 
 /* Lets all go that isn't shown. What is stuck is let go later. */
 static void let_go(struct hold *hold) {
     struct windows *windows = hold->window->windows;
-    bool any_remapped = false;
-    for (size_t i = 0; i < hold->count; i++)
-        if (is_to_go(hold, i)) next_order(hold, i);
-    put_back(hold, &any_remapped);
+    bool any_remapped = put_back(hold);
     end_watch(hold);
-    for (size_t i = 0; i < hold->count; i++)
-        if (ends_with_watch(hold, i)) outcome(hold, i, !is_stuck(windows, hold->first + i));
-    if (windows->stuck_count > 0 || !hold->moves) return;
-    int cause = any_remapped ? make_scratch(windows) : 0;
+    if (windows->stuck_count > 0 || !any_remapped) return;
+    int cause = make_scratch(windows);
     if (cause != 0) note_failure(windows, WINDOW_NO_MAPPING, cause);
-}
-
-/* Notes what became of a page. */
-static void note_page(const struct hold *hold, size_t i) {
-    struct windows *windows = hold->window->windows;
-    size_t number = hold->first + i;
-    bool is_shown = belief_of(page_of(hold, i)) == PAGESHARE_WINDOW_SHOWN;
-    pageshare_window_held(&hold->window->pages[number], &part_of(hold->window, number)->counts, hold->held[i]);
-    if (!hold->held[i]) windows->counts.pinned++;
-    else if (!hold->equal[i]) windows->counts.changed++;
-    if (is_shown) {
-        windows->counts.lends++;
-        trace_map(windows->trace, number_of(hold, i));
-    } else if (hold->shown[i]) {
-        note_zero(hold->window, number, true);
-        windows->counts.zeros++;
-        if (!is_stuck(windows, number)) trace_discard(windows->trace, number_of(hold, i));
-    } else if (hold->held[i] && !is_stuck(windows, number)) {
-        trace_unguard(windows->trace, number_of(hold, i));
-    }
 }
 
 /* No child of a fork may have frames that were mapped: it would go on showing them when they are released. */
@@ -276,19 +253,15 @@ static void keep_from_children(const struct hold *hold) {
 static void settle(struct hold *hold) {
     struct windows *windows = hold->window->windows;
     uint64_t spent = clock_spent_ns();
-    bool any_file = false;
     take(hold);
     compare(hold);
     trace_dawdle();
     map(hold);
     let_go(hold);
     note_held(hold, hold->left);
-    for (size_t i = 0; i < hold->count; i++) {
-        any_file = any_file || belief_of(page_of(hold, i)) == PAGESHARE_WINDOW_SHOWN;
-        note_page(hold, i);
-    }
-    if (any_file) say_again(hold->window, hold->first, hold->count, true);
-    if (any_file) keep_from_children(hold);
+    for (size_t i = 0; i < hold->count; i++) pageshare_window_held(page_of(hold, i), counts_of(hold, i), hold->held[i]);
+    if (hold->any_file) say_again(hold->window, hold->first, hold->count, true);
+    if (hold->any_file) keep_from_children(hold);
     windows->counts.map_ns += clock_spent_ns() - spent;
 }
 
@@ -333,7 +306,7 @@ static bool order_hold(struct window *window, size_t number, enum wish wish) {
     page_entry *page = &window->pages[number];
     const struct pageshare_window_facts facts = facts_of(window, number);
     bool is_zeros = wish == TO_BE_GIVEN_BACK;
-    if (is_zeros && !pageshare_window_choose(page, &part_of(window, number)->counts, &facts, true)) return false;
+    if (is_zeros && !pageshare_window_choose(page, part_counts(window, number), &facts, true)) return false;
     enum pageshare_window_order order = order_of(window, number);
     bool is_hold = order == (is_zeros ? PAGESHARE_WINDOW_HOLD_ZEROS : PAGESHARE_WINDOW_HOLD);
     bool is_equal = is_hold && seems_equal(window, number);
@@ -398,7 +371,7 @@ static bool has_mappings(struct window *window, size_t number, size_t *more) {
     size_t added = mappings_added(window, number);
     if (!pageshare_window_has_mappings(windows->mappings_most, windows->counts.mappings + *more, added)) {
         note_crowded(windows, 1);
-        pageshare_window_asked_last(&window->pages[number], &part_of(window, number)->counts);
+        pageshare_window_asked_last(&window->pages[number], part_counts(window, number));
         return false;
     }
     *more += added;
@@ -419,7 +392,7 @@ static void take_answers(struct windows *windows, struct batch *batch, const uns
             batch->pages[kept++] = batch->pages[i];
             continue;
         }
-        pageshare_window_asked(page, &part_of(batch->window, batch->pages[i])->counts);
+        pageshare_window_asked(page, part_counts(batch->window, batch->pages[i]));
         /* (the page may have been given up meanwhile) */
         if (is_whole && looks_of(page) == STILL && kept_of(page) == batch->fingerprints[i])
             note_seen(batch->window, batch->pages[i], is_other);
@@ -471,7 +444,8 @@ static void keep_lendable(struct windows *windows, struct batch *batch) {
 static bool copy_one(struct window *window, size_t number, unsigned char *to, uint64_t fingerprint) {
     struct part *part = part_of(window, number);
     const struct pageshare_window_facts facts = facts_of(window, number);
-    if (part->is.whole || !pageshare_window_choose(&window->pages[number], &part->counts, &facts, false)) return false;
+    if (part->is.whole || !pageshare_window_choose(&window->pages[number], part_counts(window, number), &facts, false))
+        return false;
     if (order_of(window, number) != PAGESHARE_WINDOW_COPY) return false;
     copy_page(to, address_of(window, number));
     /* (its fingerprint may be that of an earlier look) */
@@ -498,9 +472,9 @@ static void take_loan(struct window *window, size_t number, const struct window_
     page_entry *page = &window->pages[number];
     bool is_given = loan->frame != WINDOW_NO_FRAME, is_named = is_given && window_is_slot(loan->slot);
     bool is_good = is_named && loan->frame < windows->lender.frame_count;
-    if (is_named) pageshare_window_lent(page, &part_of(window, number)->counts, slot_name(loan->slot), loan->frame);
+    if (is_named) pageshare_window_lent(page, part_counts(window, number), slot_name(loan->slot), loan->frame);
     else note_order(window, number, false);
-    if (!is_named) pageshare_window_asked_last(page, &part_of(window, number)->counts);
+    if (!is_named) pageshare_window_asked_last(page, part_counts(window, number));
     windows->counts.no_frame += is_given ? 0 : 1;
     if (is_given && !is_good) note_failure(windows, WINDOW_LENDER_FAILED, EPROTO);
     if (is_good) trace_frame(windows->trace, loan->frame, windows->frames_at + bytes_of(loan->frame));

@@ -19,11 +19,12 @@ enum finding { FOUND_NOTHING, FOUND_IDLE, FOUND_ZERO };
 
 /* What a look has found of a part. */
 struct findings {
-    size_t count;   /* pages that are idle */
-    size_t changes; /* pages that were idle, and have changed */
-    size_t young;   /* pages that are the same since a look or two, or new */
-    bool is_sample; /* the part rests */
-    bool is_return; /* the look has been there before, and takes the young pages alone */
+    size_t count;                              /* pages that are idle */
+    size_t changes;                            /* pages that were idle, and have changed */
+    size_t young;                              /* pages that are the same since a look or two, or new */
+    bool is_sample;                            /* the part rests */
+    bool is_return;                            /* the look has been there before, and takes the young pages alone */
+    struct pageshare_window_table_facts table; /* what is so of the window */
     uint32_t pages[PART];
     uint64_t fingerprints[PART];
     bool zero[PART];
@@ -48,7 +49,7 @@ static void meet_page(struct window *window, size_t number) {
     page_entry *page = &window->pages[number];
     uint64_t by = pageshare_window_glanced_by(page, (uint32_t)number);
     window->windows->counts.fresh += looks_of(page) == 0 ? 1 : 0;
-    pageshare_window_met(page, &part_of(window, number)->counts, (uint32_t)number, glance(window, number, by));
+    pageshare_window_met(page, part_counts(window, number), (uint32_t)number, glance(window, number, by));
 }
 
 /* Reads a page, and notes what that says of it. Returns its fingerprint. */
@@ -57,7 +58,7 @@ static uint64_t read_page(struct window *window, size_t number) {
     uint64_t fingerprint = fingerprint_of(window->windows->lender.salt, address_of(window, number));
     uint16_t found = is_over(page) ? 0 : glance(window, number, fingerprint);
     window->windows->counts.reads++;
-    pageshare_window_read(page, &part_of(window, number)->counts, fingerprint, found);
+    pageshare_window_read(page, part_counts(window, number), fingerprint, found);
     return fingerprint;
 }
 
@@ -79,12 +80,14 @@ static enum finding take_fingerprint(struct window *window, size_t number, uint6
 }
 
 /* Whether a look may read a page: it is the window's, and can be lent. */
-static bool may_read(const struct window *window, size_t number) {
-    const struct pageshare_window_facts facts = facts_of(window, number);
+static bool may_read(const struct window *window, const struct pageshare_window_table_facts *table, size_t number) {
+    struct pageshare_window_facts facts;
+    find_facts(window, table, number, &facts);
     return number < window->ready && pageshare_window_is_free(&window->pages[number], &facts);
 }
 
-static enum finding look_at(struct window *window, size_t number, uint8_t found, uint64_t *fingerprint) {
+static enum finding look_at(struct window *window, size_t number, uint8_t found, const struct findings *findings,
+                            uint64_t *fingerprint) {
     const page_entry *page = &window->pages[number];
     bool is_of_past = shows_past(page);
     if (is_out(page)) return FOUND_NOTHING;
@@ -94,7 +97,7 @@ static enum finding look_at(struct window *window, size_t number, uint8_t found,
         return FOUND_NOTHING;
     }
     bool is_there = found == PAGE_PRESENT || is_of_past;
-    return is_there && may_read(window, number) ? take_fingerprint(window, number, fingerprint) : FOUND_NOTHING;
+    return is_there && may_read(window, &findings->table, number) ? take_fingerprint(window, number, fingerprint) : FOUND_NOTHING;
 }
 
 #ifdef WINDOW_TRACE
@@ -130,7 +133,7 @@ static void make_ready(struct window *window, size_t first, size_t count, size_t
 /* A page of zeros in a whole part stays where it is, and counts. */
 static void count_zero(struct window *window, size_t number) {
     note_seen(window, number, true);
-    pageshare_window_asked(&window->pages[number], &part_of(window, number)->counts);
+    pageshare_window_asked(&window->pages[number], part_counts(window, number));
 }
 
 /* Looks at a page that has memory of its own, and adds it to the findings if it is idle. */
@@ -138,7 +141,7 @@ static void add_finding(struct window *window, size_t number, uint8_t found, str
     const page_entry *page = &window->pages[number];
     unsigned before = looks_of(page);
     uint64_t fingerprint = 0;
-    enum finding finding = look_at(window, number, found, &fingerprint);
+    enum finding finding = look_at(window, number, found, findings, &fingerprint);
     bool is_kept_back = finding == FOUND_ZERO && part_of(window, number)->is.whole;
     findings->changes += before == STILL && looks_of(page) < STILL ? 1 : 0;
     findings->young += found != PAGE_NONE && is_young(page) ? 1 : 0;
@@ -158,19 +161,19 @@ static void fetch(const struct window *window, size_t number) {
 }
 
 /* Whether a page that this look wouldn't take has changed. */
-static bool has_changed_beside(const struct window *window, size_t number, uint8_t found) {
+static bool has_changed_beside(const struct window *window, size_t number, uint8_t found, const struct findings *findings) {
     const page_entry *page = &window->pages[number];
     const struct pageshare_window_look look = look_now(window->windows);
     if (found != PAGE_PRESENT || is_over(page)) return false;
     if (!pageshare_window_is_left_out(page, &part_of(window, number)->is, &look, (uint32_t)number)) return false;
-    return may_read(window, number) && glance(window, number, kept_of(page)) != clue_in(page);
+    return may_read(window, &findings->table, number) && glance(window, number, kept_of(page)) != clue_in(page);
 }
 
 /* Where a sampled page has changed those beside it are taken, too, as far as they have changed. None of them is idle any more. */
 static void follow(struct window *window, size_t first, size_t count, size_t i, const uint8_t *found, struct findings *findings) {
-    for (size_t next = i + 1; next < count && has_changed_beside(window, first + next, found[next]); next++)
+    for (size_t next = i + 1; next < count && has_changed_beside(window, first + next, found[next], findings); next++)
         add_finding(window, first + next, found[next], findings);
-    for (size_t next = i; next > 0 && has_changed_beside(window, first + next - 1, found[next - 1]); next--)
+    for (size_t next = i; next > 0 && has_changed_beside(window, first + next - 1, found[next - 1], findings); next--)
         add_finding(window, first + next - 1, found[next - 1], findings);
 }
 
@@ -179,8 +182,10 @@ static void find_among(struct window *window, size_t first, size_t count, const 
     const struct part *part = part_of(window, first);
     const struct pageshare_window_look look = look_now(window->windows);
     uint16_t taken[PART];
-    size_t taken_count = pageshare_window_take_pages(window->pages + first, count, found, count, &part->is, &look,
-                                                     (uint32_t)first, findings->is_return, part->counts.past > 0, taken, PART);
+    size_t taken_count =
+        pageshare_window_take_pages(window->pages + first, count, found, count, &part->is, &look, (uint32_t)first,
+                                    findings->is_return, part_counts(window, first)->past > 0, taken, PART);
+    findings->table = table_of(window);
     for (size_t at = 0; at < taken_count && window->windows->stuck_count == 0; at++) {
         size_t i = taken[at], before = findings->changes;
         if (at + AHEAD < taken_count && found[taken[at + AHEAD]] == PAGE_PRESENT) fetch(window, first + taken[at + AHEAD]);
@@ -324,7 +329,7 @@ static void collect(struct windows *windows, struct slots *slots) {
     lock_for_look(windows);
     for (struct window *window = windows->first; window != NULL && slots->count < WINDOW_BATCH; window = window->next)
         for (size_t first = 0; first < window->count; first += rest_of_part(window, first))
-            if (part_of(window, first)->counts.releases > 0) collect_part(slots, window, first);
+            if (part_counts(window, first)->releases > 0) collect_part(slots, window, first);
     unlock_set(windows);
 }
 
@@ -353,7 +358,7 @@ void release_slots(struct windows *windows) {
 
 static bool has_slots(const struct window *window) {
     for (size_t part = 0; part < parts_in(window); part++)
-        if (window->parts[part].counts.releases > 0) return true;
+        if (window->counts[part].releases > 0) return true;
     return false;
 }
 

@@ -22,10 +22,6 @@ bool is_in_transfer(const struct window *window, size_t page) {
     return pageshare_window_is_in_transfer(windows->transfers, TRANSFERS_MOST, there, at, at + WINDOW_PAGE_BYTES);
 }
 
-bool is_pinned(const struct window *window, size_t page) {
-    return (window->pins != NULL && window->pins[page] > 0) || is_in_transfer(window, page);
-}
-
 void find_pins(struct windows *windows) {
     if (windows->find_pins == NULL || windows->pins != WINDOWS_PINS_NEVER) return;
     if (windows->find_pins(windows->find_pins_opaque) != WINDOWS_PINS_NEVER) windows->pins = WINDOWS_PINS_POSSIBLE;
@@ -39,35 +35,57 @@ uint64_t slot_number(uint32_t name) { return (uint64_t)(name / WINDOW_SLOT_RESTS
 
 /* ---- what the library decides, and hears ---- */
 
-static struct pageshare_window_counts *counts_of(struct window *window, size_t number) {
-    return &part_of(window, number)->counts;
+/* Where no page was pinned yet. */
+static const uint16_t no_pins;
+
+static size_t pins_in(const struct window *window) { return window->pins != NULL ? window->count : 0; }
+
+static const uint16_t *pins_of(const struct window *window) { return window->pins != NULL ? window->pins : &no_pins; }
+
+struct pageshare_window_table_facts table_of(const struct window *window) {
+    const struct windows *windows = window->windows;
+    return (struct pageshare_window_table_facts){.at = (uintptr_t)window->at,
+                                                 .there = windows->transfers_count,
+                                                 .elsewhere = windows->transfers_elsewhere,
+                                                 .may_pin = windows->pins != WINDOWS_PINS_NEVER,
+                                                 .inherited = !window->advice.dont_fork,
+                                                 .locked = windows->is_locked,
+                                                 .ends = window->ends,
+                                                 .is_over = windows->is_over};
+}
+
+void find_facts(const struct window *window, const struct pageshare_window_table_facts *table, size_t number,
+                struct pageshare_window_facts *facts) {
+    static const struct pageshare_window_facts nothing;
+    const struct windows *windows = window->windows;
+    pageshare_window_find_facts(table, pins_of(window), pins_in(window), windows->transfers, TRANSFERS_MOST, &nothing, number,
+                                facts);
 }
 
 struct pageshare_window_facts facts_of(const struct window *window, size_t number) {
-    const struct windows *windows = window->windows;
-    return (struct pageshare_window_facts){.pinned = is_pinned(window, number),
-                                           .may_pin = may_pin(windows),
-                                           .inherited = !window->advice.dont_fork,
-                                           .locked = windows->is_locked,
-                                           .ended = window->ends || windows->is_over};
+    const struct pageshare_window_table_facts table = table_of(window);
+    struct pageshare_window_facts facts;
+    find_facts(window, &table, number, &facts);
+    return facts;
 }
 
 struct pageshare_window_facts facts_with(const struct window *window, size_t number, struct pageshare_window_facts why) {
-    struct pageshare_window_facts facts = facts_of(window, number);
-    facts.pinned = facts.pinned || why.pinned;
-    facts.inherited = facts.inherited || why.inherited;
-    facts.leaves = why.leaves;
+    const struct pageshare_window_table_facts table = table_of(window);
+    const struct windows *windows = window->windows;
+    struct pageshare_window_facts facts;
+    pageshare_window_find_facts(&table, pins_of(window), pins_in(window), windows->transfers, TRANSFERS_MOST, &why, number,
+                                &facts);
     return facts;
 }
 
 enum pageshare_window_order order_of(struct window *window, size_t number) {
     const struct pageshare_window_facts facts = facts_of(window, number);
-    return (enum pageshare_window_order)pageshare_window_next(&window->pages[number], counts_of(window, number), &facts);
+    return (enum pageshare_window_order)pageshare_window_next(&window->pages[number], part_counts(window, number), &facts);
 }
 
 void note_order(struct window *window, size_t number, bool is_done) {
-    if (is_done) pageshare_window_done(&window->pages[number], counts_of(window, number));
-    else pageshare_window_refused(&window->pages[number], counts_of(window, number));
+    if (is_done) pageshare_window_done(&window->pages[number], part_counts(window, number));
+    else pageshare_window_refused(&window->pages[number], part_counts(window, number));
 }
 
 bool order_release(struct window *window, size_t number) {
@@ -81,39 +99,40 @@ bool order_release(struct window *window, size_t number) {
 }
 
 bool may_go_on(const struct window *window, size_t first, size_t count, struct pageshare_window_facts why) {
-    for (size_t number = first; number < first + count; number++) {
-        const struct pageshare_window_facts facts = facts_with(window, number, why);
-        if (!pageshare_window_may_go_on(&window->pages[number], &facts)) return false;
-    }
-    return true;
+    const struct pageshare_window_table_facts table = table_of(window);
+    return pageshare_window_may_go_on(window->pages, window->count, &table, pins_of(window), pins_in(window),
+                                      window->windows->transfers, TRANSFERS_MOST, &why, first, count);
 }
 
 bool may_give_up(const struct window *window, size_t first, size_t count) {
-    const struct pageshare_window_facts called = {.called = true};
-    for (size_t number = first; number < first + count; number++)
-        if (!pageshare_window_may_go_on(&window->pages[number], &called)) return false;
-    return true;
+    return pageshare_window_may_give_up(window->pages, window->count, first, count);
+}
+
+bool are_movable(const struct window *window, size_t first, size_t count) {
+    const struct pageshare_window_table_facts table = table_of(window);
+    return pageshare_window_are_movable(window->pages, window->count, &table, pins_of(window), pins_in(window),
+                                        window->windows->transfers, TRANSFERS_MOST, first, count);
 }
 
 void hear_written(struct window *window, size_t number) {
-    pageshare_window_written(&window->pages[number], counts_of(window, number));
+    pageshare_window_written(&window->pages[number], part_counts(window, number));
 }
 
 void note_zero(struct window *window, size_t number, bool is_zero) {
-    pageshare_window_give_back(&window->pages[number], counts_of(window, number), is_zero);
+    pageshare_window_give_back(&window->pages[number], part_counts(window, number), is_zero);
 }
 
 void stop_showing_past(struct window *window, size_t number) {
-    pageshare_window_stop_past(&window->pages[number], counts_of(window, number));
+    pageshare_window_stop_past(&window->pages[number], part_counts(window, number));
 }
 
 void forget_content(struct window *window, size_t number) {
-    pageshare_window_forget(&window->pages[number], counts_of(window, number));
+    pageshare_window_forget(&window->pages[number], part_counts(window, number));
 }
 
 void note_seen(struct window *window, size_t number, bool is_other) {
     if (is_seen(&window->pages[number]) != is_other)
-        pageshare_window_see(&window->pages[number], counts_of(window, number), is_other);
+        pageshare_window_see(&window->pages[number], part_counts(window, number), is_other);
 }
 
 /* ---- what lies at pages' places ---- */
@@ -141,12 +160,11 @@ size_t mappings_of(const struct window *window, size_t first, size_t count) {
 static void note_memory(struct window *window, size_t first, size_t count, uint32_t frame, bool is_moved) {
     size_t *mappings = &window->windows->counts.mappings, behind = first + count;
     *mappings -= mappings_of(window, first, count);
-    for (size_t i = 0; i < count; i++) {
-        page_entry *page = &window->pages[first + i];
-        struct pageshare_window_counts *part = counts_of(window, first + i);
-        if (frame == ZEROS) pageshare_window_uncover(page, part, is_moved, is_moved && i == 0);
-        else pageshare_window_cover(page, part, (uint16_t)(clue_of(frame + (uint32_t)i) % CLUES));
-    }
+    page_entry *pages = window->pages;
+    const bool is_own = frame == ZEROS;
+    if (is_own)
+        pageshare_window_uncover(pages, window->count, window->counts, parts_in(window), window->lead, first, count, is_moved);
+    else pageshare_window_cover(pages, window->count, window->counts, parts_in(window), window->lead, first, count, frame);
     if (behind < window->count) pageshare_window_begin_moved(&window->pages[behind]);
     *mappings += mappings_of(window, first, count);
 }
@@ -204,46 +222,55 @@ int clear_scratch(struct windows *windows) {
     return 0;
 }
 
+void add_stuck(struct windows *windows, struct window *window, size_t page, uint8_t place, size_t scratch) {
+    windows->stuck[windows->stuck_count++] =
+        (struct stuck){.window = window, .page = (uint32_t)page, .place = place, .scratch = (uint32_t)scratch};
+}
+
 int let_waiters_go(struct window *window, size_t first, size_t count) {
     struct windows *windows = window->windows;
     int cause = faults_end_watch(&windows->faults, address_of(window, first), count);
     for (size_t page = first; page < first + count && cause != 0 && windows->stuck_count < PART; page++)
-        windows->stuck[windows->stuck_count++] = (struct stuck){.window = window, .page = (uint32_t)page, .scratch = NOWHERE};
+        add_stuck(windows, window, page, PAGESHARE_WINDOW_PLACE_GUARDED, 0);
     return cause;
 }
 
-/* Writes to a page that was stuck wait no longer. */
-static void note_let_go(struct window *window, size_t number) {
-    unsigned belief = belief_of(&window->pages[number]);
-    if (belief != PAGESHARE_WINDOW_LETTING_GO && belief != PAGESHARE_WINDOW_PUTTING_BACK) return;
-    order_of(window, number);
-    note_order(window, number, true);
+static unsigned step_of_stuck(const struct stuck *stuck) {
+    const struct pageshare_window_facts facts = facts_of(stuck->window, stuck->page);
+    page_entry *page = &stuck->window->pages[stuck->page];
+    return pageshare_window_hold_step(page, part_counts(stuck->window, stuck->page), &facts, stuck->place);
+}
+
+/* Does the next step with a page that is stuck. Returns 0, or the errno of what the system refuses still. */
+static int step_stuck(struct windows *windows, struct stuck *stuck, unsigned step, bool *any_remapped) {
+    struct window *window = stuck->window;
+    uint8_t *at = address_of(window, stuck->page);
+    bool remapped = false;
+    int cause = EBUSY;
+    if (step == PAGESHARE_WINDOW_HOLD_PUT_BACK)
+        cause = faults_put(&windows->faults, at, windows->scratch + bytes_of(stuck->scratch), &remapped);
+    else if (step == PAGESHARE_WINDOW_HOLD_END_WATCH) cause = faults_end_watch(&windows->faults, at, 1);
+    else return cause;
+    stuck->place = pageshare_window_hold_done(&window->pages[stuck->page], part_counts(window, stuck->page), stuck->place, cause == 0);
+    if (cause == 0 && remapped) note_moved(window, stuck->page, 1);
+    *any_remapped = *any_remapped || (cause == 0 && remapped);
+    return cause;
 }
 
 int free_stuck(struct windows *windows) {
     size_t left = 0;
     int cause = 0;
-    bool remapped = false, any = false;
+    bool any_remapped = false;
     for (size_t i = 0; i < windows->stuck_count; i++) {
         struct stuck stuck = windows->stuck[i];
-        uint8_t *at = address_of(stuck.window, stuck.page);
-        int failed = 0;
-        if (stuck.scratch != NOWHERE) {
-            failed = faults_put(&windows->faults, at, windows->scratch + bytes_of(stuck.scratch), &remapped);
-            any = any || (failed == 0 && remapped);
-            if (failed == 0) stuck.scratch = NOWHERE;
-            if (failed == 0 && remapped) note_moved(stuck.window, stuck.page, 1);
-        }
-        if (failed == 0) failed = faults_end_watch(&windows->faults, at, 1);
-        if (failed == 0) {
-            note_let_go(stuck.window, stuck.page);
-            trace_unguard(windows->trace, stuck.window->base + stuck.page);
-            continue;
-        }
-        cause = failed;
-        windows->stuck[left++] = stuck;
+        int refused = 0;
+        for (unsigned step; refused == 0 && (step = step_of_stuck(&stuck)) != PAGESHARE_WINDOW_HOLD_OVER;)
+            refused = step_stuck(windows, &stuck, step, &any_remapped);
+        if (refused == 0) trace_unguard(windows->trace, stuck.window->base + stuck.page);
+        else windows->stuck[left++] = stuck;
+        cause = refused != 0 ? refused : cause;
     }
     windows->stuck_count = left;
     if (left > 0) return cause;
-    return any ? make_scratch(windows) : clear_scratch(windows);
+    return any_remapped ? make_scratch(windows) : clear_scratch(windows);
 }

@@ -39,7 +39,8 @@
  * The caller ensures:
  * - Pointers are valid, not null, and point to a page, counts, a budget or a table that no other thread uses during the call.
  * - Budgets, pages, counts, transfers, pins and ranges are written by these calls alone, but for what is set to zeros at first, and for what
- *   the caller writes of a range: `window`, `base` and `said`. The counts that a call gets are those of the page's part.
+ *   the caller writes of a range: `window`, `base` and `said`. The counts that a call for one page gets are those of the page's part.
+ * - The tables that a call gets are those of one window.
  * - Of an order it carries out what the order says and nothing else, and what it says came of it is true.
  * - Before a call of the monitor goes on that changes a page, it passes what is so of the page from then on.
  * - It says of each page what was put at its place, and when it is written, given up, unmapped or leaves.
@@ -283,30 +284,60 @@ uint8_t pageshare_window_next(struct pageshare_window_page *page, struct pagesha
 void pageshare_window_withdraw(struct pageshare_window_page *page);
 
 /*
- * What came of the order: it was done; it wasn't, and nothing changed; that isn't known; or the host gave this loan. Of a comparison
+ * What came of the order: it was done; it wasn't, and nothing changed; or the host gave this loan. Of a comparison
  * `done` means that they are equal. Each returns false, and changes nothing, if no order is open that can have this outcome.
  */
 bool pageshare_window_done(struct pageshare_window_page *page, struct pageshare_window_counts *part);
 bool pageshare_window_refused(struct pageshare_window_page *page, struct pageshare_window_counts *part);
-bool pageshare_window_unknown(struct pageshare_window_page *page, struct pageshare_window_counts *part);
 bool pageshare_window_lent(struct pageshare_window_page *page, struct pageshare_window_counts *part, uint32_t slot,
                            uint32_t frame);
+
+/* What came of an attempt to hold a page. */
+enum pageshare_window_taking {
+    PAGESHARE_WINDOW_NOT_TAKEN = 0,     /* nothing was done */
+    PAGESHARE_WINDOW_TAKEN_WATCHED = 1, /* it isn't held, but writes to it may wait */
+    PAGESHARE_WINDOW_TAKEN_GUARDED = 2, /* it is at its place, and writes to it wait */
+    PAGESHARE_WINDOW_TAKEN_ASIDE = 3    /* its memory was moved aside; reads and writes at its place wait */
+};
+
+/* Where the memory of a page is while the page is held. The library alone writes it. */
+enum pageshare_window_held_place {
+    PAGESHARE_WINDOW_PLACE_FREE = 0,    /* at its place, and nobody waits */
+    PAGESHARE_WINDOW_PLACE_GUARDED = 1, /* at its place, and writes to it may wait */
+    PAGESHARE_WINDOW_PLACE_ASIDE = 2,   /* aside; nothing is at its place, and reads and writes there wait */
+    PAGESHARE_WINDOW_PLACE_REPLACED = 3 /* what it equals took its place; threads that came before may wait */
+};
+
+/* What is done next with a page that is held. */
+enum pageshare_window_hold_step {
+    PAGESHARE_WINDOW_HOLD_OVER = 0,          /* nothing is left to do */
+    PAGESHARE_WINDOW_HOLD_COMPARE = 1,       /* its memory is compared with its frame */
+    PAGESHARE_WINDOW_HOLD_COMPARE_ZEROS = 2, /* with zeros */
+    PAGESHARE_WINDOW_HOLD_MAP = 3,           /* its frame is mapped at its place */
+    PAGESHARE_WINDOW_HOLD_GIVE_BACK = 4,     /* zeros are mapped there */
+    PAGESHARE_WINDOW_HOLD_PUT_BACK = 5,      /* its memory is moved back to its place */
+    PAGESHARE_WINDOW_HOLD_END_WATCH = 6      /* nobody waits for it any longer; where nothing is at its place, zeros are from then on */
+};
+
+/*
+ * A hold of a page. begin_hold takes what came of the attempt, enum pageshare_window_taking, and returns where its memory is, enum
+ * pageshare_window_held_place. hold_step returns what is done next with a page whose memory is there, enum pageshare_window_hold_step. hold_done
+ * takes whether that was done, or was refused and has changed nothing, and returns where the memory is then.
+ */
+uint8_t pageshare_window_begin_hold(struct pageshare_window_page *page, struct pageshare_window_counts *part, uint8_t taking);
+uint8_t pageshare_window_hold_step(struct pageshare_window_page *page, struct pageshare_window_counts *part,
+                                   const struct pageshare_window_facts *facts, uint8_t place);
+uint8_t pageshare_window_hold_done(struct pageshare_window_page *page, struct pageshare_window_counts *part, uint8_t place,
+                                   bool is_done);
 
 /* A copy over the page's frame was found, or it has memory of its own. Returns false, and changes nothing, while an order is open that
  * touches the page. */
 bool pageshare_window_written(struct pageshare_window_page *page, struct pageshare_window_counts *part);
 
-/* Whether a call of the monitor may go on that the facts are for: no write waits, and a page that must have memory of its own shows no frame. */
-bool pageshare_window_may_go_on(const struct pageshare_window_page *page, const struct pageshare_window_facts *facts);
-/* Whether a page's memory may be exchanged for other memory: it isn't held, and nothing bars it. */
-bool pageshare_window_is_movable(const struct pageshare_window_page *page, const struct pageshare_window_facts *facts);
 /* Whether a page over a frame has to stay where it is, while writes to it wait: it is to get its copy there, or it has memory of its own
  * (`is_copy`) that a device may hold. */
 bool pageshare_window_stays(const struct pageshare_window_page *page, const struct pageshare_window_facts *facts, bool is_copy);
 
-/* What was put at a page's place: a frame with this clue; or memory of its own, moved there or mapped, perhaps as the first page of it. */
-void pageshare_window_cover(struct pageshare_window_page *page, struct pageshare_window_counts *part, uint16_t clue);
-void pageshare_window_uncover(struct pageshare_window_page *page, struct pageshare_window_counts *part, bool moved, bool begins);
 /* The page before one got other memory: the page begins what was moved, if it was moved. */
 void pageshare_window_begin_moved(struct pageshare_window_page *page);
 
@@ -314,14 +345,6 @@ void pageshare_window_begin_moved(struct pageshare_window_page *page);
 void pageshare_window_give_back(struct pageshare_window_page *page, struct pageshare_window_counts *part, bool is_zeros);
 /* It shows no frame of a lender that is gone. */
 void pageshare_window_stop_past(struct pageshare_window_page *page, struct pageshare_window_counts *part);
-/* Its content was given up. */
-void pageshare_window_give_up(struct pageshare_window_page *page, struct pageshare_window_counts *part);
-/* It was unmapped, or something else was mapped in its place. It has left its window. */
-void pageshare_window_unmap(struct pageshare_window_page *page, struct pageshare_window_counts *part);
-/* It has left its window, with what it contains. */
-void pageshare_window_leave(struct pageshare_window_page *page, struct pageshare_window_counts *part);
-/* Its lender is gone, and no slot of it counts any more. What the page shows stays. */
-void pageshare_window_detach(struct pageshare_window_page *page, struct pageshare_window_counts *part);
 
 /* What looks have found of a page counts no more. */
 void pageshare_window_forget(struct pageshare_window_page *page, struct pageshare_window_counts *part);
@@ -340,6 +363,66 @@ size_t pageshare_window_here(const struct pageshare_window_page *pages, size_t c
 size_t pageshare_window_row(const struct pageshare_window_page *pages, size_t count);
 /* How many of them come before the first one whose slot is to be released, and of which no order is open. */
 size_t pageshare_window_before_release(const struct pageshare_window_page *pages, size_t count);
+
+/* ---- tables of a window's pages ---- */
+
+/* What is so of a window and its process, as far as it keeps the window's pages from being lent. */
+struct pageshare_window_table_facts {
+    uint64_t at;        /* the address of the window's first page */
+    uint64_t there;     /* how many transfers have a place in their table */
+    uint64_t elsewhere; /* how many have none, and may be of any page */
+    bool may_pin;       /* devices may hold memory of any page that is a copy over a frame, for all that is known */
+    bool inherited;     /* a child of a fork would have the window's pages */
+    bool locked;        /* memory of the process is locked */
+    bool ends;          /* nothing is lent of the window any more */
+    bool is_over;       /* nothing is lent of any window any more */
+};
+
+/*
+ * Finds what is so of a page: of its window and its process, of its pins and of the transfers, and `why` besides. `pins` has how often each page was
+ * pinned; none was where it has no entries.
+ */
+void pageshare_window_find_facts(const struct pageshare_window_table_facts *table, const uint16_t *pins, size_t pins_count,
+                                 const struct pageshare_window_transfer *transfers, size_t places,
+                                 const struct pageshare_window_facts *why, size_t page, struct pageshare_window_facts *facts);
+/*
+ * Of `count` pages from `first` on. Each returns false if they aren't all there.
+ *
+ * Whether a call of the monitor may go on by each of them, of which `why` is so from then on: no write to any of them waits, and none that must
+ * have memory of its own shows a frame. Whether one may that gives them up: no write waits. And whether their memory may be exchanged for other
+ * memory: none of them is held, and nothing bars one.
+ */
+bool pageshare_window_may_go_on(const struct pageshare_window_page *pages, size_t pages_count,
+                                const struct pageshare_window_table_facts *table, const uint16_t *pins, size_t pins_count,
+                                const struct pageshare_window_transfer *transfers, size_t places,
+                                const struct pageshare_window_facts *why, size_t first, size_t count);
+bool pageshare_window_may_give_up(const struct pageshare_window_page *pages, size_t pages_count, size_t first, size_t count);
+bool pageshare_window_are_movable(const struct pageshare_window_page *pages, size_t pages_count,
+                                  const struct pageshare_window_table_facts *table, const uint16_t *pins, size_t pins_count,
+                                  const struct pageshare_window_transfer *transfers, size_t places, size_t first, size_t count);
+/*
+ * What becomes of `count` pages from `first` on. `parts` has the counts of each part of 512 pages, and `lead` pages of the first part lie before
+ * the table. Each returns false, and notes nothing, if the pages aren't all there, or if the table has more pages than its parts.
+ *
+ * Frames in a row were mapped at their places, of which the first has this number; or memory of their own was put there, moved all at once, or
+ * mapped.
+ */
+bool pageshare_window_cover(struct pageshare_window_page *pages, size_t pages_count, struct pageshare_window_counts *parts,
+                            size_t parts_count, size_t lead, size_t first, size_t count, uint32_t frame);
+bool pageshare_window_uncover(struct pageshare_window_page *pages, size_t pages_count, struct pageshare_window_counts *parts,
+                              size_t parts_count, size_t lead, size_t first, size_t count, bool moved);
+/* Their content was given up. */
+bool pageshare_window_give_up(struct pageshare_window_page *pages, size_t pages_count, struct pageshare_window_counts *parts,
+                              size_t parts_count, size_t lead, size_t first, size_t count);
+/* They were unmapped, or something else was mapped in their place. They have left their window. */
+bool pageshare_window_unmap(struct pageshare_window_page *pages, size_t pages_count, struct pageshare_window_counts *parts,
+                            size_t parts_count, size_t lead, size_t first, size_t count);
+/* They have left their window, with what they contain. */
+bool pageshare_window_leave(struct pageshare_window_page *pages, size_t pages_count, struct pageshare_window_counts *parts,
+                            size_t parts_count, size_t lead, size_t first, size_t count);
+/* Their lender is gone, and no slot of theirs counts any more. What they show stays. */
+bool pageshare_window_detach(struct pageshare_window_page *pages, size_t pages_count, struct pageshare_window_counts *parts,
+                             size_t parts_count, size_t lead, size_t first, size_t count);
 
 /* What is to be done with a part of a window: the pages that one huge page could hold. */
 enum pageshare_window_part_order {

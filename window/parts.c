@@ -98,7 +98,7 @@ static void split(struct window *window, size_t first, bool is_huge) {
     }
     for (size_t page = first; page < first + PART; page++) {
         if (!is_seen(&window->pages[page])) continue;
-        pageshare_window_ask_at_once(&window->pages[page], &part_of(window, page)->counts);
+        pageshare_window_ask_at_once(&window->pages[page], part_counts(window, page));
     }
     set_whole(window, first, false);
 }
@@ -189,7 +189,7 @@ static struct pageshare_window_part_look found_of(const struct window *window, s
     const struct windows *windows = window->windows;
     bool may_be_huge = window->keeps_huge && windows->pagemap.scans && first + PART <= window->ready;
     return (struct pageshare_window_part_look){.own = (uint32_t)own,
-                                               .shareable = part_of(window, first)->counts.shareable,
+                                               .shareable = part_counts(window, first)->shareable,
                                                .is_huge = is_huge,
                                                .may_be_huge = may_be_huge,
                                                .may_lend = can_lend(window),
@@ -200,14 +200,11 @@ static struct pageshare_window_part_look found_of(const struct window *window, s
 }
 
 /* Finds out whether that is so. */
-static void find_facts(const struct window *window, size_t first, struct pageshare_window_part_look *look) {
+static void find_part_facts(const struct window *window, size_t first, struct pageshare_window_part_look *look) {
     const struct windows *windows = window->windows;
     look->has_mappings = pageshare_window_has_mappings(windows->mappings_most, windows->counts.mappings, PART);
     look->is_loose = may_give_up(window, first, PART);
-    for (size_t page = first; page < first + PART && look->is_movable; page++) {
-        const struct pageshare_window_facts facts = facts_of(window, page);
-        look->is_movable = pageshare_window_is_movable(&window->pages[page], &facts);
-    }
+    look->is_movable = are_movable(window, first, PART);
 }
 
 /* The numbers by which parts change. */
@@ -227,8 +224,8 @@ static enum pageshare_window_part_order next_of_part(struct window *window, size
     struct pageshare_window_part its = part->is, wanted = its;
     unsigned order = pageshare_window_next_of_part(&wanted, &config, &look);
     if (order != PAGESHARE_WINDOW_STAY) {
-        find_facts(window, first, &look);
-        if (order == PAGESHARE_WINDOW_SPLIT && !look.has_mappings) note_crowded(windows, part->counts.shareable);
+        find_part_facts(window, first, &look);
+        if (order == PAGESHARE_WINDOW_SPLIT && !look.has_mappings) note_crowded(windows, part_counts(window, first)->shareable);
         order = pageshare_window_next_of_part(&its, &config, &look);
     } else {
         its = wanted;

@@ -70,9 +70,8 @@ static inline bool is_given_back(const page_entry *page) { return !is_over(page)
  * nothing of it is lent or given back, so no frame lies under its pages. It is split before pages of it are lent.
  */
 struct part {
-    struct pageshare_window_counts counts; /* of its pages */
-    struct pageshare_window_part is;       /* whole or split, since when, and whether it rests */
-    bool is_huge;                          /* it is whole, and was a huge page when it was looked at last */
+    struct pageshare_window_part is; /* whole or split, since when, and whether it rests */
+    bool is_huge;                    /* it is whole, and was a huge page when it was looked at last */
 };
 
 struct window {
@@ -84,8 +83,9 @@ struct window {
     uint32_t base; /* the number of its first page among all windows' */
     page_entry *pages;
     struct part *parts;
-    uint16_t *pins;      /* of each page; NULL: none was pinned yet */
-    struct advice found; /* what was said of the range before it was a window */
+    struct pageshare_window_counts *counts; /* of each part's pages */
+    uint16_t *pins;                         /* of each page; NULL: none was pinned yet */
+    struct advice found;                    /* what was said of the range before it was a window */
     struct advice advice;
     size_t ready;    /* its pages before this one are left alone by KSM */
     bool keeps_huge; /* the system may back parts of it by huge pages */
@@ -93,12 +93,13 @@ struct window {
     bool ended;      /* the range is the caller's again; only slots are left to release */
 };
 
-/* A page that was held and could not be let go. `scratch`: its place in the scratch area, or NOWHERE if it is at its own. */
+/* A page that was held and could not be let go. `place`: where its memory is, which the library writes; `scratch`: where in the scratch area it
+ * is aside. */
 struct stuck {
     struct window *window;
     uint32_t page, scratch;
+    uint8_t place;
 };
-static const uint32_t NOWHERE = UINT32_MAX;
 
 /* For how long the looking thread has had its processor. All is processor time of the thread. */
 struct turn {
@@ -159,6 +160,10 @@ static inline uint8_t *address_of(const struct window *window, size_t page) { re
 static inline struct part *part_of(const struct window *window, size_t page) {
     return &window->parts[(page + window->lead) / PART];
 }
+/* The counts of the part that a page belongs to. */
+static inline struct pageshare_window_counts *part_counts(const struct window *window, size_t page) {
+    return &window->counts[(page + window->lead) / PART];
+}
 static inline size_t parts_in(const struct window *window) { return (window->count + window->lead + PART - 1) / PART; }
 /* How many pages there are from `first` on to the end of its part. */
 static inline size_t rest_of_part(const struct window *window, size_t first) {
@@ -188,8 +193,6 @@ static inline bool can_lend(const struct window *window) {
 
 /* Whether a transfer of a page is under way. With the lock. */
 bool is_in_transfer(const struct window *window, size_t page);
-/* Whether that, or window_pin, says that a page may be pinned. With the lock. */
-bool is_pinned(const struct window *window, size_t page);
 /* Whether any page with a copy over a frame may be pinned, for all that is known. With the lock. */
 static inline bool may_pin(const struct windows *windows) {
     return windows->pins != WINDOWS_PINS_NEVER || windows->transfers_elsewhere > 0;
@@ -211,14 +214,9 @@ static inline void unlock_set(struct windows *windows) { pthread_mutex_unlock(&w
 void note_failure(struct windows *windows, enum window_status status, int cause);
 
 /*
- * The lowest bits of this are kept of a frame's number where it is mapped. They say only whether frames lie in a row, by which mappings are
- * counted. Frames in a row have clues in a row, but at each multiple of CLUES. One pair of other frames in CLUES has such clues, too. A
- * machine of the host may begin at each multiple of CLUES, so frames at the same place in two machines have clues far apart.
+ * Frames in a row have clues in a row, but at each multiple of CLUES. One pair of other frames in CLUES has such clues, too. A machine of the
+ * host may begin at each multiple of CLUES, so frames at the same place in two machines have clues far apart.
  */
-static inline uint32_t clue_of(uint32_t frame) {
-    const uint32_t apart = 0x2c9277b5u;
-    return frame + frame / CLUES * apart;
-}
 static inline bool are_in_a_row(uint32_t clue, uint32_t next) { return (clue + 1) % CLUES == next % CLUES; }
 
 /* Whether one mapping of the system can hold a page and the one before it. */
@@ -228,6 +226,10 @@ size_t mappings_of(const struct window *window, size_t first, size_t count);
 
 /* ---- what the library decides of pages. All with the lock ---- */
 
+/* What is so of a window and its process; and of a page, by that. It stays so while the lock is held. */
+struct pageshare_window_table_facts table_of(const struct window *window);
+void find_facts(const struct window *window, const struct pageshare_window_table_facts *table, size_t page,
+                struct pageshare_window_facts *facts);
 /* What is so of a page; `why`: what is so besides, from now on. */
 struct pageshare_window_facts facts_of(const struct window *window, size_t page);
 struct pageshare_window_facts facts_with(const struct window *window, size_t page, struct pageshare_window_facts why);
@@ -241,6 +243,8 @@ bool order_release(struct window *window, size_t page);
 bool may_go_on(const struct window *window, size_t first, size_t count, struct pageshare_window_facts why);
 /* Whether one may that gives them up: no write to any of them waits. */
 bool may_give_up(const struct window *window, size_t first, size_t count);
+/* Whether their memory may be exchanged for other memory: none is held, and nothing keeps one from being lent. */
+bool are_movable(const struct window *window, size_t first, size_t count);
 /* A page was written to, or got memory of its own, by another's call. */
 void hear_written(struct window *window, size_t page);
 /* Pages were given back as zeros, or have memory again. */
@@ -271,6 +275,9 @@ void say_again(struct window *window, size_t first, size_t count, bool is_file);
 
 /* Ends the watch over pages, and wakes threads that wait. Returns 0, or an errno: then the pages are among the stuck ones. With the lock. */
 int let_waiters_go(struct window *window, size_t first, size_t count);
+
+/* Keeps a page that could not be let go for a later look. With the lock. */
+void add_stuck(struct windows *windows, struct window *window, size_t page, uint8_t place, size_t scratch);
 
 /* Puts pages back that a look could not. Returns 0, or an errno while some are left. With the lock. */
 int free_stuck(struct windows *windows);

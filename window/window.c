@@ -7,6 +7,7 @@
 void free_window(struct window *window) {
     table_free(window->pages, window->count, sizeof *window->pages);
     table_free(window->parts, parts_in(window), sizeof *window->parts);
+    table_free(window->counts, parts_in(window), sizeof *window->counts);
     table_free(window->pins, window->count, sizeof *window->pins);
     table_free(window, 1, sizeof *window);
 }
@@ -53,7 +54,8 @@ static struct window *make_tables(struct windows *windows, void *at, size_t page
     *window = (struct window){.windows = windows, .at = at, .count = pages, .lead = (uintptr_t)at / WINDOW_PAGE_BYTES % PART};
     window->pages = table_make(pages, sizeof *window->pages);
     window->parts = table_make(parts_in(window), sizeof *window->parts);
-    if (window->pages != NULL && window->parts != NULL) return window;
+    window->counts = table_make(parts_in(window), sizeof *window->counts);
+    if (window->pages != NULL && window->parts != NULL && window->counts != NULL) return window;
     free_window(window);
     return NULL;
 }

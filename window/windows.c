@@ -173,11 +173,11 @@ static void detach_window(struct window *window) {
     size_t *mappings = &window->windows->counts.mappings;
     const bool is_counted = !window->ended; /* (those of a window that has ended aren't) */
     *mappings -= is_counted ? mappings_of(window, 0, window->count) : 0;
-    for (size_t i = 0; i < window->count; i++) pageshare_window_detach(&window->pages[i], &part_of(window, i)->counts);
+    pageshare_window_detach(window->pages, window->count, window->counts, parts_in(window), window->lead, 0, window->count);
     *mappings += is_counted ? mappings_of(window, 0, window->count) : 0;
     for (size_t i = 0; i < parts_in(window); i++) {
         struct part *part = &window->parts[i];
-        *part = (struct part){.counts = part->counts, .is.whole = part->is.whole, .is_huge = part->is_huge};
+        *part = (struct part){.is.whole = part->is.whole, .is_huge = part->is_huge};
     }
 }
 
@@ -254,10 +254,11 @@ void windows_count(struct windows *windows, struct windows_counts *counts) {
     for (const struct window *window = windows->first; window != NULL; window = window->next) {
         size_t parts = parts_in(window);
         for (size_t i = 0; i < parts && !window->ended; i++) {
-            counts->lent += window->parts[i].counts.lent;
-            counts->zeros_now += window->parts[i].counts.zeros;
+            counts->lent += window->counts[i].lent;
+            counts->zeros_now += window->counts[i].zeros;
         }
-        counts->table_bytes += sizeof *window + window->count * sizeof window->pages[0] + parts * sizeof window->parts[0];
+        counts->table_bytes += sizeof *window + window->count * sizeof window->pages[0];
+        counts->table_bytes += parts * (sizeof window->parts[0] + sizeof window->counts[0]);
         if (window->pins != NULL) counts->table_bytes += window->count * sizeof window->pins[0];
     }
     unlock_set(windows);

@@ -15,7 +15,7 @@ static inline bool lasts(const page_entry *page) {
 
 /* Whether the counts of a part are those of its pages. */
 static inline bool are_counted(const struct window *window, size_t first) {
-    const struct pageshare_window_counts *counts = &part_of(window, first)->counts;
+    const struct pageshare_window_counts *counts = part_counts(window, first);
     unsigned releases = 0, lent = 0, zeros = 0, past = 0, shareable = 0;
     for (size_t page = first; page < first + rest_of_part(window, first); page++) {
         const page_entry *its = &window->pages[page];

@@ -643,36 +643,55 @@ static bool releases(page_entry page) {
     return false;
 }
 
+/* Whether a call of the monitor may go on by a page of which this is so from then on. */
+static bool goes_on(const page_entry *page, struct pageshare_window_facts why) {
+    const struct pageshare_window_table_facts table = {.at = 0};
+    const uint16_t pins = 0;
+    const struct pageshare_window_transfer transfer = {.is_there = false};
+    return pageshare_window_may_go_on(page, 1, &table, &pins, 1, &transfer, 1, &why, 0, 1);
+}
+
 /* What C reads in a page's bytes is what the library says: which pages show a frame, have a slot, or are held. */
 static void beliefs(void) {
     const struct pageshare_window_facts called = {.called = true}, leaves = {.leaves = true};
     for (uint8_t belief = 0; belief <= PAGESHARE_WINDOW_PUTTING_BACK; belief++) {
         const page_entry page = {.slot = 5, .frame = 7, .belief = belief};
-        bool waits = !pageshare_window_may_go_on(&page, &called);
+        bool waits = !goes_on(&page, called);
         check(belief_of(&page) == belief && !is_over(&page) && !is_ordered(&page), "a belief is read as it is");
-        check((waits || is_lent(&page)) == !pageshare_window_may_go_on(&page, &leaves), "a page is lent where it shows a frame");
+        check((waits || is_lent(&page)) == !goes_on(&page, leaves), "a page is lent where it shows a frame");
         check(has_slot(&page) == releases(page), "a page has a slot where one is to be released");
     }
 }
 
 /* What C reads of a page's place is what was noted of it. */
 static void places(void) {
+    page_entry pages[2] = {{.belief = PAGESHARE_WINDOW_PRIVATE}};
+    const page_entry *page = &pages[1];
+    struct pageshare_window_counts part = {0};
+    check(pageshare_window_cover(pages, 2, &part, 1, 0, 0, 2, 320), "frames are mapped");
+    check(is_over(page) && clue_in(page) == 321 && !is_past(page) && !shows_past(page), "a frame lies under a page");
+    check(pageshare_window_uncover(pages, 2, &part, 1, 0, 0, 2, true), "memory is moved");
+    check(!is_over(page) && is_moved(page) && !begins_moved(page) && clue_in(page) == 0, "its memory was moved there");
+    check(begins_moved(&pages[0]), "the first page begins what was moved");
+    pageshare_window_begin_moved(&pages[1]);
+    check(begins_moved(page), "it begins what was moved");
+    pageshare_window_give_back(&pages[1], &part, true);
+    check(is_given_back(page) && part.zeros == 1, "it was given back");
+    pageshare_window_see(&pages[1], &part, true);
+    check(is_seen(page) && part.shareable == 1, "it was seen");
+    check(pageshare_window_give_up(pages, 2, &part, 1, 0, 1, 1), "one page is given up");
+    check(!is_given_back(page) && !is_seen(page) && part.zeros == 0 && part.shareable == 0, "it was given up");
+    check(pageshare_window_leave(pages, 2, &part, 1, 0, 1, 1), "one page leaves");
+    check(is_out(page) && !is_over(page) && !is_out(&pages[0]), "it has left");
+    check(!pageshare_window_leave(pages, 2, &part, 1, 0, 1, 2) && !is_out(&pages[0]), "a page that isn't there leaves no window");
+}
+
+/* What is kept of a frame's number where it is mapped. */
+static uint32_t clue_of(uint32_t frame) {
     page_entry page = {.belief = PAGESHARE_WINDOW_PRIVATE};
     struct pageshare_window_counts part = {0};
-    pageshare_window_cover(&page, &part, 321);
-    check(is_over(&page) && clue_in(&page) == 321 && !is_past(&page) && !shows_past(&page), "a frame lies under a page");
-    pageshare_window_uncover(&page, &part, true, false);
-    check(!is_over(&page) && is_moved(&page) && !begins_moved(&page) && clue_in(&page) == 0, "its memory was moved there");
-    pageshare_window_begin_moved(&page);
-    check(begins_moved(&page), "it begins what was moved");
-    pageshare_window_give_back(&page, &part, true);
-    check(is_given_back(&page) && part.zeros == 1, "it was given back");
-    pageshare_window_see(&page, &part, true);
-    check(is_seen(&page) && part.shareable == 1, "it was seen");
-    pageshare_window_give_up(&page, &part);
-    check(!is_given_back(&page) && !is_seen(&page) && part.zeros == 0 && part.shareable == 0, "it was given up");
-    pageshare_window_leave(&page, &part);
-    check(is_out(&page) && !is_over(&page), "it has left");
+    pageshare_window_cover(&page, 1, &part, 1, 0, 0, 1, frame);
+    return clue_in(&page);
 }
 
 /* Frames in a row have clues in a row. Those at about the same place of two machines have not. */

@@ -12,8 +12,7 @@ ghost use Rattle.work_budget.specs.Budgets.{begun, credited, paced, settled, wai
 ghost use Rattle.mapping_room.specs.Rooms.{fits, most_of};
 ghost use Rattle.offered_ranges.specs.Pieces.{IsFirst, meets};
 ghost use Rattle.offered_ranges.specs.Tables.{added, can_add, can_take_out, is_of, ranges_of, taken_out};
-ghost use Rattle.page_lender.specs.Decisions.{is_busy, is_movable, may_go_on, must_own};
-ghost use Rattle.page_lender.specs.Events.{HeardRightly, IsFree, ShowsNone};
+ghost use Rattle.page_lender.specs.Decisions.{is_busy};
 ghost use Rattle.page_lender.specs.declared.order.Notice.TheVariants as Notice;
 ghost use Rattle.page_lender.specs.declared.order.Outcome.TheVariants as Outcome;
 ghost use Rattle.window_lender.specs.Calls.{IsChosen, IsHeard, IsOrdered, is_free, order_due};
@@ -21,14 +20,15 @@ ghost use Rattle.window_lender.specs.Huge.{order_of, part_then};
 ghost use Rattle.window_pages.specs.Runs.{is_here_as, keeps_slot, lies_as, row_of};
 ghost use Rattle.pageshare_window_c.specs.Budgets.{ledger_of, rates};
 ghost use Rattle.window_pages.specs.Bytes.{known_of, notes_of};
-ghost use Rattle.window_pages.specs.Changed.{Becomes, Lends, covered, detached, discarded, given_back, given_up, gone, lender_with, moved_first, no_past, notes_if, uncovered, uncovered_notes, unmapped};
+ghost use Rattle.window_pages.specs.Changed.{Becomes, Lends, given_back, lender_with, moved_first, no_past};
 ghost use Rattle.window_pages.specs.Counted.{counts_then};
-ghost use Rattle.window_pages.specs.Known.{bars_of, chosen_as, clued, kept_by, lender_of, no_bars, shows_past, stays};
+ghost use Rattle.window_pages.specs.Known.{bars_of, chosen_as, kept_by, lender_of, no_bars, shows_past, stays};
 ghost use Rattle.pageshare_window_c.specs.Looks.{rests_of};
 ghost use Rattle.pageshare_window_c.specs.Pages.{Takes, number_of};
 ghost use Rattle.pageshare_window_c.specs.Parts.{config_of, look_of, part_number, part_of};
 
 mod budget;
+mod holds;
 mod laws;
 mod looks;
 mod numbers;
@@ -36,10 +36,14 @@ mod order;
 mod part;
 mod pins;
 mod ranges;
+mod tables;
 mod times;
 
 pub use budget::{CREDIT_NS, OWED_NS, SAVED_NS, WindowBudget};
 use budget::{budget_of, config_by, put};
+pub use holds::{
+    pageshare_window_begin_hold, pageshare_window_hold_done, pageshare_window_hold_step,
+};
 pub use laws::limits_law;
 pub use look_steps::{LookSteps, PartReturn};
 pub use look_times::{LookFinds, LookTimes};
@@ -65,6 +69,12 @@ pub use pins::{
     pageshare_window_is_in_transfer, pageshare_window_pin, pageshare_window_unpin,
 };
 pub use ranges::{pageshare_window_bounds, pageshare_window_is_all_left};
+pub use tables::{
+    pageshare_window_are_movable, pageshare_window_cover, pageshare_window_detach,
+    pageshare_window_find_facts, pageshare_window_give_up, pageshare_window_leave,
+    pageshare_window_may_give_up, pageshare_window_may_go_on, pageshare_window_uncover,
+    pageshare_window_unmap,
+};
 pub use times::{
     pageshare_window_be_eager, pageshare_window_begin_times, pageshare_window_look_ended,
     pageshare_window_pause_ms,
@@ -72,10 +82,10 @@ pub use times::{
 pub use window_numbers::Taken;
 pub use window_pages::{PartCounts, WindowFacts, WindowPage};
 use window_pages::{
-    alike, before_release, begin, choose, cover, detach, forget, give_back, give_up, hear, here,
-    is_free, is_movable, leave, may_go_on, next, row, see, stays, stop_past, take, uncover, unmap,
-    withdraw,
+    alike, before_release, begin, choose, forget, give_back, hear, here, is_free, next, row, see,
+    stays, stop_past, take, withdraw,
 };
+pub use window_tables::TableFacts;
 use work_budget::Budget;
 
 /// Begins a budget at these readings of the clocks: the time, and the processor time that the thread has used. A share is 1 to 100
@@ -265,15 +275,6 @@ pub extern "C" fn pageshare_window_refused(page: &mut WindowPage, part: &mut Par
     take(page, part, Outcome::Refused)
 }
 
-/// Learns that it isn't known whether a page's order was done. Returns false, and learns nothing, if no order is open of which that may
-/// be so.
-#[unsafe(no_mangle)]
-pub extern "C" fn pageshare_window_unknown(page: &mut WindowPage, part: &mut PartCounts) -> bool
-    ensures { Takes Outcome.Unknown result page.old page.new part.old part.new }
-{
-    take(page, part, Outcome::Unknown)
-}
-
 /// Learns that the host gave this slot with this frame for a page. Returns false, and learns nothing, if it wasn't asked for a loan.
 #[unsafe(no_mangle)]
 pub extern "C" fn pageshare_window_lent(
@@ -299,26 +300,6 @@ pub extern "C" fn pageshare_window_written(page: &mut WindowPage, part: &mut Par
     hear(page, part, Notice::Written)
 }
 
-/// Returns whether a call of the monitor may go on that these facts are for: no write to the page waits, and a page that must have memory
-/// of its own shows no frame.
-#[unsafe(no_mangle)]
-pub extern "C" fn pageshare_window_may_go_on(page: &WindowPage, facts: &WindowFacts) -> bool
-    ensures goes_on { result ≡ may_go_on (lender_of facts.now (known_of page.now)) }
-    ensures free { result ≡ true → IsFree (known_of page.now).belief }
-    ensures own { result ≡ true → must_own (bars_of facts.now (known_of page.now)) ≡ true → ShowsNone (known_of page.now).belief }
-{
-    may_go_on(page, facts)
-}
-
-/// Returns whether a page's memory may be exchanged for other memory: it isn't held, and nothing keeps it from being lent.
-#[unsafe(no_mangle)]
-pub extern "C" fn pageshare_window_is_movable(page: &WindowPage, facts: &WindowFacts) -> bool
-    ensures movable { result ≡ is_movable (lender_of facts.now (known_of page.now)) }
-    ensures free { result ≡ true → IsFree (known_of page.now).belief }
-{
-    is_movable(page, facts)
-}
-
 /// Returns whether a page over a frame has to stay where it is: it is to get its copy there, or it has one that a device may hold. Writes
 /// to it wait meanwhile, and `is_copy` says whether it has memory of its own.
 #[unsafe(no_mangle)]
@@ -330,31 +311,6 @@ pub extern "C" fn pageshare_window_stays(
     ensures { result ≡ stays facts.now is_copy (known_of page.now) }
 {
     stays(page, facts, is_copy)
-}
-
-/// Notes that a frame was mapped at a page's place. `clue` is some bits of its number.
-#[unsafe(no_mangle)]
-pub extern "C" fn pageshare_window_cover(page: &mut WindowPage, part: &mut PartCounts, clue: u16)
-    ensures known { known_of page.new ≡ covered (known_of page.old) }
-    ensures notes { notes_of page.new ≡ clued clue (notes_if (shows_past (known_of page.old)) (known_of page.old).belief (notes_of page.old)) }
-    ensures counts { part.new ≡ counts_then page.old page.new part.old }
-{
-    cover(page, part, clue);
-}
-
-/// Notes that memory of its own was put at a page's place: moved there, perhaps as the first page of what was moved, or mapped.
-#[unsafe(no_mangle)]
-pub extern "C" fn pageshare_window_uncover(
-    page: &mut WindowPage,
-    part: &mut PartCounts,
-    moved: bool,
-    begins: bool,
-)
-    ensures known { known_of page.new ≡ uncovered moved begins (known_of page.old) }
-    ensures notes { notes_of page.new ≡ uncovered_notes (known_of page.old) (notes_of page.old) }
-    ensures counts { part.new ≡ counts_then page.old page.new part.old }
-{
-    uncover(page, part, moved, begins);
 }
 
 /// Notes that a page begins what was moved, if it was moved: the page before it has got other memory.
@@ -384,40 +340,6 @@ pub extern "C" fn pageshare_window_stop_past(page: &mut WindowPage, part: &mut P
     ensures { Becomes (no_past (known_of page.old)) (shows_past (known_of page.old)) page.old page.new part.old part.new }
 {
     stop_past(page, part);
-}
-
-/// Notes that a page's content was given up, and its lender hears it, unless an order is open that touches the page.
-#[unsafe(no_mangle)]
-pub extern "C" fn pageshare_window_give_up(page: &mut WindowPage, part: &mut PartCounts)
-    ensures page { Becomes (given_up (known_of page.old)) true page.old page.new part.old part.new }
-    ensures right { HeardRightly (known_of page.old).belief (discarded (known_of page.old)) }
-{
-    give_up(page, part);
-}
-
-/// Notes that a page was unmapped, or that something else was mapped in its place. It has left its window.
-#[unsafe(no_mangle)]
-pub extern "C" fn pageshare_window_unmap(page: &mut WindowPage, part: &mut PartCounts)
-    ensures page { Becomes (unmapped (known_of page.old)) true page.old page.new part.old part.new }
-    ensures right { HeardRightly (known_of page.old).belief (discarded (known_of page.old)) }
-{
-    unmap(page, part);
-}
-
-/// Notes that a page has left its window, with what it contains.
-#[unsafe(no_mangle)]
-pub extern "C" fn pageshare_window_leave(page: &mut WindowPage, part: &mut PartCounts)
-    ensures { Becomes (gone (known_of page.old)) true page.old page.new part.old part.new }
-{
-    leave(page, part);
-}
-
-/// Notes that a page's lender is gone, and no slot of it counts any more. What the page shows stays.
-#[unsafe(no_mangle)]
-pub extern "C" fn pageshare_window_detach(page: &mut WindowPage, part: &mut PartCounts)
-    ensures { Becomes (detached (known_of page.old)) true page.old page.new part.old part.new }
-{
-    detach(page, part);
 }
 
 /// Notes that what looks have found of a page counts no more.

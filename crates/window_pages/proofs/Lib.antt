@@ -1,5 +1,5 @@
 mod Apart
-mod Counting
+pub mod Counting
 mod Lived
 mod Rows
 mod Spared

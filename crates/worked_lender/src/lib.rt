@@ -1,14 +1,16 @@
 //! Traces of windows, the lender of one page and a table of pages beside the protocol of windows, what is known of each page, when parts
 //! are split, the budget of their thread, its looks and when they begin, the mappings that windows take, the ranges that become windows,
 //! the pages that a device may hold, and the numbers of new windows. It is by the public calls of `page_lender`, `window_lender`,
-//! `window_pages`, `window_events`, `work_budget`, `idle_pages`, `look_steps`, `look_times`, `mapping_room`, `offered_ranges`, `page_pins`
-//! and `window_numbers`. This crate has only tests.
+//! `window_pages`, `window_events`, `work_budget`, `idle_pages`, `look_steps`, `look_times`, `mapping_room`, `offered_ranges`, `page_pins`,
+//! `page_holds`, `window_tables` and `window_numbers`. This crate has only tests.
 #![tactic(auto)]
 
 #[cfg(test)]
 mod budgets;
 #[cfg(test)]
 mod checks;
+#[cfg(test)]
+mod holds;
 #[cfg(test)]
 mod host;
 #[cfg(test)]
@@ -33,6 +35,8 @@ mod ranges;
 mod rooms;
 #[cfg(test)]
 mod steps;
+#[cfg(test)]
+mod tables;
 #[cfg(test)]
 mod taken;
 #[cfg(test)]

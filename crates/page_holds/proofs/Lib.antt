@@ -1,0 +1,3 @@
+mod Courses
+pub mod Kept
+mod Left

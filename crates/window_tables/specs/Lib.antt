@@ -1,0 +1,5 @@
+pub mod Changes
+pub mod Facts
+pub mod Laws
+pub mod Ranges
+pub mod Tables

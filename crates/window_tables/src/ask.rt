@@ -1,0 +1,150 @@
+//! What is asked of a range of a window's pages.
+ghost use Rattle.std.specs.Prelude.{◌≡◌, ◌+◌, ◌≤◌, ◌&&◌, false, length, true};
+ghost use Rattle.page_lender.specs.Decisions.{must_own};
+ghost use Rattle.page_lender.specs.Events.{IsFree, ShowsNone};
+ghost use Rattle.window_pages.specs.Bytes.{belief_of, known_of};
+ghost use Rattle.window_pages.specs.Known.{bars_of};
+ghost use Rattle.window_tables.specs.Facts.{facts_at, only_called};
+ghost use Rattle.window_tables.specs.Ranges.{Each, all_at, goes_on, has_pages, moves};
+
+use crate::{TableFacts, facts_of};
+use page_pins::Transfer;
+use window_pages::{WindowFacts, WindowPage};
+
+// Returns whether so many pages from one on are there.
+pub(crate) fn has_pages(pages: &[WindowPage], first: usize, count: usize) -> bool
+    ensures value { result ≡ has_pages first count pages.now }
+    ensures within { result ≡ true → first + count ≤ length pages.now }
+{
+    first <= pages.len() && count <= pages.len() - first
+}
+
+// Returns that nothing is so of a page, but perhaps that a call of the monitor changes it.
+fn only_called(called: bool) -> WindowFacts
+    ensures { result ≡ only_called called }
+{
+    WindowFacts {
+        called,
+        pinned: false,
+        may_pin: false,
+        inherited: false,
+        locked: false,
+        leaves: false,
+        ended: false,
+    }
+}
+
+// Returns whether a call of the monitor may go on by the page at a place.
+fn goes_on(
+    page: &WindowPage,
+    table: &TableFacts,
+    pins: &[u16],
+    transfers: &[Transfer],
+    why: &WindowFacts,
+    place: usize,
+) -> bool
+    ensures value { result ≡ goes_on (facts_at table.now pins.now transfers.now why.now place) page.now }
+    ensures free { result ≡ true → IsFree (belief_of page.now) }
+    ensures own { result ≡ true → must_own (bars_of (facts_at table.now pins.now transfers.now why.now place) (known_of page.now)) ≡ true → ShowsNone (belief_of page.now) }
+{
+    let facts = facts_of(table, pins, transfers, why, place);
+    window_pages::may_go_on(page, &facts)
+}
+
+// Returns whether a call of the monitor may go on that gives a page up.
+fn gives_up(page: &WindowPage) -> bool
+    ensures value { result ≡ goes_on (only_called true) page.now }
+    ensures free { result ≡ true → IsFree (belief_of page.now) }
+{
+    window_pages::may_go_on(page, &only_called(true))
+}
+
+// Returns whether the memory of the page at a place may be exchanged.
+fn moves(
+    page: &WindowPage,
+    table: &TableFacts,
+    pins: &[u16],
+    transfers: &[Transfer],
+    place: usize,
+) -> bool
+    ensures value { result ≡ moves (facts_at table.now pins.now transfers.now (only_called false) place) page.now }
+    ensures free { result ≡ true → IsFree (belief_of page.now) }
+{
+    let facts = facts_of(table, pins, transfers, &only_called(false), place);
+    window_pages::is_movable(page, &facts)
+}
+
+/// Returns whether a call of the monitor may go on by each of so many pages, of which this is so from then on: no write to any of them waits,
+/// and none that must have memory of its own shows a frame. Returns false if they aren't all there.
+pub fn may_go_on(
+    pages: &[WindowPage],
+    table: &TableFacts,
+    pins: &[u16],
+    transfers: &[Transfer],
+    why: &WindowFacts,
+    first: usize,
+    count: usize,
+) -> bool
+    ensures goes_on { result ≡ (has_pages first count pages.now && all_at (λ i x. goes_on (facts_at table.now pins.now transfers.now why.now i) x) first count pages.now) }
+    ensures free { result ≡ true → Each (λ i x. IsFree (belief_of x)) first count pages.now }
+    ensures own { result ≡ true → Each (λ i x. must_own (bars_of (facts_at table.now pins.now transfers.now why.now i) (known_of x)) ≡ true → ShowsNone (belief_of x)) first count pages.now }
+{
+    let are_there = has_pages(pages, first, count);
+    if !are_there {
+        return false;
+    }
+    for step in 0..count {
+        let place = first + step;
+        let may = goes_on(&pages[place], table, pins, transfers, why, place);
+        if !may {
+            return false;
+        }
+    }
+    true
+}
+
+/// Returns whether a call of the monitor may go on that gives so many pages up: no write to any of them waits. Returns false if they aren't all
+/// there.
+pub fn may_give_up(pages: &[WindowPage], first: usize, count: usize) -> bool
+    ensures gives_up { result ≡ (has_pages first count pages.now && all_at (λ i x. goes_on (only_called true) x) first count pages.now) }
+    ensures free { result ≡ true → Each (λ i x. IsFree (belief_of x)) first count pages.now }
+{
+    let are_there = has_pages(pages, first, count);
+    if !are_there {
+        return false;
+    }
+    for step in 0..count {
+        let may = gives_up(&pages[first + step]);
+        if !may {
+            return false;
+        }
+    }
+    true
+}
+
+/// Returns whether the memory of each of so many pages may be exchanged for other memory: none of them is held, and nothing keeps one from
+/// being lent. Returns false if they aren't all there.
+pub fn are_movable(
+    pages: &[WindowPage],
+    table: &TableFacts,
+    pins: &[u16],
+    transfers: &[Transfer],
+    first: usize,
+    count: usize,
+) -> bool
+    ensures movable { result ≡ (has_pages first count pages.now && all_at (λ i x. moves (facts_at table.now pins.now transfers.now (only_called false) i) x) first count pages.now) }
+    ensures free { result ≡ true → Each (λ i x. IsFree (belief_of x)) first count pages.now }
+{
+    let are_there = has_pages(pages, first, count);
+    if !are_there {
+        return false;
+    }
+    for step in 0..count {
+        let place = first + step;
+        let may = moves(&pages[place], table, pins, transfers, place);
+        if !may {
+            return false;
+        }
+    }
+    true
+}

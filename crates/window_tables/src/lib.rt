@@ -1,0 +1,12 @@
+//! What is so of a window's pages, and what becomes of many of them at once: decided over the tables that the caller keeps.
+#![tactic(auto)]
+
+mod ask;
+mod changes;
+mod facts;
+mod laws;
+
+pub use ask::{are_movable, may_give_up, may_go_on};
+pub use changes::{Change, PART, note};
+pub use facts::{TableFacts, facts_of};
+pub use laws::table_law;
