@@ -26,7 +26,9 @@ enum {
     SLOTS_OF_QUESTION = 4,
     RECENT_MOST = 16777216, /* questions that a host may remember */
     EVENTS = 32,
-    BACKLOG = 64
+    BACKLOG = 64,
+    LISTED_MOST = 65536, /* free frames that have memory still, while slots of ended processes are released: 256 MiB */
+    RELEASE_MS = 5       /* until it is looked again whether there are fewer */
 };
 static const uint64_t tick_ns = 100000000;
 
@@ -156,15 +158,27 @@ static int until_tick_ms(const struct domain *domain) {
     return now < domain->next_tick_ns ? (int)((domain->next_tick_ns - now) / 1000000) + 1 : 0;
 }
 
-/* Whether slots of processes that have ended are to be released. A lend that waits for the memory of free frames comes first. */
-static bool is_to_release(const struct domain *domain) { return domain->ending > 0 && !domain->is_lend_waiting; }
+/*
+ * Whether slots of processes that have ended are to be released. A lend that waits for the memory of free frames comes first. And it is to wait
+ * for the memory of LISTED_MOST frames at most, however many the processes had.
+ */
+static bool is_to_release(struct domain *domain) {
+    return domain->ending > 0 && !domain->is_lend_waiting && atomic_load(&domain->frames.waiting) < LISTED_MOST;
+}
+
+/* How many milliseconds the thread sleeps if nothing happens: a few if slots are to be released once memory was given back. */
+static int sleep_ms(struct domain *domain) {
+    int tick_ms = until_tick_ms(domain);
+    if (is_to_release(domain)) return 0;
+    return domain->ending > 0 && tick_ms > RELEASE_MS ? RELEASE_MS : tick_ms;
+}
 
 static void *serve(void *of) {
     struct domain *domain = of;
     struct epoll_event events[EVENTS];
     ask_for_short_slices(); /* all clients wait for this thread */
     for (bool goes_on = true; goes_on && !atomic_load(&domain->must_end);) {
-        int count = epoll_wait(domain->poll, events, EVENTS, is_to_release(domain) ? 0 : until_tick_ms(domain));
+        int count = epoll_wait(domain->poll, events, EVENTS, sleep_ms(domain));
         for (int i = 0; i < count && goes_on; i++) goes_on = handle(domain, (union event_key){.key = events[i].data.u64});
         if (is_to_release(domain)) clients_release_some(domain);
         if (now_ns() < domain->next_tick_ns) continue;
