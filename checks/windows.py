@@ -32,7 +32,7 @@ from harness import TOP, LeftOut, StrPath, Tally
 
 TESTS, OUT = TOP / "window/tests", BUILT / "window"
 WRAPS = {
-    "guards": ["ioctl", "madvise", "mremap", "fallocate"],
+    "guards": ["ioctl", "madvise", "mremap", "fallocate", "mmap"],
     "parts": ["ioctl", "madvise", "mremap", "fallocate"],
     "full": ["memfd_create", "fcntl"],
 }
@@ -67,6 +67,8 @@ GUARDED = "return cause == 0 ? pagemap_are_guarded(&windows->pagemap, at, PART) 
 REFUSED = "else pageshare_window_refused("
 LEAVES = "(struct pageshare_window_facts){.leaves = true}"
 WITHDRAWN = "if (order != PAGESHARE_WINDOW_RELEASE) pageshare_window_withdraw(&window->pages[number]);"
+WATCHED = "is_begun ? PAGESHARE_WINDOW_TAKEN_WATCHED : PAGESHARE_WINDOW_NOT_TAKEN"
+PUT = "\n        if (cause == 0 && remapped)"
 COMPARED = "is_equal = is_frame ? are_equal(page, windows->frames_at + bytes_of(frame)) : is_zero(page);"
 # In place of a call's name: its arguments are looked at, and the call is left out.
 LEFT_OUT = "(void)("
@@ -98,7 +100,7 @@ BODIES = {
     "notes no write": Body("pages.c", "pageshare_window_written(", LEFT_OUT, ["pages"]),
     "notes no write to a frame of the past": Body("pages.c", "pageshare_window_stop_past(", LEFT_OUT, ["leaves"]),
     "notes no zeros": Body("pages.c", "pageshare_window_give_back(", LEFT_OUT, ["parts"]),
-    "notes zeros as frames": Body("pages.c", "if (is_own) pageshare", "if (is_own && is_moved) pageshare", ["pages"]),
+    "notes zeros as frames": Body("pages.c", "    if (is_own)\n", "    if (is_own && is_moved)\n", ["pages"]),
     "counts a refused order as done": Body("pages.c", REFUSED, "else pageshare_window_done(", ["pages"]),
     "keeps an order with which nobody began": Body("pages.c", WITHDRAWN, "", ["guards"]),
     "counts all pages in the first part": Body("set.h", "return &window->counts[(page + window->lead) / PART];",
@@ -106,6 +108,14 @@ BODIES = {
     "forgets slots to release": Body("set.h", "belief_of(page) <= PAGESHARE_WINDOW_UNRELEASED;",
                                      "belief_of(page) <= PAGESHARE_WINDOW_HOMING;", ["pages"]),
     "never says that a watch ended": Body("lend.c", "    note_step(hold, i, is_done);", "", ["guards"]),
+    "takes what is watched for what was refused": Body("lend.c", WATCHED, "PAGESHARE_WINDOW_NOT_TAKEN", ["guards"]),
+    "takes what is aside for guarded": Body("lend.c", "hold->moves ? PAGESHARE_WINDOW_TAKEN_ASIDE :", "false ? 0 :", ["parts"]),
+    "counts what can't be put back as put back": Body("lend.c", f"cause == 0);{PUT}", f"true);{PUT}", ["guards"]),
+    "counts what can't be mapped as mapped": Body("lend.c", "note_step(hold, place, cause == 0);", "note_step(hold, place, true);", ["guards"]),
+    "forgets what is stuck": Body("lend.c", "        add_stuck(windows, hold->window,", "        if (false) add_stuck(windows, hold->window,", ["guards"]),
+    "keeps the order of what is stuck": Body("lend.c", "pageshare_window_withdraw(page_of(hold, i));", ";", ["guards"]),
+    "counts what stays stuck as let go": Body("pages.c", "stuck->place, cause == 0);", "stuck->place, true);", ["guards"]),
+    "takes what is stuck for free": Body("pages.c", "page, PAGESHARE_WINDOW_PLACE_GUARDED, 0);", "page, PAGESHARE_WINDOW_PLACE_FREE, 0);", ["guards"]),
 }
 
 

@@ -42,7 +42,9 @@ static void watched(const struct uffdio_range *range) {
     if (planned.watches != NULL && is_in) planned.watches((uintptr_t)range->start, (size_t)range->len);
 }
 
-static bool is_put(uint64_t to) { return to >= planned.window && to < planned.window_end && planned.puts > 0; }
+static bool is_in_window(uint64_t to) { return to >= planned.window && to < planned.window_end; }
+
+static bool is_put(uint64_t to) { return is_in_window(to) && planned.puts > 0; }
 
 int __wrap_ioctl(int fd, unsigned long request, ...) {
     va_list rest;
@@ -76,6 +78,10 @@ void *__wrap_mremap(void *at, size_t old_bytes, size_t bytes, int flags, ...) {
     va_start(rest, flags);
     void *to = va_arg(rest, void *);
     va_end(rest);
+    if (is_in_window((uintptr_t)to) && fails(&planned.copies)) {
+        errno = ENOMEM;
+        return MAP_FAILED;
+    }
     if (is_put((uintptr_t)to)) {
         planned.puts--;
         errno = ENOMEM;

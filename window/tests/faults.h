@@ -10,6 +10,7 @@
 struct planned {
     int protects;                                /* write protection fails half-way, having protected half of the range */
     int puts;                                    /* a page can't be moved into a window, nor copied, nor remapped */
+    int copies;                                  /* a mapping can't be copied or moved into a window */
     int releases;                                /* a registration isn't ended */
     int populates;                               /* MADV_POPULATE_WRITE fails with EINVAL */
     int reads, huge;                             /* MADV_POPULATE_READ, MADV_HUGEPAGE fails with ENOMEM */

@@ -63,18 +63,27 @@ static void change(uintptr_t at, size_t bytes) {
     for (size_t page = 0; page < bytes / PAGE; page++) make_differ((uint8_t *)at, page);
 }
 
-/* Pages that changed since they were lent can't be put back for some time. */
+/* Whether pages that `change` has changed, but for two of them, are as it left them. */
+static bool are_kept(const uint8_t *at, size_t written, size_t discarded) {
+    bool are = true;
+    for (size_t page = 0; page < PAGES; page++)
+        are = are && (page == written || page == discarded || (at[page * PAGE] == 1 && at[page * PAGE + 200] == 1));
+    return are;
+}
+
+/* Pages that changed since they were lent can't be put back for some time: first all of a hold, and then some of them again. */
 static void put_fails(void) {
+    enum { PUTS = HOLD_MOST + 4 };
     const struct windows_config config = {.pins = WINDOWS_PINS_NEVER};
     struct fixture fixture = fixture_make(&config, PAGES);
     uint8_t *at = memory(PAGES);
     struct window *window = window_over(&fixture, at, PAGES);
     struct write write;
     fill(at, PAGES, 1);
-    planned = (struct planned){.puts = 3, .watches = change, .window = (uintptr_t)at, .window_end = (uintptr_t)at + PAGES * PAGE};
+    planned = (struct planned){.puts = PUTS, .watches = change, .window = (uintptr_t)at, .window_end = (uintptr_t)at + PAGES * PAGE};
     struct window_result result = {0};
     for (int i = 0; i < 20 && result.status != WINDOW_STUCK; i++) result = look(fixture.windows);
-    if (planned.puts == 3) {
+    if (planned.puts == PUTS) {
         puts("left out: pages that can't be put back, since this system can't move pages");
     } else {
         check(result.status == WINDOW_STUCK && result.cause == ENOMEM, "the look reports pages that are stuck");
@@ -84,10 +93,47 @@ static void put_fails(void) {
         for (int i = 0; i < 5; i++) result = look(fixture.windows);
         check(is_done_in_time(&write), "a write goes on when they are put back");
         pthread_join(write.thread, NULL);
-        check(at[5 * PAGE] == 200 && at[7 * PAGE] == 1 && at[7 * PAGE + 100] != 1, "no byte of them is lost");
+        check(at[5 * PAGE] == 200 && at[7 * PAGE + 100] != 1 && are_kept(at, 5, 6), "no byte of them is lost");
     }
     planned = (struct planned){0};
     must(window_free(window, WINDOW_DROP), "window_free");
+    fixture_free(&fixture);
+}
+
+/* Calls that map something at a place and are yet to fail. */
+static int maps_to_refuse;
+
+void *__real_mmap(void *at, size_t bytes, int protection, int flags, int file, off_t from);
+void *__wrap_mmap(void *at, size_t bytes, int protection, int flags, int file, off_t from);
+
+void *__wrap_mmap(void *at, size_t bytes, int protection, int flags, int file, off_t from) {
+    if ((flags & MAP_FIXED) == 0 || maps_to_refuse == 0) return __real_mmap(at, bytes, protection, flags, file, from);
+    maps_to_refuse--;
+    errno = ENOMEM;
+    return MAP_FAILED;
+}
+
+/* Frames can't be mapped: the pages have their memory still, and are lent later. */
+static void map_fails(bool never_move) {
+    const struct windows_config config = {.pins = WINDOWS_PINS_NEVER, .never_move = never_move};
+    struct fixture fixture = fixture_make(&config, PAGES);
+    uint8_t *at = memory(PAGES);
+    struct window *window = window_over(&fixture, at, PAGES);
+    fill(at, PAGES, 1);
+    /* (no mapping can be moved there either) */
+    planned = (struct planned){.copies = 3, .window = (uintptr_t)at, .window_end = (uintptr_t)at + PAGES * PAGE};
+    maps_to_refuse = 3;
+    struct window_result result = {0};
+    for (int i = 0; i < 20 && result.status != WINDOW_NO_MAPPING; i++) result = look(fixture.windows);
+    check(result.status == WINDOW_NO_MAPPING && result.cause == ENOMEM, "the look reports that a frame can't be mapped");
+    check(maps_to_refuse < 3, "a mapping was refused");
+    bool are = true;
+    for (size_t page = 0; page < PAGES; page++) are = are && are_bytes(at + page * PAGE, 1);
+    check(are, "the pages have their bytes");
+    planned = (struct planned){0};
+    maps_to_refuse = 0;
+    check(look_until(&fixture, PAGES) == PAGES, "later looks lend them");
+    must(window_free(window, WINDOW_TAKE_HOME), "window_free");
     fixture_free(&fixture);
 }
 
@@ -174,6 +220,8 @@ static void punch_fails(void) {
 int main(void) {
     guard_fails();
     put_fails();
+    map_fails(false);
+    map_fails(true);
     release_fails(false);
     release_fails(true);
     release_of_zeros_fails(false);
