@@ -60,30 +60,30 @@ get_drop zero i zs = ap (λ k. slice_get zs k) (none_more i)
 get_drop (suc s) i [] = refl
 get_drop (suc s) i (z ∷ zs) = get_drop s i zs ∙ ap (λ k. slice_get (z ∷ zs) k) (one_more s i)
 
-lower : (lead place : ℕ) → 512 * part_at lead place ≤ place + lead
+pub lower : (lead place : ℕ) → 512 * part_at lead place ≤ place + lead
 lower lead place = omega arith
 
-upper : (lead place : ℕ) → place + lead < 512 * (part_at lead place + 1)
+pub upper : (lead place : ℕ) → place + lead < 512 * (part_at lead place + 1)
 upper lead place = omega arith
 
 short : (lead k : ℕ) (pages : List WindowPage) → length (pages_of lead k pages) ≤ 65535
 short lead k pages = omega (arith, length-drop (512 * k - lead) (take (512 * (k + 1) - lead) pages), length-take (512 * (k + 1) - lead) pages)
 
 -- the place of a page among those of its part
-own_set : (lead k m place : ℕ) (pages : List WindowPage) (y : WindowPage) → place ≡ 512 * k - lead + m → place < 512 * (k + 1) - lead →
+pub own_set : (lead k m place : ℕ) (pages : List WindowPage) (y : WindowPage) → place ≡ 512 * k - lead + m → place < 512 * (k + 1) - lead →
     pages_of lead k (slice_set pages place y) ≡ slice_set (pages_of lead k pages) m y
 own_set lead k m place pages y e l =
     ap (λ v. drop (512 * k - lead) v) (take-set-lt (512 * (k + 1) - lead) pages place y l)
     ∙ (ap (λ i. drop (512 * k - lead) (slice_set (take (512 * (k + 1) - lead) pages) i y)) e ∙ drop-set-add (512 * k - lead) (take (512 * (k + 1) - lead) pages) m y)
 
-own_get : (lead k m place : ℕ) (pages : List WindowPage) → place ≡ 512 * k - lead + m → place < 512 * (k + 1) - lead →
+pub own_get : (lead k m place : ℕ) (pages : List WindowPage) → place ≡ 512 * k - lead + m → place < 512 * (k + 1) - lead →
     slice_get (pages_of lead k pages) m ≡ slice_get pages place
 own_get lead k m place pages e l =
     get_drop (512 * k - lead) m (take (512 * (k + 1) - lead) pages)
     ∙ (ap (λ i. slice_get (take (512 * (k + 1) - lead) pages) i) (sym e) ∙ get_take (512 * (k + 1) - lead) place pages l)
 
 -- a page of another part
-other_set : (lead k place : ℕ) (pages : List WindowPage) (y : WindowPage) → (part_at lead place ≡ k → ⊥) → pages_of lead k (slice_set pages place y) ≡ pages_of lead k pages
+pub other_set : (lead k place : ℕ) (pages : List WindowPage) (y : WindowPage) → (part_at lead place ≡ k → ⊥) → pages_of lead k (slice_set pages place y) ≡ pages_of lead k pages
 other_set lead k place pages y ne = pick (cases_lt k (part_at lead place)) where
   pick : (k < part_at lead place) ⊎ (part_at lead place ≤ k) → pages_of lead k (slice_set pages place y) ≡ pages_of lead k pages
   pick (inl l) = ap (λ v. drop (512 * k - lead) v) (take-set-le (512 * (k + 1) - lead) pages place y (omega (arith, lower lead place)))

@@ -1,2 +1,3 @@
+mod Behind
 mod Counts
 mod Places

@@ -1,5 +1,5 @@
 -- Pages of a range, one more.
-use Rattle.std.proofs.Common.{◌≡◌, ◌∙◌, ℕ, zero, suc, ◌+◌, ◌<◌, ◌≤◌, ◌⊎◌, inl, inr, Bool, true, false, ◌&&◌, List, [], ◌∷◌, length, Some, Option, refl, get_or, ap, sym, subst, arith}
+use Rattle.std.proofs.Common.{◌≡◌, ◌∙◌, ℕ, zero, suc, ◌+◌, ◌<◌, ◌≤◌, ◌⊎◌, inl, inr, Bool, true, false, ◌&&◌, List, [], ◌∷◌, length, Some, None, Option, refl, get_or, ap, sym, subst, arith}
 use Rattle.std.specs.Prelude.{slice_get, slice_set}
 use Rattle.std.specs.Option.{option_map_or}
 use Rattle.std.proofs.lemmas.Bool.{cases_eq}
@@ -126,3 +126,9 @@ changed_more Becomes first n old now x y c e b = record {
   inside = more_inside Becomes first n old now x y c e b;
   outside = more_outside Becomes first n old now y c;
 }
+
+-- no page is there
+pub get_none : (pages : List WindowPage) (i : ℕ) → length pages ≤ i → slice_get pages i ≡ None
+get_none [] i l = refl
+get_none (x ∷ pages) zero l = absurd (omega (arith, l))
+get_none (x ∷ pages) (suc i) l = get_none pages i (omega (arith, l))

@@ -1,9 +1,9 @@
 -- What becomes of pages in a row.
-use Rattle.std.specs.Prelude.{◌≡◌, ℕ, ◌+◌, ◌*◌, ◌/◌, ◌%◌, ◌<◌, ◌≤◌, Bool, true, false, ◌&&◌, nat_eq, List, length, Some, slice_get, ◌⊎◌}
+use Rattle.std.specs.Prelude.{◌≡◌, ℕ, ◌+◌, ◌*◌, ◌/◌, ◌%◌, ◌<◌, ◌≤◌, Bool, true, false, ◌&&◌, nat_eq, nat_lt, List, length, Some, slice_get, ◌⊎◌}
 use Rattle.page_lender.specs.Events.{HeardRightly}
 use Rattle.window_pages.specs.Bytes.{belief_of, known_of, notes_of}
-use Rattle.window_pages.specs.Changed.{covered, detached, given_up, gone, notes_if, uncovered, uncovered_notes, unmapped}
-use Rattle.window_pages.specs.Known.{clued, shows_past}
+use Rattle.window_pages.specs.Changed.{covered, detached, given_up, gone, notes_if, moved_first, uncovered, uncovered_notes, unmapped}
+use Rattle.window_pages.specs.Known.{clued, kept_by, shows_past}
 use Rattle.window_pages.specs.declared.page.KnownPage.{KnownPage}
 use Rattle.window_pages.specs.declared.page.PageNotes.{PageNotes}
 use Rattle.window_pages.specs.declared.page.WindowPage.{WindowPage}
@@ -41,6 +41,19 @@ discards Unmapped = true
 discards Left = false
 discards Detached = false
 
+-- other memory is put at their places
+abbrev pub puts_memory : Change → Bool
+puts_memory (Covered frame) = true
+puts_memory (Uncovered moved) = true
+puts_memory GivenUp = false
+puts_memory Unmapped = false
+puts_memory Left = false
+puts_memory Detached = false
+
+-- the page behind so many pages gets its mark
+abbrev pub marks : Change → ℕ → Bool
+marks change count = puts_memory change && nat_lt 0 count
+
 -- This has become of a page that lies so many pages behind the first.
 pub record IsNow (change : Change) (behind : ℕ) (old new : WindowPage) : Type 0 where
   pub known : known_of new ≡ known_then change behind (known_of old)
@@ -52,3 +65,20 @@ pub record Changed (Becomes : ℕ → WindowPage → WindowPage → Type 0) (fir
   pub length : length new ≡ length old
   pub inside : (n : ℕ) (x y : WindowPage) → n < count → slice_get old (first + n) ≡ Some x → slice_get new (first + n) ≡ Some y → Becomes n x y
   pub outside : (i : ℕ) → (i < first) ⊎ (first + count ≤ i) → slice_get new i ≡ slice_get old i
+
+-- The page begins what was moved, if it was moved.
+pub record NowBegins (old new : WindowPage) : Type 0 where
+  pub known : known_of new ≡ moved_first (known_of old)
+  pub notes : notes_of new ≡ kept_by (known_of old).belief (notes_of old)
+
+-- This has become of the page behind so many pages: it begins what was moved if it gets its mark, and else it stays.
+pub record IsBehind (change : Change) (count : ℕ) (old new : WindowPage) : Type 0 where
+  pub begins : marks change count ≡ true → NowBegins old new
+  pub same : marks change count ≡ false → new ≡ old
+
+-- This has become of so many pages from one place on, and of the page behind them. No other page changes.
+pub record RangeChanged (change : Change) (first count : ℕ) (old new : List WindowPage) : Type 0 where
+  pub length : length new ≡ length old
+  pub inside : (n : ℕ) (x y : WindowPage) → n < count → slice_get old (first + n) ≡ Some x → slice_get new (first + n) ≡ Some y → IsNow change n x y
+  pub behind : (x y : WindowPage) → slice_get old (first + count) ≡ Some x → slice_get new (first + count) ≡ Some y → IsBehind change count x y
+  pub outside : (i : ℕ) → (i < first) ⊎ (first + count < i) → slice_get new i ≡ slice_get old i

@@ -4,7 +4,7 @@ use Rattle.window_pages.specs.Counted.{counts_then}
 use Rattle.window_pages.specs.Laws.{Counts}
 use Rattle.window_pages.specs.declared.counts.PartCounts.{PartCounts}
 use Rattle.window_pages.specs.declared.page.WindowPage.{WindowPage}
-use Rattle.window_tables.specs.Changes.{Changed, IsNow}
+use Rattle.window_tables.specs.Changes.{Changed, IsNow, NowBegins, RangeChanged}
 use Rattle.window_tables.specs.Ranges.{has_pages}
 use Rattle.window_tables.specs.declared.changes.Change.{Change}
 
@@ -41,10 +41,21 @@ pub record OneChanges (Becomes : WindowPage → WindowPage → Type 0) (lead pla
   pub follows : parts_new ≡ slice_set parts (part_at lead place) (counts_then before after part)
   pub becomes : Becomes before after
 
+-- Each of so many pages from one place on becomes what this says, and the counts of their parts follow. Each page still has a part.
+pub record EachChanges (what : Change) (lead first count : ℕ) (old new : List WindowPage) (parts parts_new : List PartCounts) : Type 0 where
+  pub pages : Changed (IsNow what) first count old new
+  pub counted : Counted lead old parts → Counted lead new parts_new
+
+-- The page at a place, if it is there, begins what was moved, if it was moved.
+pub record BeginsAt (place : ℕ) (old new : List WindowPage) : Type 0 where
+  pub after : WindowPage
+  pub changed : new ≡ slice_set old place after
+  pub becomes : (x : WindowPage) → slice_get old place ≡ Some x → NowBegins x after
+
 -- What becomes of so many pages from one place on was noted, exactly if they are there and each page of the table has a part. Else nothing changes.
 pub record Notes (what : Change) (lead first count : ℕ) (is_noted : Bool) (old new : List WindowPage) (parts parts_new : List PartCounts) : Type 0 where
   pub noted : is_noted ≡ can_note lead first count old parts
-  pub pages : is_noted ≡ true → Changed (IsNow what) first count old new
+  pub pages : is_noted ≡ true → RangeChanged what first count old new
   pub counted : Counted lead old parts → Counted lead new parts_new
   pub same : is_noted ≡ false → new ≡ old
   pub same_parts : is_noted ≡ false → parts_new ≡ parts

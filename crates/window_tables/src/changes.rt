@@ -1,14 +1,12 @@
 //! What becomes of a range of a window's pages, and of the counts of their parts.
 ghost use Rattle.std.specs.Prelude.{◌≡◌, ◌+◌, ◌^◌, ◌<◌, ◌≤◌, false, length, true};
 ghost use Rattle.window_pages.specs.Counted.{counts_then};
-ghost use Rattle.window_tables.specs.Changes.{IsNow, clue_of};
-ghost use Rattle.window_tables.specs.Tables.{Notes, OneChanges, can_note, has_parts};
+ghost use Rattle.window_tables.specs.Changes.{IsNow, clue_of, marks, puts_memory};
+ghost use Rattle.window_tables.specs.Tables.{BeginsAt, EachChanges, Notes, OneChanges, can_note, has_parts};
 
+use crate::PART;
 use crate::ask::has_pages;
-use window_pages::{PartCounts, WindowPage, cover, detach, give_up, leave, uncover, unmap};
-
-/// The pages that a part has. The first and the last part of a window may have fewer.
-pub const PART: usize = 512;
+use window_pages::{PartCounts, WindowPage, begin, cover, detach, give_up, leave, uncover, unmap};
 
 // What a clue is below.
 const CLUES: u64 = 32_768;
@@ -55,6 +53,27 @@ fn change_one(page: &mut WindowPage, part: &mut PartCounts, change: Change, behi
     }
 }
 
+// Returns whether other memory is put at the places of pages.
+fn puts_memory(change: Change) -> bool
+    ensures { result ≡ puts_memory change }
+{
+    match change {
+        Change::Covered(_) => true,
+        Change::Uncovered(_) => true,
+        Change::GivenUp => false,
+        Change::Unmapped => false,
+        Change::Left => false,
+        Change::Detached => false,
+    }
+}
+
+// Returns whether the page behind so many pages gets its mark.
+fn marks(change: Change, count: usize) -> bool
+    ensures { result ≡ marks change count }
+{
+    puts_memory(change) && count > 0
+}
+
 // Returns whether each page of a table has a part, where so many pages of the first part lie before the table.
 fn has_parts(pages: &[WindowPage], parts: &[PartCounts], lead: usize) -> bool
     ensures { result ≡ has_parts lead pages.now parts.now }
@@ -99,8 +118,38 @@ fn change_at(
     parts[number] = part;
 }
 
-/// Notes what becomes of `count` pages from `first` on. `parts` has the counts of each part, and `lead` pages of the first part lie before the
-/// table. Returns false, and changes nothing, if they aren't all there, or if the table has more pages than these parts.
+// Changes so many pages from one on.
+fn change_each(
+    pages: &mut [WindowPage],
+    parts: &mut [PartCounts],
+    lead: usize,
+    first: usize,
+    count: usize,
+    what: Change,
+)
+    requires within { first + count ≤ length pages.old }
+    requires parts { has_parts lead pages.old parts.old ≡ true }
+    ensures { EachChanges what lead first count pages.old pages.new parts.old parts.new }
+{
+    for behind in 0..count {
+        change_at(pages, parts, lead, first + behind, what, behind);
+    }
+}
+
+// Marks the page at a place, if it is there: it begins what was moved, if it was moved.
+fn begin_at(pages: &mut [WindowPage], place: usize)
+    ensures { BeginsAt place pages.old pages.new }
+{
+    if place < pages.len() {
+        let mut page = pages[place];
+        begin(&mut page);
+        pages[place] = page;
+    }
+}
+
+/// Notes what becomes of `count` pages from `first` on. Where other memory is put at their places, the page behind them begins what was moved,
+/// if it was moved. `parts` has the counts of each part, and `lead` pages of the first part lie before the table. Returns false, and changes
+/// nothing, if they aren't all there, or if the table has more pages than these parts.
 pub fn note(
     pages: &mut [WindowPage],
     parts: &mut [PartCounts],
@@ -115,8 +164,10 @@ pub fn note(
     if !can {
         return false;
     }
-    for behind in 0..count {
-        change_at(pages, parts, lead, first + behind, what, behind);
+    change_each(pages, parts, lead, first, count, what);
+    let marks = marks(what, count);
+    if marks {
+        begin_at(pages, first + count);
     }
     true
 }

@@ -5,8 +5,10 @@ mod ask;
 mod changes;
 mod facts;
 mod laws;
+mod parts;
 
 pub use ask::{are_movable, may_give_up, may_go_on};
-pub use changes::{Change, PART, note};
+pub use changes::{Change, note};
 pub use facts::{TableFacts, facts_of};
 pub use laws::table_law;
+pub use parts::{PART, WindowPart};

@@ -1,7 +1,7 @@
 use Rattle.std.proofs.Common.{◌≡◌, true}
 use Rattle.window_tables.specs.Changes.{Changed, IsNow}
 use Rattle.window_tables.specs.Tables.{Counted, has_parts}
-use Rattle.window_tables.proofs.changes.note.Given as goal
+use Rattle.window_tables.proofs.changes.change_each.Given as goal
 
 abbrev pub invariant-loop-behind : goal.invariant-loop-behind
 invariant-loop-behind l = record {
