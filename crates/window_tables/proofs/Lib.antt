@@ -1,3 +1,6 @@
 mod Behind
 mod Counts
+mod Differences
+mod NewTables
 mod Places
+mod Sums

@@ -50,6 +50,15 @@ puts_memory Unmapped = false
 puts_memory Left = false
 puts_memory Detached = false
 
+-- what is mapped at their places stays
+abbrev pub keeps_mappings : Change → Bool
+keeps_mappings (Covered frame) = false
+keeps_mappings (Uncovered moved) = false
+keeps_mappings GivenUp = true
+keeps_mappings Unmapped = false
+keeps_mappings Left = true
+keeps_mappings Detached = false
+
 -- the page behind so many pages gets its mark
 abbrev pub marks : Change → ℕ → Bool
 marks change count = puts_memory change && nat_lt 0 count

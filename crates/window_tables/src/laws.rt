@@ -1,9 +1,20 @@
 //! What the counts of a table are worth. The function's body is empty: the contract is all there is.
-ghost use Rattle.window_tables.specs.Laws.{EachTableIsCounted, NoneIsMissed};
+ghost use Rattle.window_tables.specs.Laws.{DifferencesCount, EachNumberIsRight, EachTableIsCounted, NoMoreCome, NoneIsMissed, NotesStayInside, SomeKeepMappings};
 
 /// Whatever calls there are for the pages of a table whose bytes are zeros at first, in whatever order, the counts of each part are right of its
 /// pages. And where a part counts no slot to release, none of its pages has one that is.
 pub fn table_law()
     ensures counted { EachTableIsCounted }
     ensures missed { NoneIsMissed }
+{}
+
+/// Where only pages of a range change, a table has as many mappings as before, less `mappings_at` of the range before, and more by `mappings_at` of
+/// it then. No more come than `mappings_more` says. What `note` notes is such a change, and where content is given up or pages leave the same
+/// stays mapped. So a number that is kept by these differences is how many mappings the table has.
+pub fn mappings_law()
+    ensures differences { DifferencesCount }
+    ensures most { NoMoreCome }
+    ensures noted { NotesStayInside }
+    ensures stays { SomeKeepMappings }
+    ensures kept { EachNumberIsRight }
 {}
