@@ -52,7 +52,7 @@ target frames EqualZeros = zeros
 target frames PuttingBack = zeros
 
 -- What the system did in a step with a page of which this is believed and whose memory is there: what it refuses changes nothing. Where nothing is
--- at a page's place when its watch ends, whoever reads it finds zeros.
+-- at a page's place when its watch ends, anyone who reads it finds zeros.
 pub data Did (frames : ℕ → List ℕ) (belief : Belief) (place : HeldPlace) : HoldStep → Bool → Spot → Spot → Type 0 where
   refuses : (step : HoldStep) (spot : Spot) → Did frames belief place step false spot spot
   rests : (spot : Spot) → Did frames belief place Over true spot spot

@@ -1,7 +1,7 @@
 //! What a hold does to a page's bytes. The functions' bodies are empty: the contract is all there is.
 ghost use Rattle.page_holds.specs.Laws.{EachHoldIsRight, EachStepLeavesLess};
 
-/// Whatever comes of the steps of a hold, and in whatever order they are asked for: whoever reads the page finds what its guest stored last.
+/// Whatever comes of the steps of a hold, and in whatever order they are asked for: anyone who reads the page finds what its guest stored last.
 /// Where nobody waits for the page, it is there. For that, each outcome is true, and frames keep their bytes meanwhile.
 pub fn hold_law()
     ensures { EachHoldIsRight }
