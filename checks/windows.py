@@ -101,6 +101,8 @@ BODIES = {
     "notes no write to a frame of the past": Body("pages.c", "pageshare_window_stop_past(", LEFT_OUT, ["leaves"]),
     "notes no zeros": Body("pages.c", "pageshare_window_give_back(", LEFT_OUT, ["parts"]),
     "notes zeros as frames": Body("pages.c", "    if (is_own)\n", "    if (is_own && is_moved)\n", ["pages"]),
+    "takes no mappings away that frames replace": Body("pages.c", "    *mappings -= mappings_of(window, first, count);\n", "", ["pages"]),
+    "counts no mappings of a part that changes": Body("parts.c", "    counts->mappings += mappings_of(window, first, PART);\n", "", ["parts"]),
     "counts a refused order as done": Body("pages.c", REFUSED, "else pageshare_window_done(", ["pages"]),
     "keeps an order with which nobody began": Body("pages.c", WITHDRAWN, "", ["guards"]),
     "counts all pages in the first part": Body("set.h", "return &window->counts[(page + window->lead) / PART];",

@@ -356,19 +356,13 @@ void lender_failed(struct windows *windows, int cause) {
     unlock_set(windows);
 }
 
-/* How many mappings more there may be when a page comes to show a frame: it may be one by itself, between two others. */
-static size_t mappings_added(const struct window *window, size_t page) {
-    size_t most = (page > 0 ? 1u : 0u) + (page + 1 < window->count ? 1u : 0u), now = mappings_of(window, page, 1);
-    return most - now;
-}
-
 /*
  * Whether the system has mappings for a page that comes to show a frame, beside `*more` that others will take. Adds what the page takes to
  * them. Otherwise the page is asked about again later. With the lock.
  */
 static bool has_mappings(struct window *window, size_t number, size_t *more) {
     struct windows *windows = window->windows;
-    size_t added = mappings_added(window, number);
+    size_t added = mappings_more(window, number, 1);
     if (!pageshare_window_has_mappings(windows->mappings_most, windows->counts.mappings + *more, added)) {
         note_crowded(windows, 1);
         pageshare_window_asked_last(&window->pages[number], part_counts(window, number));

@@ -141,31 +141,25 @@ size_t alike(const struct window *window, size_t first, size_t most) {
     return pageshare_window_alike(window->pages + first, most);
 }
 
-bool is_one_mapping(const struct window *window, size_t number) {
-    const page_entry *after = &window->pages[number], *before = after - 1;
-    if (is_over(before) != is_over(after)) return false;
-    if (is_over(before)) return is_past(before) == is_past(after) && are_in_a_row(clue_in(before), clue_in(after));
-    bool is_moved_alike = is_moved(before) == is_moved(after) && !begins_moved(after);
-    return is_moved_alike && part_of(window, number - 1)->is.whole == part_of(window, number)->is.whole;
+size_t mappings_of(const struct window *window, size_t first, size_t count) {
+    return pageshare_window_mappings_at(window->pages, window->count, &window->parts->is, parts_in(window), window->lead, first,
+                                        count);
 }
 
-size_t mappings_of(const struct window *window, size_t first, size_t count) {
-    size_t found = 0;
-    for (size_t page = first > 0 ? first : 1; page <= first + count && page < window->count; page++)
-        found += is_one_mapping(window, page) ? 0 : 1;
-    return found;
+size_t mappings_more(const struct window *window, size_t first, size_t count) {
+    return pageshare_window_mappings_more(window->pages, window->count, &window->parts->is, parts_in(window), window->lead, first,
+                                          count);
 }
 
 /* Notes what lies at the place of pages in a row since now: frames, or memory of their own. */
 static void note_memory(struct window *window, size_t first, size_t count, uint32_t frame, bool is_moved) {
-    size_t *mappings = &window->windows->counts.mappings, behind = first + count;
+    size_t *mappings = &window->windows->counts.mappings;
     *mappings -= mappings_of(window, first, count);
     page_entry *pages = window->pages;
     const bool is_own = frame == ZEROS;
     if (is_own)
         pageshare_window_uncover(pages, window->count, window->counts, parts_in(window), window->lead, first, count, is_moved);
     else pageshare_window_cover(pages, window->count, window->counts, parts_in(window), window->lead, first, count, frame);
-    if (behind < window->count) pageshare_window_begin_moved(&window->pages[behind]);
     *mappings += mappings_of(window, first, count);
 }
 
@@ -251,7 +245,8 @@ static int step_stuck(struct windows *windows, struct stuck *stuck, unsigned ste
         cause = faults_put(&windows->faults, at, windows->scratch + bytes_of(stuck->scratch), &remapped);
     else if (step == PAGESHARE_WINDOW_HOLD_END_WATCH) cause = faults_end_watch(&windows->faults, at, 1);
     else return cause;
-    stuck->place = pageshare_window_hold_done(&window->pages[stuck->page], part_counts(window, stuck->page), stuck->place, cause == 0);
+    stuck->place =
+        pageshare_window_hold_done(&window->pages[stuck->page], part_counts(window, stuck->page), stuck->place, cause == 0);
     if (cause == 0 && remapped) note_moved(window, stuck->page, 1);
     *any_remapped = *any_remapped || (cause == 0 && remapped);
     return cause;

@@ -316,7 +316,7 @@ enum pageshare_window_hold_step {
     PAGESHARE_WINDOW_HOLD_MAP = 3,           /* its frame is mapped at its place */
     PAGESHARE_WINDOW_HOLD_GIVE_BACK = 4,     /* zeros are mapped there */
     PAGESHARE_WINDOW_HOLD_PUT_BACK = 5,      /* its memory is moved back to its place */
-    PAGESHARE_WINDOW_HOLD_END_WATCH = 6      /* nobody waits for it any longer; where nothing is at its place, zeros are from then on */
+    PAGESHARE_WINDOW_HOLD_END_WATCH = 6      /* nobody waits for it any longer; where nothing is at its place, zeros are then */
 };
 
 /*
@@ -337,9 +337,6 @@ bool pageshare_window_written(struct pageshare_window_page *page, struct pagesha
 /* Whether a page over a frame has to stay where it is, while writes to it wait: it is to get its copy there, or it has memory of its own
  * (`is_copy`) that a device may hold. */
 bool pageshare_window_stays(const struct pageshare_window_page *page, const struct pageshare_window_facts *facts, bool is_copy);
-
-/* The page before one got other memory: the page begins what was moved, if it was moved. */
-void pageshare_window_begin_moved(struct pageshare_window_page *page);
 
 /* A page was given back as zeros and has no memory; or it has memory. Nothing is noted of a page over a frame. */
 void pageshare_window_give_back(struct pageshare_window_page *page, struct pageshare_window_counts *part, bool is_zeros);
@@ -405,7 +402,7 @@ bool pageshare_window_are_movable(const struct pageshare_window_page *pages, siz
  * the table. Each returns false, and notes nothing, if the pages aren't all there, or if the table has more pages than its parts.
  *
  * Frames in a row were mapped at their places, of which the first has this number; or memory of their own was put there, moved all at once, or
- * mapped.
+ * mapped. The page behind them begins what was moved, if it was moved.
  */
 bool pageshare_window_cover(struct pageshare_window_page *pages, size_t pages_count, struct pageshare_window_counts *parts,
                             size_t parts_count, size_t lead, size_t first, size_t count, uint32_t frame);
@@ -431,7 +428,7 @@ enum pageshare_window_part_order {
     PAGESHARE_WINDOW_MAKE_WHOLE = 2 /* copy it to a huge page, and put that in its place */
 };
 
-/* A part. The library alone writes the members, but for `whole`: the caller writes it when that has changed. */
+/* A part. The library alone writes the members, but for `whole` and `is_huge`: the caller writes them when they have changed. */
 struct pageshare_window_part {
     bool whole;    /* it is left to the system's huge pages: nothing of it is lent */
     uint8_t pause; /* looks at it until it may change again */
@@ -439,6 +436,7 @@ struct pageshare_window_part {
     uint8_t rest;  /* idle pages that a look leaves out for each one that it takes, since next to nothing changes there */
     uint8_t left;  /* looks until they may be more */
     bool is_still; /* nothing at all had changed there at the last look */
+    bool is_huge;  /* it is whole, and was a huge page at the last look */
     uint32_t own;  /* pages that had memory of their own at the last look */
 };
 
@@ -469,6 +467,24 @@ struct pageshare_window_part_look {
  */
 uint8_t pageshare_window_next_of_part(struct pageshare_window_part *part, const struct pageshare_window_part_config *config,
                                       const struct pageshare_window_part_look *look);
+
+/*
+ * How many mappings of the system
+ *   begin at `count` pages of a window from `first` on, or at the page behind them, as far as these are there: of all pages, what the window takes;
+ *   more may begin there, whatever becomes of these pages;
+ *   a window of `count` pages takes at first, where nothing is known of its pages.
+ * `parts` has each part, and `lead` pages of the first part lie before the window. A part that isn't there counts as split.
+ *
+ * Pages with memory of their own count as one mapping if it was moved there all at once, or not moved, in parts that are all whole or all split.
+ * Frames do if their numbers are in a row, but at each multiple of 32,768. One pair of other frames in 32,768 does, too.
+ */
+size_t pageshare_window_mappings_at(const struct pageshare_window_page *pages, size_t pages_count,
+                                    const struct pageshare_window_part *parts, size_t parts_count, size_t lead, size_t first,
+                                    size_t count);
+size_t pageshare_window_mappings_more(const struct pageshare_window_page *pages, size_t pages_count,
+                                      const struct pageshare_window_part *parts, size_t parts_count, size_t lead, size_t first,
+                                      size_t count);
+size_t pageshare_window_mappings_new(const struct pageshare_window_part *parts, size_t parts_count, size_t lead, size_t count);
 
 /* ---- looks ---- */
 

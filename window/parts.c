@@ -36,7 +36,7 @@ void count_parts(struct window *window, bool is_more) {
     size_t count = 0, whole = 0, huge = 0, first = full_parts(window, &count);
     for (size_t page = first; page < first + count * PART; page += PART) {
         whole += part_of(window, page)->is.whole ? 1 : 0;
-        huge += part_of(window, page)->is_huge ? 1 : 0;
+        huge += part_of(window, page)->is.is_huge ? 1 : 0;
     }
     size_t split = window->keeps_huge ? count - whole : 0;
     counts->parts_whole += is_more ? whole : (size_t)0 - whole;
@@ -46,8 +46,8 @@ void count_parts(struct window *window, bool is_more) {
 
 void note_huge(struct window *window, size_t first, bool is_huge) {
     struct part *part = part_of(window, first);
-    window->windows->counts.parts_huge += (is_huge ? 1u : 0u) - (size_t)part->is_huge;
-    part->is_huge = is_huge;
+    window->windows->counts.parts_huge += (is_huge ? 1u : 0u) - (size_t)part->is.is_huge;
+    part->is.is_huge = is_huge;
 }
 
 int window_say_huge(struct window *window, size_t first, size_t count, bool may) {

@@ -17,7 +17,6 @@ enum {
     HOME_MOST = 64,      /* pages that are guarded at once while they are copied home */
     STILL = 3,           /* looks with the same fingerprint that make a page idle */
     ASKS_APART_MOST = 3, /* questions about a page that were in vain are counted up to this number */
-    CLUES = 1 << GLANCE_BITS,
     TRANSFERS_MOST = 128 /* transfers under way that are kept by their places */
 };
 
@@ -39,8 +38,6 @@ static inline bool is_past(const page_entry *page) { return (page->belief & PAGE
 static inline bool is_out(const page_entry *page) { return (page->belief & PAGESHARE_WINDOW_OUT) != 0; }
 static inline bool is_ordered(const page_entry *page) { return (page->looks & PAGESHARE_WINDOW_ORDERED) != 0; }
 static inline bool is_same(const page_entry *page) { return (page->looks & PAGESHARE_WINDOW_SAME) != 0; }
-static inline bool is_moved(const page_entry *page) { return (page->looks & PAGESHARE_WINDOW_MOVED) != 0; }
-static inline bool begins_moved(const page_entry *page) { return (page->looks & PAGESHARE_WINDOW_BEGINS) != 0; }
 static inline bool is_seen(const page_entry *page) { return (page->clue & PAGESHARE_WINDOW_SEEN) != 0; }
 static inline unsigned clue_in(const page_entry *page) { return page->clue & PAGESHARE_WINDOW_CLUE; }
 
@@ -70,9 +67,9 @@ static inline bool is_given_back(const page_entry *page) { return !is_over(page)
  * nothing of it is lent or given back, so no frame lies under its pages. It is split before pages of it are lent.
  */
 struct part {
-    struct pageshare_window_part is; /* whole or split, since when, and whether it rests */
-    bool is_huge;                    /* it is whole, and was a huge page when it was looked at last */
+    struct pageshare_window_part is; /* whole or split, since when, and whether it rests: the library reads the table of them */
 };
+_Static_assert(sizeof(struct part) == sizeof(struct pageshare_window_part), "a table of parts is one of the library's");
 
 struct window {
     struct windows *windows;
@@ -214,15 +211,11 @@ static inline void unlock_set(struct windows *windows) { pthread_mutex_unlock(&w
 void note_failure(struct windows *windows, enum window_status status, int cause);
 
 /*
- * Frames in a row have clues in a row, but at each multiple of CLUES. One pair of other frames in CLUES has such clues, too. A machine of the
- * host may begin at each multiple of CLUES, so frames at the same place in two machines have clues far apart.
+ * How many mappings of the system begin at these pages, or at the one behind them; and how many more may begin there, whatever becomes of them.
+ * What changes these pages changes the windows' count of mappings by what begins there then, less what began there before. With the lock.
  */
-static inline bool are_in_a_row(uint32_t clue, uint32_t next) { return (clue + 1) % CLUES == next % CLUES; }
-
-/* Whether one mapping of the system can hold a page and the one before it. */
-bool is_one_mapping(const struct window *window, size_t page);
-/* How many mappings begin at these pages, or at the one behind them. */
 size_t mappings_of(const struct window *window, size_t first, size_t count);
+size_t mappings_more(const struct window *window, size_t first, size_t count);
 
 /* ---- what the library decides of pages. All with the lock ---- */
 

@@ -60,14 +60,6 @@ static struct window *make_tables(struct windows *windows, void *at, size_t page
     return NULL;
 }
 
-/* How many mappings more a new window takes than one, since parts of it are whole. */
-static size_t mappings_of_parts(const struct window *window) {
-    size_t found = 0;
-    for (size_t first = rest_of_part(window, 0); first < window->count; first += rest_of_part(window, first))
-        found += is_one_mapping(window, first) ? 0 : 1;
-    return found;
-}
-
 /* Says for a new window what its range needs. */
 static struct window_result prepare(struct window *window, const struct range_facts *facts, unsigned flags) {
     window->found = window->advice = facts->advice;
@@ -100,7 +92,8 @@ struct window_result window_make(struct window **made, struct windows *windows, 
         windows->first = window;
         windows->counts.windows++;
         windows->counts.pages += window->count;
-        windows->counts.mappings += 1 + mappings_of_parts(window);
+        windows->counts.mappings +=
+            pageshare_window_mappings_new(&window->parts->is, parts_in(window), window->lead, window->count);
         count_parts(window, true);
         *made = window;
     }
@@ -139,7 +132,7 @@ struct window_result window_free(struct window *window, enum window_end end) {
     lock_set(windows);
     windows->counts.windows--;
     windows->counts.pages -= window->count;
-    windows->counts.mappings -= 1 + mappings_of(window, 0, window->count);
+    windows->counts.mappings -= mappings_of(window, 0, window->count);
     count_parts(window, false);
     end_advice(window, 0, window->count);
     window->ended = window->ends = true; /* (the looking thread may free it from now on) */

@@ -177,7 +177,7 @@ static void detach_window(struct window *window) {
     *mappings += is_counted ? mappings_of(window, 0, window->count) : 0;
     for (size_t i = 0; i < parts_in(window); i++) {
         struct part *part = &window->parts[i];
-        *part = (struct part){.is.whole = part->is.whole, .is_huge = part->is_huge};
+        *part = (struct part){.is.whole = part->is.whole, .is.is_huge = part->is.is_huge};
     }
 }
 

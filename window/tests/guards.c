@@ -80,7 +80,8 @@ static void put_fails(void) {
     struct window *window = window_over(&fixture, at, PAGES);
     struct write write;
     fill(at, PAGES, 1);
-    planned = (struct planned){.puts = PUTS, .watches = change, .window = (uintptr_t)at, .window_end = (uintptr_t)at + PAGES * PAGE};
+    planned =
+        (struct planned){.puts = PUTS, .watches = change, .window = (uintptr_t)at, .window_end = (uintptr_t)at + PAGES * PAGE};
     struct window_result result = {0};
     for (int i = 0; i < 20 && result.status != WINDOW_STUCK; i++) result = look(fixture.windows);
     if (planned.puts == PUTS) {

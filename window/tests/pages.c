@@ -663,6 +663,10 @@ static void beliefs(void) {
     }
 }
 
+static bool is_moved(const page_entry *page) { return (page->looks & PAGESHARE_WINDOW_MOVED) != 0; }
+
+static bool begins_moved(const page_entry *page) { return (page->looks & PAGESHARE_WINDOW_BEGINS) != 0; }
+
 /* What C reads of a page's place is what was noted of it. */
 static void places(void) {
     page_entry pages[2] = {{.belief = PAGESHARE_WINDOW_PRIVATE}};
@@ -673,8 +677,8 @@ static void places(void) {
     check(pageshare_window_uncover(pages, 2, &part, 1, 0, 0, 2, true), "memory is moved");
     check(!is_over(page) && is_moved(page) && !begins_moved(page) && clue_in(page) == 0, "its memory was moved there");
     check(begins_moved(&pages[0]), "the first page begins what was moved");
-    pageshare_window_begin_moved(&pages[1]);
-    check(begins_moved(page), "it begins what was moved");
+    check(pageshare_window_uncover(pages, 2, &part, 1, 0, 0, 1, false), "memory is mapped at the place of the first one");
+    check(!is_moved(&pages[0]) && begins_moved(page), "the page behind it begins what was moved");
     pageshare_window_give_back(&pages[1], &part, true);
     check(is_given_back(page) && part.zeros == 1, "it was given back");
     pageshare_window_see(&pages[1], &part, true);
@@ -686,25 +690,26 @@ static void places(void) {
     check(!pageshare_window_leave(pages, 2, &part, 1, 0, 1, 2) && !is_out(&pages[0]), "a page that isn't there leaves no window");
 }
 
-/* What is kept of a frame's number where it is mapped. */
-static uint32_t clue_of(uint32_t frame) {
-    page_entry page = {.belief = PAGESHARE_WINDOW_PRIVATE};
-    struct pageshare_window_counts part = {0};
-    pageshare_window_cover(&page, 1, &part, 1, 0, 0, 1, frame);
-    return clue_in(&page);
+/* Whether two frames that are mapped at the places of two pages count as one mapping. */
+static bool are_in_a_row(uint32_t frame, uint32_t next) {
+    page_entry pages[2] = {{.belief = PAGESHARE_WINDOW_PRIVATE}};
+    struct pageshare_window_counts counts = {0};
+    const struct pageshare_window_part part = {.whole = false};
+    pageshare_window_cover(pages, 2, &counts, 1, 0, 0, 1, frame);
+    pageshare_window_cover(pages, 2, &counts, 1, 0, 1, 1, next);
+    return pageshare_window_mappings_at(pages, 2, &part, 1, 0, 0, 2) == 1;
 }
 
-/* Frames in a row have clues in a row. Those at about the same place of two machines have not. */
+/* Frames in a row are one mapping, but at each multiple of 32,768. Those at about the same place of two machines are not. */
 static void clues(void) {
-    enum { FRAMES = 1 << 20, MACHINE = 1 << 18 };
+    enum { FRAMES = 1 << 20, MACHINE = 1 << 18, CLUES = 1 << GLANCE_BITS };
     size_t in_a_row = 0, apart = 0;
     for (uint32_t frame = 0; frame < FRAMES; frame++) {
-        in_a_row += are_in_a_row(clue_of(frame), clue_of(frame + 1)) ? 1 : 0;
-        for (uint32_t place = 0; place < 8; place++)
-            apart += are_in_a_row(clue_of(frame), clue_of(frame + MACHINE + place)) ? 1 : 0;
+        in_a_row += are_in_a_row(frame, frame + 1) ? 1 : 0;
+        for (uint32_t place = 0; place < 8; place++) apart += are_in_a_row(frame, frame + MACHINE + place) ? 1 : 0;
     }
-    check(in_a_row >= FRAMES - 2 * FRAMES / CLUES, "frames in a row have clues in a row");
-    check(apart == 0, "frames of two machines are in no row");
+    check(in_a_row >= FRAMES - 2 * FRAMES / CLUES, "frames in a row count as one mapping");
+    check(apart == 0, "frames of two machines don't");
 }
 
 static bool is_apart(const void *at) { return (uintptr_t)at >> 44 == 2; }

@@ -16,8 +16,8 @@ use Rattle.window_pages.specs.Known.{stored}
 use Rattle.window_pages.specs.declared.counts.PartCounts.{PartCounts}
 use Rattle.window_pages.specs.declared.page.PageNotes.{PageNotes}
 use Rattle.window_pages.specs.declared.page.WindowPage.{WindowPage}
+use Rattle.window_tables.specs.declared.parts.WindowPart.{WindowPart}
 use Rattle.pageshare_window_c.specs.declared.looks.WindowLook.{WindowLook}
-use Rattle.pageshare_window_c.specs.declared.part.WindowPart.{WindowPart}
 
 -- what looks have found of a page
 abbrev pub looks_of : WindowPage → PageLooks

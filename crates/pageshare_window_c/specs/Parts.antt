@@ -5,7 +5,7 @@ use Rattle.window_lender.specs.declared.huge.PartConfig.{PartConfig}
 use Rattle.window_lender.specs.declared.huge.PartLook.{PartLook}
 use Rattle.window_lender.specs.declared.huge.PartOrder.{PartOrder}
 use Rattle.window_lender.specs.declared.huge.PartOrder.TheVariants.{Stay, Split, MakeWhole}
-use Rattle.pageshare_window_c.specs.declared.part.WindowPart.{WindowPart}
+use Rattle.window_tables.specs.declared.parts.WindowPart.{WindowPart}
 use Rattle.pageshare_window_c.specs.declared.part.WindowPartConfig.{WindowPartConfig}
 use Rattle.pageshare_window_c.specs.declared.part.WindowPartLook.{WindowPartLook}
 

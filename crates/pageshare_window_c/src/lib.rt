@@ -20,9 +20,9 @@ ghost use Rattle.window_lender.specs.Huge.{order_of, part_then};
 ghost use Rattle.window_pages.specs.Runs.{is_here_as, keeps_slot, lies_as, row_of};
 ghost use Rattle.pageshare_window_c.specs.Budgets.{ledger_of, rates};
 ghost use Rattle.window_pages.specs.Bytes.{known_of, notes_of};
-ghost use Rattle.window_pages.specs.Changed.{Becomes, Lends, given_back, lender_with, moved_first, no_past};
+ghost use Rattle.window_pages.specs.Changed.{Becomes, Lends, given_back, lender_with, no_past};
 ghost use Rattle.window_pages.specs.Counted.{counts_then};
-ghost use Rattle.window_pages.specs.Known.{bars_of, chosen_as, kept_by, lender_of, no_bars, shows_past, stays};
+ghost use Rattle.window_pages.specs.Known.{bars_of, chosen_as, lender_of, no_bars, shows_past, stays};
 ghost use Rattle.pageshare_window_c.specs.Looks.{rests_of};
 ghost use Rattle.pageshare_window_c.specs.Pages.{Takes, number_of};
 ghost use Rattle.pageshare_window_c.specs.Parts.{config_of, look_of, part_number, part_of};
@@ -31,6 +31,7 @@ mod budget;
 mod holds;
 mod laws;
 mod looks;
+mod mappings;
 mod numbers;
 mod order;
 mod part;
@@ -56,6 +57,9 @@ pub use looks::{
     pageshare_window_wake, pageshare_window_way,
 };
 use mapping_room::{MappingRoom, fits};
+pub use mappings::{
+    pageshare_window_mappings_at, pageshare_window_mappings_more, pageshare_window_mappings_new,
+};
 pub use numbers::pageshare_window_find_numbers;
 use offered_ranges::{add, is_part_left, next as next_piece, take_out};
 pub use offered_ranges::{OfferedBounds, OfferedRange, Piece};
@@ -63,7 +67,7 @@ use order::number_of;
 use page_lender::{Notice, Outcome};
 pub use page_pins::Transfer;
 use part::next_of_part;
-pub use part::{WindowPart, WindowPartConfig, WindowPartLook};
+pub use part::{WindowPartConfig, WindowPartLook};
 pub use pins::{
     pageshare_window_begin_transfer, pageshare_window_end_transfer,
     pageshare_window_is_in_transfer, pageshare_window_pin, pageshare_window_unpin,
@@ -82,10 +86,10 @@ pub use times::{
 pub use window_numbers::Taken;
 pub use window_pages::{PartCounts, WindowFacts, WindowPage};
 use window_pages::{
-    alike, before_release, begin, choose, forget, give_back, hear, here, is_free, next, row, see,
-    stays, stop_past, take, withdraw,
+    alike, before_release, choose, forget, give_back, hear, here, is_free, next, row, see, stays,
+    stop_past, take, withdraw,
 };
-pub use window_tables::TableFacts;
+pub use window_tables::{TableFacts, WindowPart};
 use work_budget::Budget;
 
 /// Begins a budget at these readings of the clocks: the time, and the processor time that the thread has used. A share is 1 to 100
@@ -313,15 +317,6 @@ pub extern "C" fn pageshare_window_stays(
     stays(page, facts, is_copy)
 }
 
-/// Notes that a page begins what was moved, if it was moved: the page before it has got other memory.
-#[unsafe(no_mangle)]
-pub extern "C" fn pageshare_window_begin_moved(page: &mut WindowPage)
-    ensures known { known_of page.new ≡ moved_first (known_of page.old) }
-    ensures notes { notes_of page.new ≡ kept_by (known_of page.old).belief (notes_of page.old) }
-{
-    begin(page);
-}
-
 /// Notes whether a page was given back as zeros and has no memory, or has memory again. Of a page over a frame nothing is noted.
 #[unsafe(no_mangle)]
 pub extern "C" fn pageshare_window_give_back(
@@ -402,6 +397,7 @@ pub extern "C" fn pageshare_window_next_of_part(
     look: &WindowPartLook,
 ) -> u8
     ensures order { result ≡ part_number (order_of (config_of config.now) (part_of part.old) (look_of look.now) look.now.is_loose look.now.is_movable) }
+    ensures huge { part.new.is_huge ≡ part.old.is_huge }
     ensures rests { rests_of part.new ≡ record (rests_of part.old) { whole = part.new.whole } }
     ensures part { part_of part.new ≡ part_then (config_of config.now) (part_of part.old) (look_of look.now) (order_of (config_of config.now) (part_of part.old) (look_of look.now) look.now.is_loose look.now.is_movable) }
 {

@@ -5,26 +5,7 @@ ghost use Rattle.pageshare_window_c.specs.Looks.{rests_of};
 ghost use Rattle.pageshare_window_c.specs.Parts.{config_of, look_of, part_number, part_of};
 
 use window_lender::{Part, PartConfig, PartLook, PartOrder};
-
-/// A part of a window: the pages that one huge page could hold.
-#[repr(C)]
-#[derive(Clone, Copy)]
-pub struct WindowPart {
-    /// It is left to the system's huge pages: nothing of it is lent. Otherwise it is split.
-    pub whole: bool,
-    /// Looks at it until it may change again.
-    pub pause: u8,
-    /// Looks in a row that found next to nothing shared in it.
-    pub alone: u8,
-    /// Idle pages that a look leaves out for each one that it takes, since next to nothing changes there.
-    pub rest: u8,
-    /// Looks until they may be more.
-    pub left: u8,
-    /// Nothing at all had changed there at the last look.
-    pub is_still: bool,
-    /// Pages that had memory of their own at the last look.
-    pub own: u32,
-}
+use window_tables::WindowPart;
 
 /// When parts are split, and when they are made whole.
 #[repr(C)]
@@ -109,6 +90,7 @@ pub(crate) fn next_of_part(
     look: &WindowPartLook,
 ) -> u8
     ensures order { result ≡ part_number (order_of (config_of config.now) (part_of numbers.old) (look_of look.now) look.now.is_loose look.now.is_movable) }
+    ensures huge { numbers.new.is_huge ≡ numbers.old.is_huge }
     ensures rests { rests_of numbers.new ≡ record (rests_of numbers.old) { whole = numbers.new.whole } }
     ensures part { part_of numbers.new ≡ part_then (config_of config.now) (part_of numbers.old) (look_of look.now) (order_of (config_of config.now) (part_of numbers.old) (look_of look.now) look.now.is_loose look.now.is_movable) }
 {

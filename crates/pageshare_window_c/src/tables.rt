@@ -13,8 +13,8 @@ use page_pins::Transfer;
 use window_pages::{PartCounts, WindowFacts, WindowPage};
 use window_tables::{Change, TableFacts, are_movable, facts_of, may_give_up, may_go_on, note};
 
-/// Finds what is so of a page: of its window and its process, of its pins, of the transfers, and what is so besides (`why`). `pins` has
-/// how often each page was pinned, and is empty if none was yet.
+/// Finds what is so of a page: of its window and its process, of its pins, of the transfers, and what is so besides (`why`). `pins` has how
+/// often each page was pinned, and is empty if none was yet.
 #[unsafe(no_mangle)]
 pub extern "C" fn pageshare_window_find_facts(
     table: &TableFacts,
@@ -29,8 +29,8 @@ pub extern "C" fn pageshare_window_find_facts(
     *facts = facts_of(table, pins, transfers, why, page);
 }
 
-/// Returns whether a call of the monitor may go on by each of so many pages, of which this is so from then on: no write to any of them waits,
-/// and none that must have memory of its own shows a frame. Returns false if they aren't all there.
+/// Returns whether a call of the monitor may go on by each of so many pages, of which this is so from then on: no write to any of them
+/// waits, and none that must have memory of its own shows a frame. Returns false if they aren't all there.
 #[unsafe(no_mangle)]
 pub extern "C" fn pageshare_window_may_go_on(
     pages: &[WindowPage],
@@ -48,8 +48,8 @@ pub extern "C" fn pageshare_window_may_go_on(
     may_go_on(pages, table, pins, transfers, why, first, count)
 }
 
-/// Returns whether a call of the monitor may go on that gives so many pages up: no write to any of them waits. Returns false if they aren't all
-/// there.
+/// Returns whether a call of the monitor may go on that gives so many pages up: no write to any of them waits. Returns false if they aren't
+/// all there.
 #[unsafe(no_mangle)]
 pub extern "C" fn pageshare_window_may_give_up(
     pages: &[WindowPage],
@@ -79,8 +79,9 @@ pub extern "C" fn pageshare_window_are_movable(
     are_movable(pages, table, pins, transfers, first, count)
 }
 
-/// Notes that frames in a row were mapped at the places of so many pages, of which the first has this number. Returns false, and notes nothing, if these pages
-/// aren't all there, or if the table has more pages than its parts.
+/// Notes that frames in a row were mapped at the places of so many pages, of which the first has this number. The page behind them begins
+/// what was moved, if it was moved. Returns false, and notes nothing, if these pages aren't all there, or if the table has more pages than
+/// its parts.
 #[unsafe(no_mangle)]
 pub extern "C" fn pageshare_window_cover(
     pages: &mut [WindowPage],
@@ -95,8 +96,9 @@ pub extern "C" fn pageshare_window_cover(
     note(pages, parts, lead, first, count, Change::Covered(frame))
 }
 
-/// Notes that memory of their own was put at the places of so many pages: it was moved there all at once, or it was mapped. Returns false, and notes nothing, if these pages
-/// aren't all there, or if the table has more pages than its parts.
+/// Notes that memory of their own was put at the places of so many pages: it was moved there all at once, or it was mapped. The page behind
+/// them begins what was moved, if it was moved. Returns false, and notes nothing, if these pages aren't all there, or if the table has more
+/// pages than its parts.
 #[unsafe(no_mangle)]
 pub extern "C" fn pageshare_window_uncover(
     pages: &mut [WindowPage],
@@ -111,8 +113,8 @@ pub extern "C" fn pageshare_window_uncover(
     note(pages, parts, lead, first, count, Change::Uncovered(moved))
 }
 
-/// Notes that the content of so many pages was given up. Returns false, and notes nothing, if these pages
-/// aren't all there, or if the table has more pages than its parts.
+/// Notes that the content of so many pages was given up. Returns false, and notes nothing, if these pages aren't all there, or if the table
+/// has more pages than its parts.
 #[unsafe(no_mangle)]
 pub extern "C" fn pageshare_window_give_up(
     pages: &mut [WindowPage],
@@ -126,8 +128,8 @@ pub extern "C" fn pageshare_window_give_up(
     note(pages, parts, lead, first, count, Change::GivenUp)
 }
 
-/// Notes that so many pages were unmapped, or that something else was mapped in their place. They have left their window. Returns false, and notes nothing, if these pages
-/// aren't all there, or if the table has more pages than its parts.
+/// Notes that so many pages were unmapped, or that something else was mapped in their place. They have left their window. Returns false,
+/// and notes nothing, if these pages aren't all there, or if the table has more pages than its parts.
 #[unsafe(no_mangle)]
 pub extern "C" fn pageshare_window_unmap(
     pages: &mut [WindowPage],
@@ -141,8 +143,8 @@ pub extern "C" fn pageshare_window_unmap(
     note(pages, parts, lead, first, count, Change::Unmapped)
 }
 
-/// Notes that so many pages have left their window, with what they contain. Returns false, and notes nothing, if these pages
-/// aren't all there, or if the table has more pages than its parts.
+/// Notes that so many pages have left their window, with what they contain. Returns false, and notes nothing, if these pages aren't all
+/// there, or if the table has more pages than its parts.
 #[unsafe(no_mangle)]
 pub extern "C" fn pageshare_window_leave(
     pages: &mut [WindowPage],
@@ -156,8 +158,8 @@ pub extern "C" fn pageshare_window_leave(
     note(pages, parts, lead, first, count, Change::Left)
 }
 
-/// Notes that the lender of so many pages is gone, and no slot of theirs counts any more. What they show stays. Returns false, and notes nothing, if these pages
-/// aren't all there, or if the table has more pages than its parts.
+/// Notes that the lender of so many pages is gone, and no slot of theirs counts any more. What they show stays. Returns false, and notes
+/// nothing, if these pages aren't all there, or if the table has more pages than its parts.
 #[unsafe(no_mangle)]
 pub extern "C" fn pageshare_window_detach(
     pages: &mut [WindowPage],
