@@ -6,6 +6,8 @@
 #![tactic(auto)]
 
 #[cfg(test)]
+mod borders;
+#[cfg(test)]
 mod budgets;
 #[cfg(test)]
 mod checks;
