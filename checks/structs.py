@@ -20,7 +20,7 @@ HEADERS = ["lib/include/pageshare.h", "lib/include/pageshare_host.h", "window/pa
 FOLDERS = {
     "crates/c_surface/src": "rt", "crates/pageshare_c/src": "rt", "crates/pageshare_host_c/src": "rt", "crates/pageshare_window_c/src": "rt",
     "crates/offered_ranges/src": "rt", "crates/page_pins/src": "rt", "crates/window_numbers/src": "rt", "crates/window_pages/src": "rt",
-    "crates/window_tables/src": "rt", "crates/look_steps/src": "rt", "crates/look_times/src": "rt", "lib/rust/src": "rs",
+    "crates/window_tables/src": "rt", "crates/look_steps/src": "rt", "crates/look_tasks/src": "rt", "crates/look_times/src": "rt", "lib/rust/src": "rs",
 }
 # The statuses of the proved libraries, and what a header writes before a name. FAULT_ANSWER is a fault that no packet of a client has.
 STATUSES = "crates/c_surface/src/status.rt"
@@ -38,6 +38,7 @@ STRUCTS = {
     "WindowPartLook": "pageshare_window_part_look", "OfferedRange": "pageshare_window_range", "Piece": "pageshare_window_piece",
     "OfferedBounds": "pageshare_window_range_bounds", "Transfer": "pageshare_window_transfer", "WindowWay": "pageshare_window_way",
     "WindowLook": "pageshare_window_look", "LookSteps": "pageshare_window_steps", "PartReturn": "pageshare_window_return",
+    "WindowTask": "pageshare_window_task", "LookTasks": "pageshare_window_tasks", "TaskOutcome": "pageshare_window_outcome",
     "Taken": "pageshare_window_taken", "LookFinds": "pageshare_window_finds", "LookTimes": "pageshare_window_times",
 }
 # A handle has a pointer and a flag; what is in it is private, and so are its names.
@@ -63,6 +64,8 @@ def structs_of_c() -> dict[str, list[tuple[str, str]]]:
 
 def type_of(kind: str) -> str:
     """What stands in C for a type."""
+    if kind in STRUCTS:
+        return f"struct {STRUCTS[kind]}"
     return "array" if kind.startswith("[") else TYPES.get(kind, "pointer")
 
 

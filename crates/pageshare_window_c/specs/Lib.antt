@@ -3,3 +3,4 @@ pub mod Holds
 pub mod Looks
 pub mod Pages
 pub mod Parts
+pub mod Tasks

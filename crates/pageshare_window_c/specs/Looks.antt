@@ -8,8 +8,6 @@ use Rattle.idle_pages.specs.declared.look.Act.TheVariants.{Pass, Meet, Keep, Rea
 use Rattle.idle_pages.specs.declared.look.LookConfig.{LookConfig}
 use Rattle.idle_pages.specs.declared.look.PageLooks.{PageLooks}
 use Rattle.idle_pages.specs.declared.look.PartLooks.{PartLooks}
-use Rattle.look_steps.specs.declared.step.Step.{Step}
-use Rattle.look_steps.specs.declared.step.Step.TheVariants.{Look, Over, Return}
 use Rattle.window_pages.specs.Bytes.{belief_of, known_of, notes_of}
 use Rattle.window_pages.specs.Counted.{counts_then}
 use Rattle.window_pages.specs.Known.{stored}
@@ -63,17 +61,6 @@ abbrev pub NotesRead : ℕ → ℕ → WindowPage → WindowPage → PartCounts 
 NotesRead fingerprint glance old new before after =
     Notes (read (looks_of old) (known_of old).over fingerprint glance)
     (seen_if_alike (known_of old).over (read (looks_of old) (known_of old).over fingerprint glance).looks (notes_of old).seen) old new before after
-
--- the number of a step, and its part
-abbrev pub step_number : Step → ℕ
-step_number Over = 0
-step_number (Look part) = 1
-step_number (Return part) = 2
-
-abbrev pub part_or : ℕ → Step → ℕ
-part_or otherwise Over = otherwise
-part_or otherwise (Look part) = part
-part_or otherwise (Return part) = part
 
 -- a look takes a page of which it is known that it has memory of its own
 abbrev pub is_taken : LookConfig → PartLooks → ℕ → ℕ → Bool → WindowPage → Bool

@@ -38,6 +38,7 @@ mod part;
 mod pins;
 mod ranges;
 mod tables;
+mod tasks;
 mod times;
 
 pub use budget::{CREDIT_NS, OWED_NS, SAVED_NS, WindowBudget};
@@ -45,16 +46,16 @@ use budget::{budget_of, config_by, put};
 pub use holds::{
     pageshare_window_begin_hold, pageshare_window_hold_done, pageshare_window_hold_step,
 };
-pub use laws::limits_law;
+pub use laws::{limits_law, tasks_law};
 pub use look_steps::{LookSteps, PartReturn};
+pub use look_tasks::{LookTasks, TaskOutcome};
 pub use look_times::{LookFinds, LookTimes};
 pub use looks::{
     WindowLook, WindowWay, pageshare_window_ask_at_once, pageshare_window_asked,
-    pageshare_window_asked_last, pageshare_window_begin_look, pageshare_window_glanced_by,
-    pageshare_window_held, pageshare_window_is_in_passing, pageshare_window_is_left_out,
-    pageshare_window_is_to_fetch, pageshare_window_looked, pageshare_window_met,
-    pageshare_window_next_step, pageshare_window_read, pageshare_window_set_rest,
-    pageshare_window_wake, pageshare_window_way,
+    pageshare_window_asked_last, pageshare_window_glanced_by, pageshare_window_held,
+    pageshare_window_is_in_passing, pageshare_window_is_left_out, pageshare_window_is_to_fetch,
+    pageshare_window_met, pageshare_window_read, pageshare_window_set_rest, pageshare_window_wake,
+    pageshare_window_way,
 };
 use mapping_room::{MappingRoom, fits};
 pub use mappings::{
@@ -78,6 +79,10 @@ pub use tables::{
     pageshare_window_find_facts, pageshare_window_give_up, pageshare_window_leave,
     pageshare_window_may_give_up, pageshare_window_may_go_on, pageshare_window_uncover,
     pageshare_window_unmap,
+};
+pub use tasks::{
+    WindowTask, pageshare_window_begin_tasks, pageshare_window_next_task,
+    pageshare_window_task_done,
 };
 pub use times::{
     pageshare_window_be_eager, pageshare_window_begin_times, pageshare_window_look_ended,

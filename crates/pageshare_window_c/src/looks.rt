@@ -5,13 +5,11 @@ ghost use Rattle.idle_pages.specs.Rests.{found_then, woken};
 ghost use Rattle.idle_pages.specs.Samples.{is_left_out, is_to_fetch};
 ghost use Rattle.idle_pages.specs.Turns.{is_asked_in_passing};
 ghost use Rattle.idle_pages.specs.Ways.{way};
-ghost use Rattle.look_steps.specs.Steps.{begun, is_added, looked_then, step_of, stepped, steps_of};
 ghost use Rattle.window_pages.specs.Bytes.{known_of, notes_of};
-ghost use Rattle.pageshare_window_c.specs.Looks.{Notes, NotesRead, act_number, config_of, is_taken, looks_of, number_at, part_or, places_in, places_where, rests_of, seen_if_alike, step_number, takes_at, with_rests};
+ghost use Rattle.pageshare_window_c.specs.Looks.{Notes, NotesRead, act_number, config_of, is_taken, looks_of, number_at, places_in, places_where, rests_of, seen_if_alike, takes_at, with_rests};
 
 use crate::WindowPart;
 use idle_pages::{Act, LookConfig, PageLooks, PartLooks};
-use look_steps::{LookSteps, Step};
 use window_pages::{PageNotes, PartCounts, WindowPage, write_notes};
 
 /// What a look does with a page.
@@ -105,28 +103,6 @@ fn seen_if_alike(is_over: bool, looks: u8, seen: bool) -> bool
 {
     let first = if is_over { 1 } else { 2 };
     seen && looks > first
-}
-
-// Returns the number of a step.
-fn step_number(step: Step) -> u8
-    ensures { result ≡ step_number step }
-{
-    match step {
-        Step::Over => 0,
-        Step::Look(_) => 1,
-        Step::Return(_) => 2,
-    }
-}
-
-// Returns the part of a step, or this one if it has none.
-fn part_or(otherwise: u32, step: Step) -> u32
-    ensures { result ≡ part_or otherwise step }
-{
-    match step {
-        Step::Over => otherwise,
-        Step::Look(part) => part,
-        Step::Return(part) => part,
-    }
 }
 
 // Writes a part's rest.
@@ -411,41 +387,4 @@ pub extern "C" fn pageshare_window_wake(part: &mut WindowPart)
     let mut rests = rests_of(part);
     rests.wake();
     put_rests(part, &rests);
-}
-
-/// Begins a look at a window of so many parts.
-#[unsafe(no_mangle)]
-pub extern "C" fn pageshare_window_begin_look(steps: &mut LookSteps, parts: u32)
-    ensures { steps_of steps.new ≡ begun parts }
-{
-    *steps = LookSteps::begin(parts);
-}
-
-/// Returns the number of what comes next, where the clock reads `now`: 0 the look is over, 1 it comes to a part, 2 it comes back to one.
-/// `part` is then that part.
-#[unsafe(no_mangle)]
-pub extern "C" fn pageshare_window_next_step(steps: &mut LookSteps, now: u64, part: &mut u32) -> u8
-    ensures step { result ≡ step_number (step_of (steps_of steps.old) now) }
-    ensures steps { steps_of steps.new ≡ stepped (steps_of steps.old) now }
-    ensures part { part.new ≡ part_or part.old (step_of (steps_of steps.old) now) }
-{
-    let step = steps.next(now);
-    *part = part_or(*part, step);
-    step_number(step)
-}
-
-/// Learns that a part was looked at, where the clock reads `now`: whether it rests, and how many of its pages may be idle soon. Returns
-/// whether the look comes back to it.
-#[unsafe(no_mangle)]
-pub extern "C" fn pageshare_window_looked(
-    steps: &mut LookSteps,
-    part: u32,
-    now: u64,
-    rests: bool,
-    young: u32,
-) -> bool
-    ensures added { result ≡ is_added (steps_of steps.old) rests young }
-    ensures steps { steps_of steps.new ≡ looked_then (steps_of steps.old) part now rests young }
-{
-    steps.looked(part, now, rests, young)
 }

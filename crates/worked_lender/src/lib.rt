@@ -1,7 +1,7 @@
 //! Traces of windows, the lender of one page and a table of pages beside the protocol of windows, what is known of each page, when parts
-//! are split, the budget of their thread, its looks and when they begin, the mappings that windows take, the ranges that become windows,
+//! are split, the budget of their thread, its looks, their tasks and when they begin, the mappings that windows take, the ranges that become windows,
 //! the pages that a device may hold, and the numbers of new windows. It is by the public calls of `page_lender`, `window_lender`,
-//! `window_pages`, `window_events`, `work_budget`, `idle_pages`, `look_steps`, `look_times`, `mapping_room`, `offered_ranges`, `page_pins`,
+//! `window_pages`, `window_events`, `work_budget`, `idle_pages`, `look_steps`, `look_tasks`, `look_times`, `mapping_room`, `offered_ranges`, `page_pins`,
 //! `page_holds`, `window_tables` and `window_numbers`. This crate has only tests.
 #![tactic(auto)]
 
@@ -41,6 +41,8 @@ mod steps;
 mod tables;
 #[cfg(test)]
 mod taken;
+#[cfg(test)]
+mod tasks;
 #[cfg(test)]
 mod times;
 #[cfg(test)]

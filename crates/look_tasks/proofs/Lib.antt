@@ -1,0 +1,6 @@
+mod Ended
+mod Firsts
+mod Found
+mod Seen
+mod Shared
+mod Timed
