@@ -295,7 +295,7 @@ void begin_turn(struct turn *turn) {
     turn->counted_ns = now;
 }
 
-/* What a page of a batch is to become. */
+/* What a page is to become. */
 enum wish { TO_BE_SHOWN, TO_BE_GIVEN_BACK };
 
 /*
@@ -317,15 +317,15 @@ static bool order_hold(struct window *window, size_t number, enum wish wish) {
     return false;
 }
 
-/* Settles pages of the batch from the i-th on that are in a row. Returns how many are settled, or stay as they are. Takes the lock. */
-static size_t settle_run(struct windows *windows, const struct batch *batch, size_t i, enum wish wish) {
-    struct window *window = batch->window;
-    struct hold hold = {.window = window, .first = batch->pages[i]};
+/* Settles the first of some pages that are in a row. Returns how many are settled, or stay as they are. Takes the lock. */
+static size_t settle_run(struct window *window, const uint32_t *pages, size_t count, enum wish wish) {
+    struct windows *windows = window->windows;
+    struct hold hold = {.window = window, .first = pages[0]};
     size_t passed = 0;
     begin_turn(&windows->turn);
     lock_for_look(windows);
-    while (hold.count < HOLD_MOST && i + hold.count < batch->count) {
-        size_t page = batch->pages[i + hold.count];
+    while (hold.count < HOLD_MOST && hold.count < count) {
+        size_t page = pages[hold.count];
         if (page != hold.first + hold.count || windows->stuck_count > 0) break;
         if (is_over(&window->pages[page]) != is_over(&window->pages[hold.first])) break;
         passed = order_hold(window, page, wish) ? 0 : 1;
@@ -337,15 +337,25 @@ static size_t settle_run(struct windows *windows, const struct batch *batch, siz
     return hold.count + passed > 0 ? hold.count + passed : 1;
 }
 
-static void settle_all(struct windows *windows, struct batch *batch, enum wish wish) {
-    for (size_t i = 0; i < batch->count;) {
-        i += settle_run(windows, batch, i, wish);
-        keep_pace(windows);
-    }
-    batch->count = 0;
+/* Takes the first pages away. */
+static void take_away(struct found *found, size_t count) {
+    found->count -= count;
+    memmove(found->pages, found->pages + count, found->count * sizeof found->pages[0]);
+    memmove(found->fingerprints, found->fingerprints + count, found->count * sizeof found->fingerprints[0]);
 }
 
-void give_zeros_back(struct windows *windows, struct batch *batch) { settle_all(windows, batch, TO_BE_GIVEN_BACK); }
+bool give_zeros_back(struct look *look) {
+    struct found *zeros = &look->zeros;
+    if (zeros->count > 0) take_away(zeros, settle_run(look->window, zeros->pages, zeros->count, TO_BE_GIVEN_BACK));
+    return zeros->count > 0;
+}
+
+bool hold_loaned(struct look *look) {
+    struct batch *batch = &look->batch;
+    size_t left = batch->count - batch->done;
+    if (left > 0) batch->done += settle_run(look->window, batch->pages + batch->done, left, TO_BE_SHOWN);
+    return batch->done < batch->count;
+}
 
 void lender_failed(struct windows *windows, int cause) {
     windows->lender_waits = cause == ENOTCONN || cause == EPIPE || cause == ECONNRESET || cause == ETIMEDOUT;
@@ -373,65 +383,71 @@ static bool has_mappings(struct window *window, size_t number, size_t *more) {
 }
 
 /* Takes the answers to questions. Leaves those pages of the batch that others have, and that can be lent. Takes the lock. */
-static void take_answers(struct windows *windows, struct batch *batch, const unsigned char *seen) {
+static void take_answers(struct window *window, struct batch *batch, const unsigned char *seen) {
+    struct windows *windows = window->windows;
     size_t kept = 0, mappings = 0;
     lock_for_look(windows);
     for (size_t i = 0; i < batch->count; i++) {
-        page_entry *page = &batch->window->pages[batch->pages[i]];
-        bool is_whole = part_of(batch->window, batch->pages[i])->is.whole, is_other = seen[i] != 0;
+        uint32_t number = batch->pages[i];
+        page_entry *page = &window->pages[number];
+        bool is_whole = part_of(window, number)->is.whole, is_other = seen[i] != 0;
         windows->counts.seen += is_other ? 1 : 0;
         if (is_other && !is_whole) {
-            if (!has_mappings(batch->window, batch->pages[i], &mappings)) continue;
+            if (!has_mappings(window, number, &mappings)) continue;
             batch->fingerprints[kept] = batch->fingerprints[i];
-            batch->pages[kept++] = batch->pages[i];
+            batch->pages[kept++] = number;
             continue;
         }
-        pageshare_window_asked(page, part_counts(batch->window, batch->pages[i]));
+        pageshare_window_asked(page, part_counts(window, number));
         /* (the page may have been given up meanwhile) */
-        if (is_whole && looks_of(page) == STILL && kept_of(page) == batch->fingerprints[i])
-            note_seen(batch->window, batch->pages[i], is_other);
+        if (is_whole && looks_of(page) == STILL && kept_of(page) == batch->fingerprints[i]) note_seen(window, number, is_other);
     }
     windows->counts.asked += batch->count;
     unlock_set(windows);
     batch->count = kept;
 }
 
-/* Leaves those pages of the batch that others have. Returns false if the lender didn't answer. Takes the lock. */
-static bool ask(struct windows *windows, struct batch *batch) {
+/*
+ * Takes those of the first idle pages that could be lent, and for each of which by itself the system has mappings. Writes the number of each
+ * among all windows' pages, and whether others mustn't find it by the question. Takes the lock.
+ */
+static void take_lendable(struct look *look, size_t count, uint32_t *numbers, bool *passing) {
+    struct batch *batch = &look->batch;
+    struct window *window = look->window;
+    lock_for_look(look->windows);
+    const struct pageshare_window_look now = look_now(look->windows);
+    for (size_t i = 0; i < count; i++) {
+        const uint32_t number = look->idle.pages[i];
+        const page_entry *page = &window->pages[number];
+        const struct pageshare_window_facts facts = facts_of(window, number);
+        const struct pageshare_window_part *part = &part_of(window, number)->is;
+        if (!pageshare_window_is_free(page, &facts)) continue;
+        if (!part->whole && !has_mappings(window, number, &(size_t){0})) continue;
+        numbers[batch->count] = window->base + number;
+        passing[batch->count] = pageshare_window_is_in_passing(page, part, &now, number);
+        batch->fingerprints[batch->count] = look->idle.fingerprints[i];
+        batch->pages[batch->count++] = number;
+    }
+    unlock_set(look->windows);
+}
+
+bool ask_lender(struct look *look) {
+    struct windows *windows = look->windows;
+    struct batch *batch = &look->batch;
     uint32_t numbers[WINDOW_BATCH];
     bool passing[WINDOW_BATCH];
     unsigned char seen[WINDOW_BATCH] = {0};
-    lock_for_look(windows);
-    const struct pageshare_window_look look = look_now(windows);
-    for (size_t i = 0; i < batch->count; i++) {
-        uint32_t number = batch->pages[i];
-        numbers[i] = batch->window->base + number;
-        passing[i] =
-            pageshare_window_is_in_passing(&batch->window->pages[number], &part_of(batch->window, number)->is, &look, number);
-    }
-    unlock_set(windows);
+    const size_t count = look->idle.count < WINDOW_BATCH ? look->idle.count : WINDOW_BATCH;
+    batch->count = 0;
+    if (windows->has_lender && !windows->lender_waits) take_lendable(look, count, numbers, passing);
+    take_away(&look->idle, count);
+    if (batch->count == 0) return false;
     uint64_t begun = clock_spent_ns();
     int cause = windows->lender.ask(windows->lender.opaque, numbers, batch->fingerprints, passing, batch->count, seen);
     windows->counts.ask_ns += clock_spent_ns() - begun;
-    if (cause == 0) take_answers(windows, batch, seen);
+    if (cause == 0) take_answers(look->window, batch, seen);
     else lender_failed(windows, cause);
-    return cause == 0;
-}
-
-/* Leaves those pages of the batch that could be lent, and for each of which by itself the system has mappings. Takes the lock. */
-static void keep_lendable(struct windows *windows, struct batch *batch) {
-    size_t kept = 0;
-    lock_for_look(windows);
-    for (size_t i = 0; i < batch->count; i++) {
-        uint32_t number = batch->pages[i];
-        const struct pageshare_window_facts facts = facts_of(batch->window, number);
-        if (!pageshare_window_is_free(&batch->window->pages[number], &facts)) continue;
-        if (!part_of(batch->window, number)->is.whole && !has_mappings(batch->window, number, &(size_t){0})) continue;
-        batch->fingerprints[kept] = batch->fingerprints[i];
-        batch->pages[kept++] = number;
-    }
-    unlock_set(windows);
-    batch->count = kept;
+    return cause == 0 && batch->count > 0;
 }
 
 /* Copies a page to a place in the lender's buffer, with nothing guarded. Returns whether a loan of that is to be asked for. With the lock. */
@@ -449,15 +465,18 @@ static bool copy_one(struct window *window, size_t number, unsigned char *to, ui
     return is_same_page && order_of(window, number) == PAGESHARE_WINDOW_LEND;
 }
 
-/* Leaves those pages of the batch that can be lent still, and copies them to the lender's buffer. */
-static void copy(struct windows *windows, struct batch *batch) {
+/* Leaves those pages of the batch that can be lent still. Nothing is guarded: their users may write to them. */
+bool copy_for_lender(struct look *look) {
+    struct windows *windows = look->windows;
+    struct batch *batch = &look->batch;
     size_t kept = 0;
     lock_for_look(windows);
     for (size_t i = 0; i < batch->count; i++)
-        if (copy_one(batch->window, batch->pages[i], windows->lender.pages[kept], batch->fingerprints[i]))
+        if (copy_one(look->window, batch->pages[i], windows->lender.pages[kept], batch->fingerprints[i]))
             batch->pages[kept++] = batch->pages[i];
     unlock_set(windows);
     batch->count = kept;
+    return kept > 0;
 }
 
 /* Takes a loan, so that its slot is released if its page doesn't come to show the frame. With the lock. */
@@ -475,33 +494,31 @@ static void take_loan(struct window *window, size_t number, const struct window_
 }
 
 /* Takes the loans of a batch, or that none was got. Leaves the pages that have one. Takes the lock. */
-static void take_loans(struct windows *windows, struct batch *batch, const struct window_loan *loans, bool are_got) {
+static void take_loans(struct window *window, struct batch *batch, const struct window_loan *loans, bool are_got) {
     size_t kept = 0;
-    lock_for_look(windows);
+    lock_for_look(window->windows);
     for (size_t i = 0; i < batch->count; i++) {
         uint32_t number = batch->pages[i];
-        if (are_got) take_loan(batch->window, number, &loans[i]);
-        else note_order(batch->window, number, false);
-        if (belief_of(&batch->window->pages[number]) == PAGESHARE_WINDOW_LOANED) batch->pages[kept++] = number;
+        if (are_got) take_loan(window, number, &loans[i]);
+        else note_order(window, number, false);
+        if (belief_of(&window->pages[number]) == PAGESHARE_WINDOW_LOANED) batch->pages[kept++] = number;
     }
-    unlock_set(windows);
+    unlock_set(window->windows);
     batch->count = kept;
+    batch->done = 0;
 }
 
-void share(struct windows *windows, struct batch *batch) {
+bool ask_for_loans(struct look *look) {
+    struct windows *windows = look->windows;
+    struct batch *batch = &look->batch;
     uint32_t numbers[WINDOW_BATCH];
     struct window_loan loans[WINDOW_BATCH];
-    bool can_ask = windows->has_lender && !windows->lender_waits && batch->count > 0;
-    if (can_ask) keep_lendable(windows, batch);
-    if (can_ask && batch->count > 0 && ask(windows, batch) && batch->count > 0) copy(windows, batch);
-    else batch->count = 0;
-    if (batch->count == 0) return;
-    for (size_t i = 0; i < batch->count; i++) numbers[i] = batch->window->base + batch->pages[i];
+    for (size_t i = 0; i < batch->count; i++) numbers[i] = look->window->base + batch->pages[i];
     for (size_t i = 0; i < batch->count; i++) loans[i] = (struct window_loan){.frame = WINDOW_NO_FRAME};
     uint64_t begun = clock_spent_ns();
     int cause = windows->lender.lend(windows->lender.opaque, numbers, batch->count, loans);
     windows->counts.lend_ns += clock_spent_ns() - begun;
     if (cause != 0) lender_failed(windows, cause);
-    take_loans(windows, batch, loans, cause == 0);
-    settle_all(windows, batch, TO_BE_SHOWN);
+    take_loans(look->window, batch, loans, cause == 0);
+    return batch->count > 0;
 }

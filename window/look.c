@@ -1,4 +1,4 @@
-/* Looks: what has memory of its own, what is idle, what is to be released. */
+/* Looks at parts of windows: what has memory of its own, and what is idle. */
 #define _GNU_SOURCE
 #include "bytes.h"
 #include "set.h"
@@ -6,28 +6,20 @@
 #include <sys/mman.h>
 
 enum {
-    READY_PARTS = 64, /* parts of which a look says MADV_UNMERGEABLE at most, while KSM has merged something */
-    LIMIT_EACH = 16,  /* looks until the system's limit of mappings is read again */
-    SAMPLED_EACH = 8, /* parts of which a look takes some pages only, until the pace is kept */
-    AHEAD = 12        /* pages that are fetched while another one is glanced at */
+    AHEAD = 12 /* pages that are fetched while another one is glanced at */
 };
-/* Between two times that the pace is kept, of processor time; and that a look attends to what may not wait for its end, by the clock. */
-static const uint64_t pace_ns = 400000, attend_ns = 1000000000;
 
 /* What a look makes of a page. */
 enum finding { FOUND_NOTHING, FOUND_IDLE, FOUND_ZERO };
 
 /* What a look has found of a part. */
 struct findings {
-    size_t count;                              /* pages that are idle */
+    struct found *zeros, *idle;                /* to these the pages are added that are zeros, and other idle ones */
     size_t changes;                            /* pages that were idle, and have changed */
     size_t young;                              /* pages that are the same since a look or two, or new */
     bool is_sample;                            /* the part rests */
     bool is_return;                            /* the look has been there before, and takes the young pages alone */
     struct pageshare_window_table_facts table; /* what is so of the window */
-    uint32_t pages[PART];
-    uint64_t fingerprints[PART];
-    bool zero[PART];
 };
 
 /* A lent page has memory of its own: somebody wrote to it. It is asked for in another way, too, since nothing else is so grave. */
@@ -136,6 +128,12 @@ static void count_zero(struct window *window, size_t number) {
     pageshare_window_asked(&window->pages[number], part_counts(window, number));
 }
 
+static void add(struct found *found, size_t number, uint64_t fingerprint) {
+    if (found->count == FOUND_MOST) return; /* (a later look finds it again) */
+    found->pages[found->count] = (uint32_t)number;
+    found->fingerprints[found->count++] = fingerprint;
+}
+
 /* Looks at a page that has memory of its own, and adds it to the findings if it is idle. */
 static void add_finding(struct window *window, size_t number, uint8_t found, struct findings *findings) {
     const page_entry *page = &window->pages[number];
@@ -146,10 +144,8 @@ static void add_finding(struct window *window, size_t number, uint8_t found, str
     findings->changes += before == STILL && looks_of(page) < STILL ? 1 : 0;
     findings->young += found != PAGE_NONE && is_young(page) ? 1 : 0;
     if (is_kept_back) count_zero(window, number);
-    if (finding == FOUND_NOTHING || is_kept_back) return;
-    findings->pages[findings->count] = (uint32_t)number;
-    findings->fingerprints[findings->count] = fingerprint;
-    findings->zero[findings->count++] = finding == FOUND_ZERO;
+    if (finding == FOUND_IDLE) add(findings->idle, number, fingerprint);
+    if (finding == FOUND_ZERO && !is_kept_back) add(findings->zeros, number, fingerprint);
 }
 
 /* Fetches what a glance at a page will need, so that it needn't wait. */
@@ -221,265 +217,26 @@ static void find_in_part(struct window *window, size_t first, size_t count, stru
 #endif
 }
 
-/* Looks at a part. Returns false if the window has ended. Takes the lock. */
-static bool look_at_part(struct window *window, size_t first, size_t count, struct findings *findings, size_t *unready) {
-    struct windows *windows = window->windows;
-    findings->count = findings->changes = findings->young = 0;
-    findings->is_sample = false;
+/* Looks at the part that the task names. Returns false if the window has ended. Takes the lock. */
+static bool look_in(struct look *look, bool is_return) {
+    struct windows *windows = look->windows;
+    struct window *window = look->window;
+    const size_t part = look->task.part, first = part == 0 ? 0 : part * PART - window->lead, count = rest_of_part(window, first);
+    struct findings findings = {.zeros = &look->zeros, .idle = &look->idle, .is_return = is_return};
     /* (the part may become whole) */
     if (part_of(window, first)->is.alone > 0) begin_turn(&windows->turn);
     lock_for_look(windows);
     bool goes_on = !window->ended && windows->stuck_count == 0;
     if (goes_on) {
-        make_ready(window, first, count, unready);
-        find_in_part(window, first, count, findings);
+        make_ready(window, first, count, &look->unready);
+        find_in_part(window, first, count, &findings);
     }
     unlock_set(windows);
+    look->outcome.rests = findings.is_sample;
+    look->outcome.young = (uint32_t)findings.young;
     return goes_on;
 }
 
-static void add(struct batch *batch, const struct findings *findings, size_t i) {
-    batch->pages[batch->count] = findings->pages[i];
-    batch->fingerprints[batch->count++] = findings->fingerprints[i];
-}
+bool look_at_part(struct look *look) { return look_in(look, false); }
 
-/* Does what is to be done with pages that were found, as soon as there are many. */
-static void settle_findings(struct windows *windows, const struct findings *findings, struct batch *zeros, struct batch *idle) {
-    for (size_t i = 0; i < findings->count && !windows->is_cut_short; i++) {
-        struct batch *batch = findings->zero[i] ? zeros : idle;
-        add(batch, findings, i);
-        if (batch->count < WINDOW_BATCH) continue;
-        if (findings->zero[i]) give_zeros_back(windows, zeros);
-        else share(windows, idle);
-    }
-}
-
-bool keep_pace(struct windows *windows) {
-    uint64_t spent = windows->pace != NULL ? clock_spent_ns() : 0;
-    if (windows->pace == NULL || windows->is_cut_short || spent - windows->paced_ns < pace_ns) return !windows->is_cut_short;
-    windows->is_cut_short = !windows->pace(windows->pace_opaque);
-    windows->paced_ns = clock_spent_ns();
-    return !windows->is_cut_short;
-}
-
-static void attend(struct windows *windows);
-
-/* Where the part of this number begins. */
-static size_t first_of(const struct window *window, uint32_t part) { return part == 0 ? 0 : (size_t)part * PART - window->lead; }
-
-/* Looks at a part, for the first time in this look or again, and does what is to be done. Returns whether the look goes on. */
-static bool step_in(struct window *window, uint32_t part, struct findings *findings, struct batch *zeros, struct batch *idle,
-                    size_t *unready) {
-    struct windows *windows = window->windows;
-    size_t first = first_of(window, part);
-    if (findings->is_return) {
-        /* (no page may be twice in a batch) */
-        give_zeros_back(windows, zeros);
-        share(windows, idle);
-    }
-    bool goes_on = look_at_part(window, first, rest_of_part(window, first), findings, unready);
-    settle_findings(windows, findings, zeros, idle);
-    return goes_on;
-}
-
-static void look_at_window(struct windows *windows, struct window *window, size_t *unready) {
-    struct findings findings = {.count = 0};
-    struct batch zeros = {.window = window}, idle = {.window = window};
-    struct pageshare_window_steps steps;
-    size_t sampled = 0;
-    uint32_t part = 0;
-    unsigned step = PAGESHARE_WINDOW_STEP_PART;
-    bool goes_on = true;
-    pageshare_window_begin_look(&steps, (uint32_t)parts_in(window));
-    while (goes_on && (step = pageshare_window_next_step(&steps, clock_now_ns(), &part)) != PAGESHARE_WINDOW_STEP_OVER) {
-        findings.is_return = step == PAGESHARE_WINDOW_STEP_RETURN;
-        goes_on = step_in(window, part, &findings, &zeros, &idle, unready);
-        pageshare_window_looked(&steps, part, clock_now_ns(), findings.is_sample, (uint32_t)findings.young);
-        if (findings.is_sample && findings.count == 0 && !findings.is_return && ++sampled % SAMPLED_EACH != 0) continue;
-        goes_on = keep_pace(windows) && goes_on;
-        if (!findings.is_return) attend(windows);
-    }
-    give_zeros_back(windows, &zeros);
-    share(windows, &idle);
-}
-
-/* Slots that are to be released, of one call. */
-struct slots {
-    size_t count;
-    uint64_t slots[WINDOW_BATCH];
-    struct window *windows[WINDOW_BATCH];
-    uint32_t pages[WINDOW_BATCH];
-};
-
-static void collect_part(struct slots *slots, struct window *window, size_t first) {
-    size_t end = first + rest_of_part(window, first);
-    for (size_t page = first; page < end && slots->count < WINDOW_BATCH; page++) {
-        page += pageshare_window_before_release(window->pages + page, end - page);
-        /* (a device may be reading the frame, as the page showed it when it began) */
-        if (page == end || is_in_transfer(window, page) || !order_release(window, page)) continue;
-        slots->slots[slots->count] = slot_number(window->pages[page].slot);
-        slots->windows[slots->count] = window;
-        slots->pages[slots->count++] = (uint32_t)page;
-    }
-}
-
-/* Orders pages to be released whose slots are to be, and collects these. Takes the lock. */
-static void collect(struct windows *windows, struct slots *slots) {
-    slots->count = 0;
-    lock_for_look(windows);
-    for (struct window *window = windows->first; window != NULL && slots->count < WINDOW_BATCH; window = window->next)
-        for (size_t first = 0; first < window->count; first += rest_of_part(window, first))
-            if (part_counts(window, first)->releases > 0) collect_part(slots, window, first);
-    unlock_set(windows);
-}
-
-/* Notes whether the slots were released. Takes the lock. */
-static void note_releases(struct windows *windows, const struct slots *slots, bool are_released) {
-    lock_for_look(windows);
-    for (size_t i = 0; i < slots->count; i++) {
-        note_order(slots->windows[i], slots->pages[i], are_released);
-        if (are_released) trace_release(windows->trace, slots->windows[i]->base + slots->pages[i]);
-    }
-    unlock_set(windows);
-}
-
-void release_slots(struct windows *windows) {
-    struct slots slots;
-    while (windows->has_lender && !windows->lender_waits) {
-        collect(windows, &slots);
-        if (slots.count == 0) return;
-        int cause = windows->lender.release(windows->lender.opaque, slots.slots, slots.count);
-        note_releases(windows, &slots, cause == 0);
-        if (cause == 0) continue;
-        lender_failed(windows, cause);
-        return;
-    }
-}
-
-static bool has_slots(const struct window *window) {
-    for (size_t part = 0; part < parts_in(window); part++)
-        if (window->counts[part].releases > 0) return true;
-    return false;
-}
-
-/* Frees windows that have ended, and hold no slot any more. */
-static void free_ended(struct windows *windows) {
-    lock_for_look(windows);
-    for (struct window **at = &windows->first; *at != NULL;) {
-        struct window *window = *at;
-        if (!window->ended || has_slots(window)) {
-            at = &window->next;
-            continue;
-        }
-        *at = window->next;
-        free_window(window);
-    }
-    unlock_set(windows);
-}
-
-/* Whether a page between two addresses is in a window. Takes the lock. */
-static bool has_page_between(void *set, const uint8_t *begin, const uint8_t *end) {
-    struct windows *windows = set;
-    bool has = false;
-    lock_for_look(windows);
-    for (struct window *window = windows->first; window != NULL && !has; window = window->next) {
-        const uint8_t *at = window->at, *stop = address_of(window, window->count);
-        if (window->ended || begin >= stop || end <= at) continue;
-        size_t page = begin > at ? (size_t)(begin - at) / WINDOW_PAGE_BYTES : 0;
-        for (; page < window->count && address_of(window, page) < end && !has; page++) has = !is_out(&window->pages[page]);
-    }
-    unlock_set(windows);
-    return has;
-}
-
-/*
- * Looks whether memory of a window was locked since the last look. That takes reading smaps, long if there are many mappings, so it is
- * done for a small part of the time only, and never with the lock.
- */
-static void look_for_locks(struct windows *windows) {
-    enum { TIMES = 200 };
-    size_t kib = locked_kib();
-    uint64_t begun = clock_now_ns();
-    if (kib == windows->locked_kib || (kib > 0 && begun < windows->locks_after_ns)) return;
-    bool is_locked = false;
-    int refused = kib > 0 ? locked_find(has_page_between, windows, &is_locked) : 0;
-    if (refused != 0) { /* (the next look tries again) */
-        note_failure(windows, WINDOW_NO_PAGEMAP, refused);
-        return;
-    }
-    windows->locked_kib = kib;
-    lock_for_look(windows);
-    windows->is_locked = is_locked;
-    unlock_set(windows);
-    windows->locks_after_ns = begun + TIMES * (clock_now_ns() - begun);
-    if (windows->is_locked) {
-        take_all_home(windows);
-        return;
-    }
-    /* (the scratch area may have been filled) */
-    lock_for_look(windows);
-    int cause = windows->stuck_count == 0 ? make_scratch(windows) : 0;
-    if (cause != 0) note_failure(windows, WINDOW_NO_MAPPING, cause);
-    unlock_set(windows);
-}
-
-/* In a look that lasts: slots are released, and devices and locks looked for, as at the beginning of a look. */
-static void attend(struct windows *windows) {
-    uint64_t now = clock_now_ns();
-    if (now - windows->attended_ns < attend_ns) return;
-    windows->attended_ns = now;
-    look_for_locks(windows);
-    if (windows->is_locked) windows->is_cut_short = true;
-    lock_for_look(windows);
-    find_pins(windows);
-    unlock_set(windows);
-    release_slots(windows);
-}
-
-/* What a look begins with. Returns false if nothing can be looked at. */
-static bool begin(struct windows *windows) {
-    windows->is_cut_short = false;
-    windows->paced_ns = clock_spent_ns();
-    windows->attended_ns = clock_now_ns();
-    look_for_locks(windows);
-    lock_for_look(windows);
-    int cause = free_stuck(windows);
-    windows->counts.looks++;
-    if (windows->counts.looks % LIMIT_EACH == 0) follow_limit(windows);
-    find_pins(windows);
-    windows->counts.pause = windows->counts.looks <= windows->crowded_until ? WINDOWS_CROWDED : WINDOWS_LENDING;
-    if (!windows->has_lender) windows->counts.pause = WINDOWS_NO_LENDER;
-    if (windows->is_locked) windows->counts.pause = WINDOWS_LOCKED;
-    if (cause != 0) windows->counts.pause = WINDOWS_HELD;
-    if (cause != 0) note_failure(windows, WINDOW_STUCK, cause);
-    if (windows->is_locked) note_failure(windows, WINDOW_LOCKED, EPERM);
-    if (windows->advice_cause != 0) note_failure(windows, WINDOW_ADVICE, windows->advice_cause);
-    windows->advice_cause = 0;
-    unlock_set(windows);
-    return cause == 0;
-}
-
-struct window_result windows_look(struct windows *windows) {
-    static const unsigned char zeros[WINDOW_PAGE_BYTES] __attribute__((aligned(8)));
-    uint64_t begun = clock_spent_ns(), begun_ns = clock_now_ns();
-    windows->result = result_of(WINDOW_OK, 0);
-    windows->lender_waits = false;
-    windows->fingerprint_of_zeros = fingerprint_of(windows->lender.salt, zeros);
-    bool can_look = begin(windows);
-    size_t unready = merged_kib() > 0 ? READY_PARTS : SIZE_MAX;
-    release_slots(windows);
-    lock_for_look(windows);
-    struct window *window = windows->first;
-    unlock_set(windows);
-    for (; window != NULL && can_look && !windows->is_locked && !windows->is_cut_short; window = window->next)
-        look_at_window(windows, window, &unready);
-    release_slots(windows);
-    free_ended(windows);
-    lock_for_look(windows);
-    int cause = clear_scratch(windows);
-    if (cause != 0 && !windows->is_locked) note_failure(windows, WINDOW_NO_MAPPING, cause);
-    windows->counts.look_ns += clock_spent_ns() - begun;
-    if (!windows->is_cut_short) windows->counts.round_ns = clock_now_ns() - begun_ns;
-    unlock_set(windows);
-    return windows->result;
-}
+bool look_again(struct look *look) { return look_in(look, true); }

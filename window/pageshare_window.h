@@ -1,7 +1,8 @@
 /*
  * What the thread that lends a monitor's pages decides, in C11 or C++11: the functions of libpageshare_window.a. They decide what is done
- * next with a page, which pages a call of the monitor is about, which ones a device may hold, which numbers a new window's pages get, how
- * many mappings may be made, and how much processor time the thread may use. They are proved, make no system call and allocate nothing.
+ * next with a page, and in a look; which pages a call of the monitor is about, which ones a device may hold, and which numbers a new window's
+ * pages get; how many mappings may be made, and how much processor time the thread may use. They are proved, make no system call and allocate
+ * nothing.
  *
  * Pages:
  *
@@ -16,6 +17,13 @@
  *     struct pageshare_window_budget budget;
  *     pageshare_window_begin(&budget, 2, 25, now, used);            2 percent of one processor, 25 while there is a credit
  *     uint64_t wait = pageshare_window_settle(&budget, now, used);  how long the thread sleeps before it asks again; 0: it may work
+ *
+ * A look, of tasks that are carried out one after another:
+ *
+ *     static struct pageshare_window_tasks tasks;
+ *     pageshare_window_begin_tasks(&tasks, now);
+ *     while ((task = pageshare_window_next_task(&tasks, &budget, now, used)).kind != PAGESHARE_WINDOW_TASK_OVER)
+ *         pageshare_window_task_done(&tasks, &task, &outcome, now);  once the task was carried out, and with what came of it
  *
  * Ranges, of which the table of zeros has none:
  *
@@ -38,10 +46,10 @@
  *
  * The caller ensures:
  * - Pointers are valid, not null, and point to a page, counts, a budget or a table that no other thread uses during the call.
- * - Budgets, pages, counts, transfers, pins and ranges are written by these calls alone, but for what is set to zeros at first, and for what
+ * - Budgets, tasks, pages, counts, transfers, pins and ranges are written by these calls alone, but for what is set to zeros at first, and for what
  *   the caller writes of a range: `window`, `base` and `said`. The counts that a call for one page gets are those of the page's part.
  * - The tables that a call gets are those of one window.
- * - Of an order it carries out what the order says and nothing else, and what it says came of it is true.
+ * - Of an order or a task it carries out what that says and nothing else, and what it says came of it is true.
  * - Before a call of the monitor goes on that changes a page, it passes what is so of the page from then on.
  * - It says of each page what was put at its place, and when it is written, given up, unmapped or leaves.
  */
@@ -515,7 +523,7 @@ struct pageshare_window_return {
     uint64_t due_ns;
 };
 
-/* Where a look at a window is. */
+/* Which part of a window a look comes to next. The library alone writes the members. */
 struct pageshare_window_steps {
     uint32_t parts;     /* how many the window has */
     uint32_t next_part; /* that one comes next */
@@ -523,17 +531,64 @@ struct pageshare_window_steps {
     struct pageshare_window_return returns[64];
 };
 
-enum pageshare_window_step {
-    PAGESHARE_WINDOW_STEP_OVER = 0,  /* it has come to all parts */
-    PAGESHARE_WINDOW_STEP_PART = 1,  /* it comes to a part */
-    PAGESHARE_WINDOW_STEP_RETURN = 2 /* it comes back to one, whose pages may be idle by now */
+/* What the thread that looks does next. */
+enum pageshare_window_task_kind {
+    PAGESHARE_WINDOW_TASK_OVER = 0,      /* nothing: no look stands */
+    PAGESHARE_WINDOW_TASK_SLEEP = 1,     /* sleep for `ns` nanoseconds, which are 100 ms at most */
+    PAGESHARE_WINDOW_TASK_BEGIN = 2,     /* find out whether anything can be looked at */
+    PAGESHARE_WINDOW_TASK_ATTEND = 3,    /* do what may not wait for the look's end: first of all in a look, and each second */
+    PAGESHARE_WINDOW_TASK_RELEASE = 4,   /* release slots, as many as one message names */
+    PAGESHARE_WINDOW_TASK_WINDOW = 5,    /* go to the first window, or to the next one */
+    PAGESHARE_WINDOW_TASK_LOOK = 6,      /* look at `part` for the first time in this look */
+    PAGESHARE_WINDOW_TASK_RETURN = 7,    /* look at `part` again, for the pages that may be idle soon */
+    PAGESHARE_WINDOW_TASK_GIVE_BACK = 8, /* give back the next pages in a row of those that are zeros */
+    PAGESHARE_WINDOW_TASK_ASK = 9,       /* ask the lender about idle pages, as many as one message names */
+    PAGESHARE_WINDOW_TASK_COPY = 10,     /* copy those of them that others have to the lender's buffer */
+    PAGESHARE_WINDOW_TASK_LEND = 11,     /* ask for loans of what was copied */
+    PAGESHARE_WINDOW_TASK_HOLD = 12,     /* hold the next pages in a row that have a loan, and show their frames */
+    PAGESHARE_WINDOW_TASK_END = 13       /* do what follows the last window */
 };
 
-/* Begins a look; returns what comes next, enum pageshare_window_step, and which part that is; and takes that a part was looked at: whether it
- * rests, and how many of its pages may be idle soon. `now`: the time in ns. */
-void pageshare_window_begin_look(struct pageshare_window_steps *steps, uint32_t parts);
-uint8_t pageshare_window_next_step(struct pageshare_window_steps *steps, uint64_t now, uint32_t *part);
-bool pageshare_window_looked(struct pageshare_window_steps *steps, uint32_t part, uint64_t now, bool rests, uint32_t young);
+struct pageshare_window_task {
+    uint64_t ns;   /* of SLEEP */
+    uint32_t part; /* of LOOK and RETURN */
+    uint8_t kind;  /* enum pageshare_window_task_kind */
+};
+
+/* What came of a task. */
+struct pageshare_window_outcome {
+    uint32_t parts; /* of WINDOW: the parts that the window has */
+    uint32_t zeros; /* pages that were found to be zeros, and are to be given back still */
+    uint32_t idle;  /* pages that were found idle, and are to be asked about still */
+    uint32_t young; /* of LOOK and RETURN: pages of the part that may be idle soon */
+    bool rests;     /* of LOOK and RETURN: the part rests, so that some of its pages were looked at */
+    /*
+     * BEGIN: a look can be made. ATTEND: the look goes on. RELEASE: there may be more slots to release. WINDOW: there is one.
+     * LOOK, RETURN: the window hasn't ended. ASK, COPY, LEND: pages are left for COPY, LEND, HOLD. HOLD: pages are left to be held.
+     */
+    bool goes_on;
+};
+
+/* Where a look is. Zeros: no look stands. The library alone writes the members. */
+struct pageshare_window_tasks {
+    struct pageshare_window_steps steps;
+    uint64_t attend_ns;
+    uint32_t part;
+    uint32_t zeros;
+    uint32_t idle;
+    uint8_t stage;
+    uint8_t sharing;
+    bool releases;
+};
+
+/* Begins a look. Returns false, and changes nothing, if one stands. */
+bool pageshare_window_begin_tasks(struct pageshare_window_tasks *tasks);
+/* Returns what is done next. `spent`: the processor time that the thread has used, for which `budget` pays. */
+struct pageshare_window_task pageshare_window_next_task(struct pageshare_window_tasks *tasks,
+                                                        struct pageshare_window_budget *budget, uint64_t now, uint64_t spent);
+/* Takes what came of the task that pageshare_window_next_task returned last. */
+void pageshare_window_task_done(struct pageshare_window_tasks *tasks, const struct pageshare_window_task *task,
+                                const struct pageshare_window_outcome *outcome, uint64_t now);
 
 /* What a look found, and what it took. */
 struct pageshare_window_finds {

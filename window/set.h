@@ -9,15 +9,17 @@
 #include "window.h"
 #include <pthread.h>
 #include <stdatomic.h>
+#include <sys/types.h>
 
 enum {
     PART = PAGEMAP_MOST, /* pages that a huge page has, and that one step of a look, or of a long call, handles under the lock */
     HOLD_MOST = 16,      /* pages that are held at once */
     SCRATCH = 512,       /* pages that were taken out are discarded together, since that interrupts all processors */
     HOME_MOST = 64,      /* pages that are guarded at once while they are copied home */
-    STILL = 3,           /* looks with the same fingerprint that make a page idle */
-    ASKS_APART_MOST = 3, /* questions about a page that were in vain are counted up to this number */
-    TRANSFERS_MOST = 128 /* transfers under way that are kept by their places */
+    FOUND_MOST = PART + WINDOW_BATCH, /* what a part has, beside less than a batch that was found before it */
+    STILL = 3,                        /* looks with the same fingerprint that make a page idle */
+    ASKS_APART_MOST = 3,              /* questions about a page that were in vain are counted up to this number */
+    TRANSFERS_MOST = 128              /* transfers under way that are kept by their places */
 };
 
 /* In place of a frame's number: the page is zeros, and goes back to the system. */
@@ -127,8 +129,8 @@ struct windows {
     bool follows_limit;      /* nobody said how many mappings there may be: the system's limit counts, also when it is raised */
     uint64_t locks_after_ns; /* smaps isn't read before this time */
     struct windows_tuning tuning;
-    bool (*pace)(void *opaque);
-    void *pace_opaque;
+    bool (*attend)(void *opaque);
+    void *attend_opaque;
     bool never_wait;        /* for a part to stay as it is for some looks */
     uint64_t crowded_until; /* this look: a page wasn't lent lately since mappings are short */
     bool is_locked;
@@ -146,9 +148,11 @@ struct windows {
     uint8_t *frames_at;    /* the frames' file, for reading */
     bool frames_are_given; /* it is mapped as windows show frames, and no child has it: parts of it can be put in a window */
     uint64_t fingerprint_of_zeros;
-    uint64_t paced_ns;           /* processor time of the thread when it last kept the pace */
-    uint64_t attended_ns;        /* when it last attended to what may not wait for the end of a look */
-    bool is_cut_short;           /* the look under way is to end */
+    struct pageshare_window_tasks tasks;
+    struct pageshare_window_budget budget;
+    bool has_budget;             /* the thread has a share of a processor only */
+    pid_t looker;                /* the thread that looked last; 0: none did */
+    uint64_t unpaid_ns;          /* its processor time, but for that which the budget counts */
     struct window_result result; /* of the look under way: the first thing that went wrong */
 };
 
@@ -289,9 +293,6 @@ void note_huge(struct window *window, size_t first, bool is_huge);
 /* Splits a whole part, or makes a split one whole, if that is worth it by what a look has found of it. With the lock. */
 void settle_part(struct window *window, size_t first, size_t own, bool is_huge);
 
-/* Lets others run if there is a pace, and attends to what may not wait for the end of a look. Not with the lock, nor while pages are
- * held. Returns whether the look goes on. */
-bool keep_pace(struct windows *windows);
 /* Notes that so many pages weren't lent since mappings are short. With the lock. */
 void note_crowded(struct windows *windows, size_t pages);
 /* Notes how long pages were held that are held no longer. */
@@ -317,23 +318,48 @@ void end_advice(struct window *window, size_t first, size_t count);
 /* Takes everything home, in parts, since the windows' memory is locked. Takes the lock. */
 void take_all_home(struct windows *windows);
 
-/* The pages of one window that a step of a look found idle. */
-struct batch {
-    struct window *window;
-    size_t count;
-    uint32_t pages[WINDOW_BATCH]; /* of the window, each once */
-    uint64_t fingerprints[WINDOW_BATCH];
-};
 /* Notes that a lender's call failed. One that isn't there is asked nothing more in this look. Takes the lock. */
 void lender_failed(struct windows *windows, int cause);
 /* Lets others run if this thread has run for long since it got its processor, so that it doesn't lose it while it holds pages. Not with
  * the lock. */
 void begin_turn(struct turn *turn);
-/* Gives idle pages of zeros back to the system. Empties the batch. */
-void give_zeros_back(struct windows *windows, struct batch *batch);
-/* Asks about idle pages and lends those that others have. Empties the batch. */
-void share(struct windows *windows, struct batch *batch);
-/* Releases the slots that no page shows. */
-void release_slots(struct windows *windows);
+
+/* ---- a look's tasks ---- */
+
+/* Pages of the window at which a look is, each once, in the order in which they were found. */
+struct found {
+    size_t count;
+    uint32_t pages[FOUND_MOST];
+    uint64_t fingerprints[FOUND_MOST];
+};
+/* The first of those that are idle, while they come to be shared. */
+struct batch {
+    size_t count;
+    size_t done; /* of those that have a loan, how many were held, or stay as they are */
+    uint32_t pages[WINDOW_BATCH];
+    uint64_t fingerprints[WINDOW_BATCH];
+};
+
+/* A look under way. */
+struct look {
+    struct windows *windows;
+    struct window *window, *next; /* the one at which it is, and the one to which it goes then */
+    struct found zeros, idle;     /* what was found, and comes to be given back, or asked about */
+    struct batch batch;
+    size_t unready;                          /* parts of which it may still say that KSM leaves them alone */
+    bool has_begun;                          /* it is known whether anything can be looked at */
+    bool is_cut_short;                       /* it ends before it has been everywhere */
+    uint64_t begun_ns, begun_spent;          /* the time, and the thread's processor time, when it began */
+    struct pageshare_window_task task;       /* which is carried out */
+    struct pageshare_window_outcome outcome; /* what has come of it */
+};
+
+/*
+ * Carries out a task. Before it and after it nothing is held, and no lock is taken. Returns whether its kind goes on, as struct
+ * pageshare_window_outcome says; other members of the outcome it writes itself, but for the counts of pages that were found.
+ */
+typedef bool task_do(struct look *look);
+task_do look_at_part, look_again;                                                 /* in look.c */
+task_do give_zeros_back, ask_lender, copy_for_lender, ask_for_loans, hold_loaned; /* in lend.c */
 
 #endif

@@ -11,8 +11,8 @@
  * So a write waits for nobody: to a lent page it costs the kernel's own copy. A page is held only for the moment in which it is
  * compared with its frame, byte by byte, and the frame is mapped. No lender is called meanwhile.
  *
- * windows_look, windows_attach and windows_detach are called by one thread at a time. All other calls may come from any thread at any
- * time, but windows_free. Nobody waits long: the lock inside is never held while a lender is called, nor over a long run of pages.
+ * windows_look, windows_attach, windows_detach and the calls for a budget are made by one thread at a time. All other calls may come from any
+ * thread at any time, but windows_free. Nobody waits long: the lock inside is never held while a lender is called, nor over a long run of pages.
  *
  * Callers must:
  * - not discard (madvise), map, unmap, move or protect a part of a window, but by window_discard, window_cut and window_forget. A
@@ -100,11 +100,16 @@ struct windows_config {
     size_t mappings_most;
     struct windows_tuning tuning;
     /*
-     * Called in a look, by the thread that looks, after each 0.4 ms or so of its processor time, with nothing held and no lock. It may
-     * sleep, and may call anything of windows but what that thread alone calls. Returns false if the look is to end early. NULL: none.
+     * How much of one processor the thread that looks may use, in percent: `percent`, and up to `burst` while it has a credit. A look sleeps
+     * until what the thread has used is paid for, also between looks. Nothing is held meanwhile. `percent` 0: as much as it likes.
      */
-    bool (*pace)(void *opaque);
-    void *pace_opaque;
+    unsigned percent, burst;
+    /*
+     * Called in a look, by the thread that looks: first of all, and each second while it lasts, with nothing held and no lock. It may call
+     * anything of windows but windows_look, windows_attach and windows_detach. Returns false if the look is to end. NULL: none.
+     */
+    bool (*attend)(void *opaque);
+    void *attend_opaque;
     bool never_move;   /* as on a kernel without UFFDIO_MOVE; for tests */
     bool never_scan;   /* as on a kernel without PAGEMAP_SCAN; for tests */
     bool never_wait;   /* parts are split and made whole at any look that finds a cause; for tests */
@@ -129,6 +134,19 @@ int windows_each_slot(struct windows *windows, int (*each)(void *opaque, uint32_
 
 /* From now on, also for windows that there are. A window that was made with huge_from 0 keeps no huge pages. */
 void windows_tune(struct windows *windows, const struct windows_tuning *tuning);
+
+/* What the thread that looks may use of a processor. */
+struct windows_budget {
+    unsigned percent;   /* its share of one processor */
+    uint64_t credit_ns; /* processor time that it may use beyond the share */
+};
+/*
+ * Of a set that was made with a share (windows_config.percent), by the thread that looks: changes its share and its burst; adds to its credit;
+ * and returns what they are. Of other sets the first two do nothing, and the share is 100.
+ */
+void windows_pace(struct windows *windows, unsigned percent, unsigned burst);
+void windows_give_credit(struct windows *windows, uint64_t ns);
+struct windows_budget windows_budget_of(const struct windows *windows);
 
 /* Devices may pin from now on, or no longer. */
 void windows_set_pins(struct windows *windows, enum windows_pins pins);

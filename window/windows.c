@@ -75,6 +75,13 @@ void follow_limit(struct windows *windows) {
     windows->mappings_most = windows->counts.mappings_most = (size_t)pageshare_window_mappings_most(mappings_limit());
 }
 
+static void begin_budget(struct windows *windows, const struct windows_config *config) {
+    enum { ALL = 100 };
+    windows->has_budget = config->percent > 0;
+    unsigned percent = windows->has_budget ? config->percent : ALL;
+    pageshare_window_begin(&windows->budget, percent, config->burst, clock_now_ns(), 0);
+}
+
 struct window_result windows_make(struct windows **made, const struct windows_config *config) {
     struct windows *windows = table_make(1, sizeof *windows);
     *made = NULL;
@@ -87,9 +94,10 @@ struct window_result windows_make(struct windows **made, const struct windows_co
     windows->trace_path = config->trace;
     windows->mappings_most = config->mappings_most;
     windows->tuning = config->tuning;
-    windows->pace = config->pace;
+    windows->attend = config->attend;
+    windows->attend_opaque = config->attend_opaque;
     windows->never_wait = config->never_wait;
-    windows->pace_opaque = config->pace_opaque;
+    begin_budget(windows, config);
     windows->follows_limit = config->mappings_most == 0;
     follow_limit(windows);
     windows->counts.mappings_most = windows->mappings_most;

@@ -201,18 +201,18 @@ def case_late() -> None:
         must(times[0] < float("inf"), f"they weren't shared: {row}")
 
 
-def run_over_proved(name: str, source: str, *flags: str) -> bool:
-    """Compiles checks/host/NAME.c with a source of the preloaded library and with what is proved of it. Returns whether it ran well."""
+def run_over_proved(name: str, *sources: str) -> bool:
+    """Compiles checks/host/NAME.c with sources of the preloaded library and with what is proved of it. Returns whether it ran well."""
     program = HERE.place.room / name
     folders = (PRELOAD, TOP / "host", TOP / "window", TOP / "lib/include")
-    words: list[StrPath] = [CC, *FLAGS, *(f"-I{it}" for it in folders), *flags, "-o", program]
-    must(subprocess.run([*words, TOP / f"checks/host/{name}.c", PRELOAD / source, WINDOW_LIBRARY]).returncode == 0, f"{name}.c doesn't compile")
+    words: list[StrPath] = [CC, *FLAGS, *(f"-I{it}" for it in folders), "-o", program, TOP / f"checks/host/{name}.c"]
+    must(subprocess.run([*words, *(PRELOAD / it for it in sources), WINDOW_LIBRARY]).returncode == 0, f"{name}.c doesn't compile")
     return subprocess.run([program]).returncode == 0
 
 
 def case_paced() -> None:
-    """The library's thread works for nearly all of its processor time where naps themselves take time, by clocks that a program sets."""
-    must(run_over_proved("paced", "budget.c", "-Wl,--wrap=clock_gettime"), "the thread works for too little of its time, or too long")
+    """A thread that looks works for nearly all of its processor time where sleeps themselves take time, by clocks that a program has."""
+    must(run_over_proved("paced"), "the thread works for too little of its time, or too long")
 
 
 def case_ranges() -> None:

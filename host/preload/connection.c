@@ -1,8 +1,8 @@
 #define _GNU_SOURCE
 #include "connection.h"
-#include "budget.h"
 #include "counts_file.h"
 #include "memory.h"
+#include "pageshare_window.h"
 #include "remote.h"
 #include "sharing.h"
 #include "slices.h"
@@ -31,7 +31,8 @@ enum {
     SHARED_NS = 15000,
     PATH_ROOM = 256
 };
-static const uint64_t retry_ns = 1000000000, chores_ns = 1000000000, nap_most_ns = 100000000;
+/* (a look attends each second, and what is due then each time is due a little earlier) */
+static const uint64_t retry_ns = 1000000000, chores_ns = 900000000;
 
 /* What the environment says. */
 static struct {
@@ -53,7 +54,6 @@ static struct {
     uint64_t next_try_ns, next_chores_ns, look_begun_ns;
     bool was_connected; /* when the look under way began */
     bool is_memory_short;
-    struct budget budget;
     struct windows_counts before, at_chores;
     struct pageshare_window_times times;
     unsigned printed;    /* a bit for each status of a look that was printed, so that each is printed once */
@@ -127,7 +127,14 @@ static enum windows_pins find_pins(void *unused) {
     return devices_still_open() < DEVICES_PIN_PAGES ? WINDOWS_PINS_NEVER : WINDOWS_PINS_POSSIBLE;
 }
 
-static bool pace(void *unused);
+static bool attend(void *unused);
+
+/* The thread's share of a processor, in percent: what the environment says, or the host, or the less of both. */
+static unsigned share(void) {
+    unsigned said = settings.cpu_percent, granted = my.remote.client_cpu;
+    unsigned both = said < granted ? said : granted, one = said ? said : granted ? granted : CPU_PERCENT;
+    return said && granted ? both : one;
+}
 
 /* Where memory is short no part of a window stays whole of which anything could be shared. */
 static struct windows_tuning tuning(void) {
@@ -141,7 +148,9 @@ static bool make_windows(void) {
     struct windows_config config = {.pins = find_pins(NULL),
                                     .find_pins = find_pins,
                                     .tuning = tuning(),
-                                    .pace = pace,
+                                    .percent = share(),
+                                    .burst = BURST_PERCENT,
+                                    .attend = attend,
                                     .never_wait = settings.is_hasty,
                                     .faults = my.remote.faults_device > 0 ? my.remote.faults_device : 0,
                                     .trace = *settings.trace ? settings.trace : NULL};
@@ -174,7 +183,7 @@ static void attach(void) {
     my.next_try_ns = now_ns() + retry_ns;
     if (my.is_attached) {
         pageshare_window_be_eager(&my.times);
-        budget_give_credit(&my.budget, FIRST_NS * (uint64_t)my.before.pages);
+        windows_give_credit(my.windows, FIRST_NS * (uint64_t)my.before.pages);
     } else if (!was_unattached) {
         log_line("the host's frames can't be used: %s (%s); it is tried again each second", window_status_words(result.status),
                  strerror(result.cause));
@@ -187,13 +196,6 @@ static void report_no_host(int cause) {
     else if (cause == ECONNRESET || cause == EPIPE)
         log_line("the host at %s refused the connection, and its log says why; it is tried again each second", settings.socket);
     else log_line("no host at %s (%s); it is tried again each second", settings.socket, strerror(cause));
-}
-
-/* The thread's processor time: what the environment says, or the host, or the less of both. */
-static void set_budget(void) {
-    unsigned said = settings.cpu_percent, granted = my.remote.client_cpu;
-    unsigned both = said < granted ? said : granted, one = said ? said : granted ? granted : CPU_PERCENT;
-    budget_set(&my.budget, said && granted ? both : one, BURST_PERCENT);
 }
 
 /* Connects if there is no connection, and attaches its lender, not too often. Returns whether pages are lent by a host. */
@@ -213,9 +215,9 @@ static bool connect_host(void) {
         return false;
     }
     if (my.was_reported) log_line("connected to the host at %s", settings.socket);
-    set_budget();
     my.was_reported = false;
-    if (!my.windows && !make_windows()) return false;
+    if (my.windows) windows_pace(my.windows, share(), BURST_PERCENT);
+    else if (!make_windows()) return false;
     if (found == REMOTE_NEW || !my.is_attached) attach();
     return my.is_attached;
 }
@@ -259,20 +261,18 @@ static void give_credits(const struct windows_counts *now) {
     uint64_t new_pages = now->pages > before->pages ? now->pages - before->pages : 0;
     uint64_t lending_ns = now->map_ns - before->map_ns + now->lend_ns - before->lend_ns;
     uint64_t new_ns = FRESH_NS * (now->fresh - before->fresh) + FIRST_NS * new_pages;
-    budget_give_credit(&my.budget, new_ns + SHARED_NS * shared + lending_ns);
+    windows_give_credit(my.windows, new_ns + SHARED_NS * shared + lending_ns);
     my.at_chores = *now;
 }
 
 static void write_counts(const struct windows_counts *now);
 
-/* What is to be done before each look, and each second while one lasts. */
-static void do_chores(bool is_look) {
+/* What is to be done at the beginning of a look, and each second while one lasts. */
+static void do_chores(void) {
     struct windows_counts counts;
-    bool is_due = now_ns() >= my.next_chores_ns;
-    if (is_look && !is_due) return;
     ranges_found(devices_open()); /* (descriptors that came by a socket are seen here alone) */
     if (my.is_attached && my.remote.socket >= 0) ranges_open(settings.flags);
-    if (!is_due) return;
+    if (now_ns() < my.next_chores_ns) return;
     my.next_chores_ns = now_ns() + chores_ns;
     my.is_memory_short = memory_is_short();
     const struct windows_tuning now = tuning();
@@ -304,15 +304,10 @@ static bool is_to_end(void) {
     return true;
 }
 
-/* In a look: sleeps until the processor time that it used is paid for. Returns whether the look goes on. */
-static bool pace(void *unused) {
+/* In a look, as windows_config says. Returns whether the look goes on. */
+static bool attend(void *unused) {
     (void)unused;
-    do_chores(true);
-    for (uint64_t wait_ns; (wait_ns = budget_settle(&my.budget)) > 0;) {
-        struct timespec nap = {.tv_nsec = (long)(wait_ns < nap_most_ns ? wait_ns : nap_most_ns)};
-        nanosleep(&nap, NULL);
-        do_chores(true);
-    }
+    do_chores();
     return !is_to_end();
 }
 
@@ -341,6 +336,7 @@ static void write_times(const uint64_t *held, char *text, size_t room) {
 /* The counts as JSON, for tests and operators. */
 static void write_counts(const struct windows_counts *now) {
     char text[3584], held[WINDOWS_TIMES * 21];
+    const struct windows_budget budget = windows_budget_of(my.windows);
     counts_file_write(now);
     if (settings.counts < 0) return;
     write_times(now->held, held, sizeof held);
@@ -354,7 +350,7 @@ static void write_counts(const struct windows_counts *now) {
         "llu,\"lend_ns\":%llu,"
         "\"map_ns\":%llu,\"hold_most_ns\":%llu,\"processor_ns\":%llu,\"period_ms\":%u,\"devices\":%d,"
         "\"parts_whole\":%zu,\"parts_split\":%zu,\"parts_huge\":%zu,\"splits\":%llu,\"made_whole\":%llu,\"not_made_whole\":%llu,"
-        "\"huge_from\":%u,\"reads\":%llu,\"fresh\":%llu,\"round_ms\":%llu,\"cpu_percent\":%u,\"credit_ms\":%lld,"
+        "\"huge_from\":%u,\"reads\":%llu,\"fresh\":%llu,\"round_ms\":%llu,\"cpu_percent\":%u,\"credit_ms\":%llu,"
         "\"memory_is_short\":%d,\"turns\":%u,\"pages_of_mapping\":%.1f,\"held\":[%s]}\n",
         my.remote.socket >= 0, (int)now->pause, now->windows, now->pages, now->lent, now->zeros_now, now->mappings,
         now->mappings_most, now->table_bytes, (unsigned long long)now->looks, (unsigned long long)now->lends,
@@ -367,7 +363,7 @@ static void write_counts(const struct windows_counts *now) {
         (int)ranges_devices(), now->parts_whole, now->parts_split, now->parts_huge, (unsigned long long)now->splits,
         (unsigned long long)now->made_whole, (unsigned long long)now->not_made_whole, (unsigned)tuning().huge_from,
         (unsigned long long)now->reads, (unsigned long long)now->fresh, (unsigned long long)(now->round_ns / 1000000),
-        my.budget.counted.percent, (long long)(my.budget.counted.credit / 1000000), my.is_memory_short, my.times.turns,
+        budget.percent, (unsigned long long)(budget.credit_ns / 1000000), my.is_memory_short, my.times.turns,
         (double)now->lent / (double)(now->mappings + 1), held);
     bool fits = length > 0 && (size_t)length < sizeof text;
     if (!fits || pwrite(settings.counts, text, (size_t)length, 0) != length || ftruncate(settings.counts, length) != 0) {
@@ -387,8 +383,10 @@ static void turn(void) {
     struct windows_counts counts;
     connect_host();
     if (!my.windows) return;
-    do_chores(false);
-    if (ranges_have_early()) return;
+    if (ranges_have_early()) {
+        do_chores();
+        return;
+    }
     my.look_begun_ns = now_ns();
     my.was_connected = my.remote.socket >= 0;
     report_look(windows_look(my.windows));
@@ -428,7 +426,6 @@ void *connection_thread(void *unused) {
     /* Threads that touch a page that is held wait for this one. (Where a higher priority isn't allowed it has the monitor's.) */
     if (getpriority(PRIO_PROCESS, 0) > FIRST_NICE) setpriority(PRIO_PROCESS, 0, FIRST_NICE);
     ask_for_short_slices();
-    set_budget();
     for (;;) {
         uint64_t pause_ms = until_look_ms();
         struct timespec pause = {.tv_sec = (time_t)(pause_ms / 1000), .tv_nsec = (long)(pause_ms % 1000) * 1000000};

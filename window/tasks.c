@@ -1,0 +1,266 @@
+/* Looks: the proved library says what the thread does next, and a function for each task does it. */
+#define _GNU_SOURCE
+#include "bytes.h"
+#include "set.h"
+#include <errno.h>
+#include <time.h>
+#include <unistd.h>
+
+enum {
+    READY_PARTS = 64, /* parts of which a look says MADV_UNMERGEABLE at most, while KSM has merged something */
+    LIMIT_EACH = 16,  /* looks until the system's limit of mappings is read again */
+    TASKS = PAGESHARE_WINDOW_TASK_END + 1
+};
+
+/* ---- slots that are released ---- */
+
+/* Slots that are to be released, of one call. */
+struct slots {
+    size_t count;
+    uint64_t slots[WINDOW_BATCH];
+    struct window *windows[WINDOW_BATCH];
+    uint32_t pages[WINDOW_BATCH];
+};
+
+static void collect_part(struct slots *slots, struct window *window, size_t first) {
+    size_t end = first + rest_of_part(window, first);
+    for (size_t page = first; page < end && slots->count < WINDOW_BATCH; page++) {
+        page += pageshare_window_before_release(window->pages + page, end - page);
+        /* (a device may be reading the frame, as the page showed it when it began) */
+        if (page == end || is_in_transfer(window, page) || !order_release(window, page)) continue;
+        slots->slots[slots->count] = slot_number(window->pages[page].slot);
+        slots->windows[slots->count] = window;
+        slots->pages[slots->count++] = (uint32_t)page;
+    }
+}
+
+/* Orders pages to be released whose slots are to be, and collects these. Takes the lock. */
+static void collect(struct windows *windows, struct slots *slots) {
+    slots->count = 0;
+    lock_for_look(windows);
+    for (struct window *window = windows->first; window != NULL && slots->count < WINDOW_BATCH; window = window->next)
+        for (size_t first = 0; first < window->count; first += rest_of_part(window, first))
+            if (part_counts(window, first)->releases > 0) collect_part(slots, window, first);
+    unlock_set(windows);
+}
+
+/* Notes whether the slots were released. Takes the lock. */
+static void note_releases(struct windows *windows, const struct slots *slots, bool are_released) {
+    lock_for_look(windows);
+    for (size_t i = 0; i < slots->count; i++) {
+        note_order(slots->windows[i], slots->pages[i], are_released);
+        if (are_released) trace_release(windows->trace, slots->windows[i]->base + slots->pages[i]);
+    }
+    unlock_set(windows);
+}
+
+static bool release_slots(struct look *look) {
+    struct windows *windows = look->windows;
+    struct slots slots;
+    if (!windows->has_lender || windows->lender_waits) return false;
+    collect(windows, &slots);
+    if (slots.count == 0) return false;
+    int cause = windows->lender.release(windows->lender.opaque, slots.slots, slots.count);
+    note_releases(windows, &slots, cause == 0);
+    if (cause != 0) lender_failed(windows, cause);
+    return cause == 0 && slots.count == WINDOW_BATCH;
+}
+
+/* ---- locked memory ---- */
+
+/* Whether a page between two addresses is in a window. Takes the lock. */
+static bool has_page_between(void *set, const uint8_t *begin, const uint8_t *end) {
+    struct windows *windows = set;
+    bool has = false;
+    lock_for_look(windows);
+    for (struct window *window = windows->first; window != NULL && !has; window = window->next) {
+        const uint8_t *at = window->at, *stop = address_of(window, window->count);
+        if (window->ended || begin >= stop || end <= at) continue;
+        size_t page = begin > at ? (size_t)(begin - at) / WINDOW_PAGE_BYTES : 0;
+        for (; page < window->count && address_of(window, page) < end && !has; page++) has = !is_out(&window->pages[page]);
+    }
+    unlock_set(windows);
+    return has;
+}
+
+/*
+ * Looks whether memory of a window was locked since the last time. That takes reading smaps, long if there are many mappings, so it is
+ * done for a small part of the time only, and never with the lock.
+ */
+static void look_for_locks(struct windows *windows) {
+    enum { TIMES = 200 };
+    size_t kib = locked_kib();
+    uint64_t begun = clock_now_ns();
+    if (kib == windows->locked_kib || (kib > 0 && begun < windows->locks_after_ns)) return;
+    bool is_locked = false;
+    int refused = kib > 0 ? locked_find(has_page_between, windows, &is_locked) : 0;
+    if (refused != 0) { /* (the next time it tries again) */
+        note_failure(windows, WINDOW_NO_PAGEMAP, refused);
+        return;
+    }
+    windows->locked_kib = kib;
+    lock_for_look(windows);
+    windows->is_locked = is_locked;
+    unlock_set(windows);
+    windows->locks_after_ns = begun + TIMES * (clock_now_ns() - begun);
+    if (windows->is_locked) {
+        take_all_home(windows);
+        return;
+    }
+    /* (the scratch area may have been filled) */
+    lock_for_look(windows);
+    int cause = windows->stuck_count == 0 ? make_scratch(windows) : 0;
+    if (cause != 0) note_failure(windows, WINDOW_NO_MAPPING, cause);
+    unlock_set(windows);
+}
+
+/* ---- the tasks ---- */
+
+/* (a signal may end it early: the library says then how much is left) */
+static bool sleep_on(struct look *look) {
+    const struct timespec nap = {.tv_nsec = (long)look->task.ns};
+    nanosleep(&nap, NULL);
+    return true;
+}
+
+/* Other calls, locks and devices. Where memory is locked a look that hasn't begun goes on until it has said so. */
+static bool attend(struct look *look) {
+    struct windows *windows = look->windows;
+    bool goes_on = windows->attend == NULL || windows->attend(windows->attend_opaque);
+    look_for_locks(windows);
+    lock_for_look(windows);
+    find_pins(windows);
+    unlock_set(windows);
+    look->is_cut_short = look->is_cut_short || !goes_on || (look->has_begun && windows->is_locked);
+    return !look->is_cut_short;
+}
+
+/* Puts pages back that an earlier look could not, and notes why nothing is lent. Returns whether anything can be looked at. */
+static bool begin(struct look *look) {
+    static const unsigned char zeros[WINDOW_PAGE_BYTES] __attribute__((aligned(8)));
+    struct windows *windows = look->windows;
+    windows->fingerprint_of_zeros = fingerprint_of(windows->lender.salt, zeros);
+    look->unready = merged_kib() > 0 ? READY_PARTS : SIZE_MAX;
+    look->has_begun = true;
+    lock_for_look(windows);
+    look->next = windows->first;
+    int cause = free_stuck(windows);
+    windows->counts.looks++;
+    if (windows->counts.looks % LIMIT_EACH == 0) follow_limit(windows);
+    windows->counts.pause = windows->counts.looks <= windows->crowded_until ? WINDOWS_CROWDED : WINDOWS_LENDING;
+    if (!windows->has_lender) windows->counts.pause = WINDOWS_NO_LENDER;
+    if (windows->is_locked) windows->counts.pause = WINDOWS_LOCKED;
+    if (cause != 0) windows->counts.pause = WINDOWS_HELD;
+    if (cause != 0) note_failure(windows, WINDOW_STUCK, cause);
+    if (windows->is_locked) note_failure(windows, WINDOW_LOCKED, EPERM);
+    if (windows->advice_cause != 0) note_failure(windows, WINDOW_ADVICE, windows->advice_cause);
+    windows->advice_cause = 0;
+    unlock_set(windows);
+    return cause == 0 && !windows->is_locked;
+}
+
+/* (windows that are made in a look come before its first one; that thread alone frees them) */
+static bool go_to_window(struct look *look) {
+    look->window = look->next;
+    if (look->window == NULL) return false;
+    look->next = look->window->next;
+    look->outcome.parts = (uint32_t)parts_in(look->window);
+    return true;
+}
+
+static bool has_slots(const struct window *window) {
+    for (size_t part = 0; part < parts_in(window); part++)
+        if (window->counts[part].releases > 0) return true;
+    return false;
+}
+
+/* Frees windows that have ended, and hold no slot any more. With the lock. */
+static void free_ended(struct windows *windows) {
+    for (struct window **at = &windows->first; *at != NULL;) {
+        struct window *window = *at;
+        if (!window->ended || has_slots(window)) {
+            at = &window->next;
+            continue;
+        }
+        *at = window->next;
+        free_window(window);
+    }
+}
+
+static bool end(struct look *look) {
+    struct windows *windows = look->windows;
+    lock_for_look(windows);
+    free_ended(windows);
+    int cause = clear_scratch(windows);
+    if (cause != 0 && !windows->is_locked) note_failure(windows, WINDOW_NO_MAPPING, cause);
+    windows->counts.look_ns += clock_spent_ns() - look->begun_spent;
+    if (!look->is_cut_short) windows->counts.round_ns = clock_now_ns() - look->begun_ns;
+    unlock_set(windows);
+    return false;
+}
+
+/* ---- a look ---- */
+
+static task_do *const does[TASKS] = {
+    [PAGESHARE_WINDOW_TASK_SLEEP] = sleep_on,
+    [PAGESHARE_WINDOW_TASK_BEGIN] = begin,
+    [PAGESHARE_WINDOW_TASK_ATTEND] = attend,
+    [PAGESHARE_WINDOW_TASK_RELEASE] = release_slots,
+    [PAGESHARE_WINDOW_TASK_WINDOW] = go_to_window,
+    [PAGESHARE_WINDOW_TASK_LOOK] = look_at_part,
+    [PAGESHARE_WINDOW_TASK_RETURN] = look_again,
+    [PAGESHARE_WINDOW_TASK_GIVE_BACK] = give_zeros_back,
+    [PAGESHARE_WINDOW_TASK_ASK] = ask_lender,
+    [PAGESHARE_WINDOW_TASK_COPY] = copy_for_lender,
+    [PAGESHARE_WINDOW_TASK_LEND] = ask_for_loans,
+    [PAGESHARE_WINDOW_TASK_HOLD] = hold_loaned,
+    [PAGESHARE_WINDOW_TASK_END] = end,
+};
+
+/* The budget pays for what a thread uses from its first look on, or from its first after another's. */
+static void begin_paying(struct windows *windows) {
+    pid_t thread = gettid();
+    if (thread == windows->looker) return;
+    windows->looker = thread;
+    windows->unpaid_ns = clock_spent_ns() - windows->budget.spent;
+}
+
+/* The processor time that the budget counts. */
+static uint64_t paid_ns(const struct windows *windows) { return windows->has_budget ? clock_spent_ns() - windows->unpaid_ns : 0; }
+
+static void carry_out(struct look *look) {
+    look->outcome = (struct pageshare_window_outcome){.goes_on = false};
+    look->outcome.goes_on = does[look->task.kind](look);
+    look->outcome.zeros = (uint32_t)look->zeros.count;
+    look->outcome.idle = (uint32_t)look->idle.count;
+}
+
+struct window_result windows_look(struct windows *windows) {
+    uint64_t now = clock_now_ns();
+    struct look look = {.windows = windows, .begun_ns = now, .begun_spent = clock_spent_ns()};
+    if (!pageshare_window_begin_tasks(&windows->tasks)) return result_of(WINDOW_OK, 0); /* (one stands: `attend` called this) */
+    windows->result = result_of(WINDOW_OK, 0);
+    windows->lender_waits = false;
+    begin_paying(windows);
+    for (;;) {
+        look.task = pageshare_window_next_task(&windows->tasks, &windows->budget, now, paid_ns(windows));
+        if (look.task.kind == PAGESHARE_WINDOW_TASK_OVER) return windows->result;
+        carry_out(&look);
+        now = clock_now_ns();
+        pageshare_window_task_done(&windows->tasks, &look.task, &look.outcome, now);
+    }
+}
+
+/* ---- the thread's processor time ---- */
+
+void windows_pace(struct windows *windows, unsigned percent, unsigned burst) {
+    if (windows->has_budget) pageshare_window_pace(&windows->budget, percent, burst);
+}
+
+void windows_give_credit(struct windows *windows, uint64_t ns) {
+    if (windows->has_budget) pageshare_window_give_credit(&windows->budget, ns);
+}
+
+struct windows_budget windows_budget_of(const struct windows *windows) {
+    return (struct windows_budget){.percent = windows->budget.percent, .credit_ns = windows->budget.credit};
+}
