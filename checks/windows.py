@@ -5,10 +5,10 @@
 
 LIBRARY is libpageshare.a, by default out/libpageshare.a (`make embed`); a stress runs for SECONDS at most, by default 10. All that is
 built goes to out/window. In turn: what becomes of pages (pages.c), of those that leave their window (leaves.c), and of huge pages
-(parts.c); what the system refuses (guards.c); a frames' file without memory
-(full.c); how long a write waits (stalls.c); and a stress (stress.c), by each way of holding and finding pages, under the address and
-the thread sanitizer, and with a record of its events that `out/window_trace` must play. What this computer can't do is left out, and so
-said. CC names another compiler than cc, and CFLAGS more words for it.
+(parts.c); what the system refuses (guards.c); a frames' file without memory (full.c); what happens between a look's tasks, and how looks
+attend and sleep (tasks.c); how long a write waits (stalls.c); and a stress (stress.c), by each way of holding and finding pages, under the
+address and the thread sanitizer, and with a record of its events that `out/window_trace` must play. What this computer can't do is left
+out, and so said. CC names another compiler than cc, and CFLAGS more words for it.
 
 With WRONG=1 in the environment tests run with wrong bodies in place of right ones, too, and each must be found.
 
@@ -35,20 +35,22 @@ WRAPS = {
     "guards": ["ioctl", "madvise", "mremap", "fallocate", "mmap"],
     "parts": ["ioctl", "madvise", "mremap", "fallocate"],
     "full": ["memfd_create", "fcntl"],
+    "tasks": ["pageshare_window_next_task"],
 }
 MORE: dict[str, list[str]] = {
-    "guards": ["faults"], "pages": ["ring"], "leaves": ["ring"], "parts": ["faults", "ring"], "stress": ["ring"], "full": [], "stalls": [],
+    "guards": ["faults"], "pages": ["ring"], "leaves": ["ring"], "parts": ["faults", "ring"], "stress": ["ring"], "full": [], "stalls": [], "tasks": [],
 }
 # The tests but the stress, in turn, and the seconds that each has; those that run under the address sanitizer, too; and the seconds of a
 # stress beside those that it runs by its own clock.
-CASES = {"pages": 120, "leaves": 120, "parts": 120, "guards": 120, "full": 120, "stalls": 300}
-SANITIZED = {"address,undefined": ("pages", "leaves", "parts"), "thread": ("parts",)}
+CASES = {"pages": 120, "leaves": 120, "parts": 120, "guards": 120, "full": 120, "tasks": 120, "stalls": 300}
+SANITIZED = {"address,undefined": ("pages", "leaves", "parts", "tasks"), "thread": ("parts",)}
 STRESS_MORE = 120
 HUGE = ["--huge", "64", "--pages", "1500"]
 # A stress that looks for a wrong body, and the file of its record.
 LONG = ["--seconds", "20", "--writes", "40000000", "--trace"]
 WAYS: list[list[str]] = [
-    [], ["--move", "0"], ["--scan", "0"], ["--pins", "1", "--rest", "7"], HUGE, [*HUGE, "--move", "0", "--rest", "7"], [*HUGE, "--pins", "1"],
+    [], ["--move", "0"], ["--scan", "0"], ["--pins", "1", "--rest", "7"], ["--percent", "20"],
+    HUGE, [*HUGE, "--move", "0", "--rest", "7"], [*HUGE, "--pins", "1"],
 ]
 
 
@@ -117,6 +119,13 @@ BODIES = {
     "forgets what is stuck": Body("lend.c", "        add_stuck(windows, hold->window,", "        if (false) add_stuck(windows, hold->window,", ["guards"]),
     "keeps the order of what is stuck": Body("lend.c", "pageshare_window_withdraw(page_of(hold, i));", ";", ["guards"]),
     "counts what stays stuck as let go": Body("pages.c", "stuck->place, cause == 0);", "stuck->place, true);", ["guards"]),
+    "attends to nothing": Body("tasks.c", "windows->attend == NULL || ", "windows->attend == NULL || true || ", ["tasks"]),
+    "goes on when a look is to end": Body("tasks.c", "return !look->is_cut_short;", "return true;", ["tasks"]),
+    "counts no processor time": Body("tasks.c", "return windows->has_budget ?", "return false ?", ["tasks"]),
+    "pays for what a thread used before": Body("tasks.c", "clock_spent_ns() - windows->budget.spent;", "0;", ["tasks"]),
+    "goes to no window": Body("tasks.c", "look->next = windows->first;", "look->next = NULL;", ["tasks"]),
+    "loses the loan of a page that has left": Body("lend.c", "if (is_named) pageshare", "if (is_named && !is_out(page)) pageshare", ["tasks"]),
+    "keeps the order of a page that isn't held": Body("lend.c", "else pageshare_window_withdraw(page);", "", ["tasks"]),
     "takes what is stuck for free": Body("pages.c", "page, PAGESHARE_WINDOW_PLACE_GUARDED, 0);", "page, PAGESHARE_WINDOW_PLACE_FREE, 0);", ["guards"]),
 }
 

@@ -2,9 +2,11 @@
  * Windows of threads in place of guests. Each writes words of its own and checks them, while a thread looks without a pause, pages
  * are discarded, pinned and swapped out, devices read into pinned pages, windows come and go, and children are forked. There are
  * fewer frames than pages. With --pins 1 windows don't know which pages are pinned. With --huge N parts of the windows may be huge pages,
- * which are split when N of their pages could be shared, or when any could, or become whole again.
+ * which are split when N of their pages could be shared, or when any could, or become whole again. With --percent N looks have a part of a
+ * processor, and sleep between their tasks.
  *
  *     stress [--writes N] [--seconds N] [--trace FILE] [--move 0] [--scan 0] [--pins 1] [--rest N] [--pages N] [--seed N] [--huge N]
+ *            [--percent N]
  *
  * Ends after so many checked writes, or so many seconds, but not before a page was lent and written. Prints figures, and "stress: ok" (status
  * 0) or "stress: WRONG" (1).
@@ -303,6 +305,7 @@ int main(int count, char **words) {
         if (strcmp(words[i], "--move") == 0) config.never_move = true;
         if (strcmp(words[i], "--scan") == 0) config.never_scan = true;
         if (strcmp(words[i], "--rest") == 0) config.tuning.rest_most = (uint8_t)strtoul(words[i + 1], NULL, 10);
+        if (strcmp(words[i], "--percent") == 0) config.percent = (unsigned)strtoul(words[i + 1], NULL, 10);
         if (strcmp(words[i], "--huge") == 0) huge_from = (uint16_t)strtoul(words[i + 1], NULL, 10);
         if (strcmp(words[i], "--pins") == 0) config.pins = WINDOWS_PINS_POSSIBLE, pins_unknown = true;
     }
