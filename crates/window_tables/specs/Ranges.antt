@@ -6,6 +6,8 @@ use Rattle.window_pages.specs.Bytes.{known_of}
 use Rattle.window_pages.specs.Known.{lender_of}
 use Rattle.window_pages.specs.declared.facts.WindowFacts.{WindowFacts}
 use Rattle.window_pages.specs.declared.page.WindowPage.{WindowPage}
+use Rattle.window_tables.specs.declared.ask.Question.{Question}
+use Rattle.window_tables.specs.declared.ask.Question.TheVariants.{GoesOn, Moves}
 
 -- so many pages from one place on are there
 abbrev pub has_pages : ℕ → ℕ → List WindowPage → Bool
@@ -18,6 +20,11 @@ goes_on facts page = may_go_on (lender_of facts (known_of page))
 -- the memory of a page of which this is so may be exchanged for other memory
 abbrev pub moves : WindowFacts → WindowPage → Bool
 moves facts page = is_movable (lender_of facts (known_of page))
+
+-- the answer to a question about it
+abbrev pub is_yes : Question → WindowFacts → WindowPage → Bool
+is_yes GoesOn facts page = goes_on facts page
+is_yes Moves facts page = moves facts page
 
 -- this is so of each of them, where it may depend on the place
 abbrev pub all_at : (ℕ → WindowPage → Bool) → ℕ → ℕ → List WindowPage → Bool
