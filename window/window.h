@@ -141,8 +141,8 @@ struct windows_budget {
     uint64_t credit_ns; /* processor time that it may use beyond the share */
 };
 /*
- * Of a set that was made with a share (windows_config.percent), by the thread that looks: changes its share and its burst; adds to its credit;
- * and returns what they are. Of other sets the first two do nothing, and the share is 100.
+ * Changes the share and the burst; adds to the credit; and returns what they are. The thread that looks makes these calls. A set that was made
+ * without a share (windows_config.percent) gets none: the first two do nothing, and the share is 100.
  */
 void windows_pace(struct windows *windows, unsigned percent, unsigned burst);
 void windows_give_credit(struct windows *windows, uint64_t ns);

