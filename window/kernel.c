@@ -97,12 +97,6 @@ int faults_open(struct faults *faults, int device, bool never_move) {
     return cause;
 }
 
-int faults_watch(const struct faults *faults, void *at, size_t pages, enum faults_of of) {
-    struct uffdio_register watched = {.range = range_of(at, pages),
-                                      .mode = of == FAULTS_OF_MISSING ? UFFDIO_REGISTER_MODE_MISSING : UFFDIO_REGISTER_MODE_WP};
-    return error_of(ioctl(faults->fd, UFFDIO_REGISTER, &watched));
-}
-
 int faults_wake(const struct faults *faults, void *at, size_t pages) {
     struct uffdio_range range = range_of(at, pages);
     return error_of(ioctl(faults->fd, UFFDIO_WAKE, &range));
@@ -119,6 +113,15 @@ int faults_end_watch(const struct faults *faults, void *at, size_t pages) {
     /* (threads that waited for what is mapped anew by now are woken here) */
     int woken = faults_wake(faults, at, pages);
     return cause != 0 ? cause : woken;
+}
+
+int faults_watch(const struct faults *faults, void *at, size_t pages, enum faults_of of) {
+    struct uffdio_register watched = {.range = range_of(at, pages),
+                                      .mode = of == FAULTS_OF_MISSING ? UFFDIO_REGISTER_MODE_MISSING : UFFDIO_REGISTER_MODE_WP};
+    int cause = error_of(ioctl(faults->fd, UFFDIO_REGISTER, &watched));
+    /* (where the pages are in several mappings it may have begun with some) */
+    if (cause != 0) faults_end_watch(faults, at, pages);
+    return cause;
 }
 
 int faults_protect(const struct faults *faults, void *at, size_t pages) {

@@ -20,7 +20,7 @@ struct faults {
 /* `device`: a descriptor of /dev/userfaultfd, or 0: it is opened, or else the system call is tried. */
 int faults_open(struct faults *faults, int device, bool never_move);
 
-/* Makes threads wait that touch a missing page (FAULTS_OF_MISSING) or write to a protected one (FAULTS_OF_WRITES). */
+/* Makes threads wait that touch a missing page (FAULTS_OF_MISSING) or write to a protected one (FAULTS_OF_WRITES). Where it fails nobody waits. */
 enum faults_of { FAULTS_OF_MISSING, FAULTS_OF_WRITES };
 int faults_watch(const struct faults *faults, void *at, size_t pages, enum faults_of of);
 /* Ends that, lifts write protection, and wakes threads that wait. The range may have been mapped anew in between. */
