@@ -5,10 +5,11 @@
 
 LIBRARY is libpageshare.a, by default out/libpageshare.a (`make embed`); a stress runs for SECONDS at most, by default 10. All that is
 built goes to out/window. In turn: what becomes of pages (pages.c), of those that leave their window (leaves.c), and of huge pages
-(parts.c); what the system refuses (guards.c); a frames' file without memory (full.c); what happens between a look's tasks, and how looks
-attend and sleep (tasks.c); how long a write waits (stalls.c); and a stress (stress.c), by each way of holding and finding pages, under the
-address and the thread sanitizer, and with a record of its events that `out/window_trace` must play. What this computer can't do is left
-out, and so said. CC names another compiler than cc, and CFLAGS more words for it.
+(parts.c); what the system refuses (guards.c), and each of its calls and of the lender's refused in turn (refusals.c); a frames' file without
+memory (full.c); what happens between a look's tasks, and how looks attend and sleep (tasks.c); how long a write waits (stalls.c); and a
+stress (stress.c), by each way of holding and finding pages, under the address and the thread sanitizer, and with a record of its events
+that `out/window_trace` must play. What this computer can't do is left out, and so said. CC names another compiler than cc, and CFLAGS more
+words for it.
 
 With WRONG=1 in the environment tests run with wrong bodies in place of right ones, too, and each must be found.
 
@@ -34,15 +35,17 @@ TESTS, OUT = TOP / "window/tests", BUILT / "window"
 WRAPS = {
     "guards": ["ioctl", "madvise", "mremap", "fallocate", "mmap"],
     "parts": ["ioctl", "madvise", "mremap", "fallocate"],
+    "refusals": ["fcntl", "getrlimit", "ioctl", "madvise", "mmap", "mprotect", "mremap", "munmap", "open", "pread", "syscall"],
     "full": ["memfd_create", "fcntl"],
     "tasks": ["pageshare_window_next_task"],
 }
 MORE: dict[str, list[str]] = {
-    "guards": ["faults"], "pages": ["ring"], "leaves": ["ring"], "parts": ["faults", "ring"], "stress": ["ring"], "full": [], "stalls": [], "tasks": [],
+    "guards": ["faults"], "refusals": ["calls", "strict"], "pages": ["ring"], "leaves": ["ring"], "parts": ["faults", "ring"], "stress": ["ring"],
+    "full": [], "stalls": [], "tasks": [],
 }
 # The tests but the stress, in turn, and the seconds that each has; those that run under the address sanitizer, too; and the seconds of a
 # stress beside those that it runs by its own clock.
-CASES = {"pages": 120, "leaves": 120, "parts": 120, "guards": 120, "full": 120, "tasks": 120, "stalls": 300}
+CASES = {"pages": 120, "leaves": 120, "parts": 120, "guards": 120, "refusals": 240, "full": 120, "tasks": 120, "stalls": 300}
 SANITIZED = {"address,undefined": ("pages", "leaves", "parts", "tasks"), "thread": ("parts",)}
 STRESS_MORE = 120
 HUGE = ["--huge", "64", "--pages", "1500"]
