@@ -173,8 +173,19 @@ static const uint8_t *source_of(const struct window *window, uint32_t frame, int
     return windows->frames_are_given ? windows->frames_at + bytes_of(frame) : NULL;
 }
 
+/*
+ * Whether zeros in the place of frames will be a mapping by themselves: no memory of the window's own is beside them with which the system
+ * could join them. Once they are written it joins them with nothing any more.
+ */
+static bool are_alone(const struct window *window, size_t first, size_t behind) {
+    if (!is_over(&window->pages[first])) return false;
+    bool is_own_before = first > 0 && !is_over(&window->pages[first - 1]);
+    return !is_own_before && (behind == window->count || is_over(&window->pages[behind]));
+}
+
 int map_pages(struct window *window, size_t first, size_t count, uint32_t frame, int protection) {
     bool is_file = frame != ZEROS, has_left = is_out(&window->pages[first]);
+    bool is_alone = !is_file && are_alone(window, first, first + count);
     const uint8_t *source = source_of(window, frame, protection);
     void *at = address_of(window, first);
     int cause = source != NULL ? mapping_copy(at, source, count) : ENOENT;
@@ -182,7 +193,7 @@ int map_pages(struct window *window, size_t first, size_t count, uint32_t frame,
     if (cause != 0)
         cause = mapping_put(at, count, protection, is_file ? window->windows->frames_fd : NO_FILE, is_file ? frame : 0);
     if (cause != 0) return cause;
-    note_memory(window, first, count, frame, false);
+    note_memory(window, first, count, frame, is_alone);
     if (!is_file && !has_left) say_again(window, first, count, false);
     return 0;
 }

@@ -366,6 +366,26 @@ static void mappings(void) {
     fixture_free(&fixture);
 }
 
+/* None is left out where pages are given up one by one, and written, between others that are lent: each is a mapping by itself. */
+static void mappings_one_by_one(void) {
+    enum { MANY = 1024 };
+    const struct windows_config config = {.pins = WINDOWS_PINS_NEVER};
+    struct fixture fixture = fixture_make(&config, MANY);
+    uint8_t *at = memory(MANY);
+    struct window *window = window_over(&fixture, at, MANY);
+    fill(at, MANY, 1);
+    check(look_until(&fixture, MANY) == MANY, "all pages are lent");
+    for (size_t odd = 0; odd < 2; odd++)
+        for (size_t page = odd; page < MANY; page += 2) {
+            must(window_discard(window, page, 1), "window_discard");
+            at[page * PAGE] = 1;
+        }
+    check(counts_of(&fixture).mappings >= mappings_in(at, MANY), "as many are counted as the system has, or more");
+    must(window_discard(window, 0, MANY), "window_discard");
+    must(window_free(window, WINDOW_DROP), "window_free");
+    fixture_free(&fixture);
+}
+
 /* Another userfaultfd has a part of the window: its pages aren't held, the others are. */
 static void second_userfaultfd(void) {
     struct fixture fixture = fixture_make(&never_pinned, PAGES);
@@ -744,6 +764,7 @@ int main(void) {
     huge(true);
     ends();
     mappings();
+    mappings_one_by_one();
     beliefs();
     places();
     clues();
