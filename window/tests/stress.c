@@ -1,9 +1,10 @@
 /*
  * Windows of threads in place of guests. Each writes words of its own and checks them, while a thread looks without a pause, pages
- * are discarded, pinned and swapped out, devices read into pinned pages, windows come and go, and children are forked. There are
- * fewer frames than pages. With --pins 1 windows don't know which pages are pinned. With --huge N parts of the windows may be huge pages,
- * which are split when N of their pages could be shared, or when any could, or become whole again. With --percent N looks have a part of a
- * processor, and sleep between their tasks.
+ * are discarded, pinned and swapped out, devices read into pinned pages, files are read by O_DIRECT, pages are cut out and others mapped in
+ * their place, windows and lenders come and go, and children are forked. There are fewer frames than pages. With --pins 1 windows don't know
+ * which pages are pinned. With --huge N parts of the windows may be huge pages, which are split when N of their pages could be shared, or
+ * when any could, or become whole again. With --percent N looks have a part of a processor, and sleep between their tasks. With --trace the
+ * lender stays.
  *
  *     stress [--writes N] [--seconds N] [--trace FILE] [--move 0] [--scan 0] [--pins 1] [--rest N] [--pages N] [--seed N] [--huge N]
  *            [--percent N]
@@ -18,6 +19,7 @@
 #include "looks.h"
 #include "ring.h"
 #include <errno.h>
+#include <fcntl.h>
 #include <inttypes.h>
 #include <pthread.h>
 #include <stdatomic.h>
@@ -27,7 +29,7 @@
 #include <time.h>
 #include <unistd.h>
 
-enum { GUESTS = 3, WRITERS = 2, VALUES = 4, CHECKED = 8, PAGES_MOST = 4096, DEVICE_VALUE = 7 };
+enum { GUESTS = 3, WRITERS = 2, VALUES = 4, CHECKED = 8, PAGES_MOST = 4096, DEVICE_VALUE = 7, DIRECT_MOST = 16 };
 
 struct guest {
     uint8_t *at;
@@ -55,8 +57,9 @@ static atomic_ullong writes_done;
 static atomic_uint failures;
 static bool pins_unknown, has_ring = true;
 static uint16_t huge_from;
-static int disk;
-static uint64_t device_reads, page_outs;
+static bool is_recorded, keeps_copies; /* copies: of pages that have left their window, which a device might have pinned */
+static int disk, direct = -1;          /* direct: a file that is open for O_DIRECT */
+static uint64_t device_reads, page_outs, transfers, unmaps, cuts, exchanges;
 
 static volatile uint64_t *word_in(const struct writer *writer, uint32_t page) {
     return (volatile uint64_t *)(void *)(writer->guest->at + (size_t)page * WINDOW_PAGE_BYTES) + 64 * writer->number + 7;
@@ -106,11 +109,46 @@ static void *write_words(void *opaque) {
 
 static atomic_bool has_shared; /* a page was lent, and one was written that had been */
 
+static int count_slot(void *slots, uint32_t page, uint64_t slot, bool shown) {
+    (void)page, (void)slot, (void)shown;
+    ++*(uint32_t *)slots;
+    return 0;
+}
+
+/* Windows have as many slots as the lender gave. By the thread that looks. */
+static void check_slots(void) {
+    struct pageshare_domain_totals totals;
+    struct lender_counts lent;
+    uint32_t slots = 0;
+    check(windows_each_slot(windows, count_slot, &slots) == 0, "windows_each_slot");
+    lender_count(lender, &totals, &lent);
+    check(slots == totals.slots, "windows have the lender's slots");
+}
+
+static void make_lender(void) {
+    const struct lender_config lending = {
+        .slots = GUESTS * pages, .frames = GUESTS * pages / 2, .recent = 4 * GUESTS * pages, .hash = PAGESHARE_FOLD};
+    check(lender_make(&lender, &lending).status == LENDER_OK, "a lender is made");
+    must(windows_attach(windows, lender_interface(lender)), "windows_attach");
+}
+
+/* The lender goes, and another one comes. */
+static void exchange_lenders(void) {
+    windows_detach(windows);
+    lender_free(lender);
+    must(look(windows), "a look without a lender");
+    make_lender();
+    exchanges++;
+}
+
 static void *looks(void *opaque) {
+    enum { CHECKS_APART = 4, EXCHANGES_APART = 16, FIRST_EXCHANGE = 10 };
     const struct timespec rest = {.tv_nsec = 100000};
     struct windows_counts counts;
     (void)opaque;
-    while (!atomic_load(&stop)) {
+    for (unsigned i = 1; !atomic_load(&stop); i++) {
+        if (i % CHECKS_APART == 0) check_slots();
+        if (i % EXCHANGES_APART == FIRST_EXCHANGE && !is_recorded) exchange_lenders();
         struct window_result result = look(windows);
         if (result.status != WINDOW_OK && atomic_fetch_add(&failures, 1) < 5)
             fprintf(stderr, "look: %s: %s\n", window_status_words(result.status), strerror(result.cause));
@@ -122,36 +160,108 @@ static void *looks(void *opaque) {
     return NULL;
 }
 
+/* Some pages of a guest. */
+struct some {
+    uint32_t first, count;
+};
+static struct some choose_some(uint64_t *state, uint32_t most) {
+    struct some some = {.first = (uint32_t)draw(state, pages), .count = 1 + (uint32_t)draw(state, most)};
+    if (some.count > pages - some.first) some.count = pages - some.first;
+    return some;
+}
+
+static uint8_t *address_in(const struct guest *guest, uint32_t page) { return guest->at + (size_t)page * WINDOW_PAGE_BYTES; }
+
+/* The writers hear what their words of a page are by now. */
+static void note_value(const struct guest *guest, uint32_t page, uint64_t value) {
+    for (unsigned i = 0; i < WRITERS; i++) writers[guest - guests][i].values[page] = value;
+}
+
+/* Which pages are the window's, and so are discarded with others. */
+static bool are_its[PAGES_MOST];
+static void find_its(const struct guest *guest, struct some some) {
+    for (uint32_t page = some.first, end = 0; page < some.first + some.count; page = end) {
+        bool is_its = false;
+        end = page + (uint32_t)window_run(guest->window, page, some.first + some.count - page, &is_its);
+        check(end > page && end <= some.first + some.count, "window_run");
+        for (uint32_t i = page; i < end; i++) are_its[i] = is_its;
+    }
+}
+
+static void note_discard(const struct guest *guest, struct some some) {
+    for (uint32_t page = some.first; page < some.first + some.count; page++)
+        if (are_its[page]) note_value(guest, page, 0);
+}
+
 /* Discards some pages, of which the writers hear. */
 static void discard(struct guest *guest, uint64_t *state) {
-    uint32_t first = (uint32_t)draw(state, pages), count = 1 + (uint32_t)draw(state, 32);
-    if (count > pages - first) count = pages - first;
+    struct some some = choose_some(state, 32);
     pthread_rwlock_wrlock(&guest->lock);
-    must(window_discard(guest->window, first, count), "window_discard");
-    for (unsigned i = 0; i < WRITERS; i++)
-        for (uint32_t page = first; page < first + count; page++) writers[guest - guests][i].values[page] = 0;
+    find_its(guest, some);
+    must(window_discard(guest->window, some.first, some.count), "window_discard");
+    note_discard(guest, some);
+    pthread_rwlock_unlock(&guest->lock);
+}
+
+/* Something else is mapped in the place of pages, which leave their window. */
+static void unmap(struct guest *guest, uint64_t *state) {
+    const int kind = MAP_PRIVATE | MAP_ANONYMOUS | MAP_NORESERVE | MAP_FIXED;
+    struct some some = choose_some(state, 8);
+    uint8_t *at = address_in(guest, some.first);
+    pthread_rwlock_wrlock(&guest->lock);
+    int cause = windows_pause(windows);
+    check(cause == 0, "windows_pause");
+    if (cause == 0) {
+        check(mmap(at, some.count * WINDOW_PAGE_BYTES, PROT_READ | PROT_WRITE, kind, -1, 0) == at, "something else is mapped");
+        window_forget(guest->window, some.first, some.count);
+        windows_resume(windows);
+        for (uint32_t page = some.first; page < some.first + some.count; page++) note_value(guest, page, 0);
+    }
+    pthread_rwlock_unlock(&guest->lock);
+    unmaps++;
+}
+
+/* Pages leave their window with what they contain. What isn't kept over frames is the guest's, who may discard it. */
+static void cut(struct guest *guest, uint64_t *state) {
+    struct some some = choose_some(state, 8);
+    size_t kept = 0;
+    must(window_cut(guest->window, some.first, some.count, &kept), "window_cut");
+    cuts++;
+    if (kept > 0) keeps_copies = true;
+    if (kept > 0 || draw(state, 2) == 0) return;
+    pthread_rwlock_wrlock(&guest->lock);
+    check(madvise(address_in(guest, some.first), some.count * WINDOW_PAGE_BYTES, MADV_DONTNEED) == 0, "a discard by the guest");
+    for (uint32_t page = some.first; page < some.first + some.count; page++) note_value(guest, page, 0);
     pthread_rwlock_unlock(&guest->lock);
 }
 
 static void pin(struct guest *guest, uint64_t *state) {
-    uint32_t first = (uint32_t)draw(state, pages), count = 1 + (uint32_t)draw(state, 16);
-    if (count > pages - first) count = pages - first;
-    must(window_pin(guest->window, first, count), "window_pin");
-    for (uint32_t page = first; page < first + count; page++)
+    struct some some = choose_some(state, 16);
+    must(window_pin(guest->window, some.first, some.count), "window_pin");
+    for (uint32_t page = some.first; page < some.first + some.count; page++)
         check(window_page_is(guest->window, page) != WINDOW_PAGE_LENT, "a pinned page is not lent");
-    must(window_unpin(guest->window, first, count), "window_unpin");
+    must(window_unpin(guest->window, some.first, some.count), "window_unpin");
+}
+
+/* The range is the guest's, and gets the same advice everywhere: what was mapped in a window's place has none. */
+static void make_window(struct guest *guest) {
+    const size_t bytes = (size_t)pages * WINDOW_PAGE_BYTES;
+    madvise(guest->at, bytes, MADV_DONTFORK);
+    madvise(guest->at, bytes, huge_from > 0 ? MADV_HUGEPAGE : MADV_NOHUGEPAGE);
+    must(window_make(&guest->window, windows, guest->at, bytes, WINDOW_NO_CHILD), "window_make");
 }
 
 /* Ends a window under its writers, with its content, and makes it anew; or without. With copies that may be pinned it goes on. */
 static void renew(struct guest *guest, uint64_t *state) {
+    const struct some all = {.first = 0, .count = pages};
     bool drops = draw(state, 2) == 0;
     if (drops) pthread_rwlock_wrlock(&guest->lock);
+    if (drops) find_its(guest, all);
     struct window_result freed = window_free(guest->window, drops ? WINDOW_DROP : WINDOW_TAKE_HOME);
-    if (!drops && pins_unknown && freed.status == WINDOW_PINNED) return;
+    if (!drops && (pins_unknown || keeps_copies) && freed.status == WINDOW_PINNED) return;
     must(freed, "window_free");
-    must(window_make(&guest->window, windows, guest->at, (size_t)pages * WINDOW_PAGE_BYTES, WINDOW_NO_CHILD), "window_make");
-    for (unsigned i = 0; i < WRITERS && drops; i++)
-        memset(writers[guest - guests][i].values, 0, sizeof writers[guest - guests][i].values);
+    make_window(guest);
+    if (drops) note_discard(guest, all);
     if (drops) pthread_rwlock_unlock(&guest->lock);
 }
 
@@ -171,14 +281,14 @@ static void pause_for(long milliseconds) {
 static void read_by_device(struct guest *guest, uint64_t *state) {
     struct ring ring;
     uint32_t page = (uint32_t)draw(state, pages);
-    uint8_t *at = guest->at + (size_t)page * WINDOW_PAGE_BYTES;
+    uint8_t *at = address_in(guest, page);
     if (!pins_unknown) must(window_pin(guest->window, page, 1), "window_pin");
     has_ring = ring_pin(&ring, at, WINDOW_PAGE_BYTES);
     if (has_ring) {
         pause_for(3);
         pthread_rwlock_wrlock(&guest->lock);
         check(ring_read(&ring, disk, at, WINDOW_PAGE_BYTES), "a device reads");
-        for (unsigned i = 0; i < WRITERS; i++) writers[guest - guests][i].values[page] = DEVICE_VALUE;
+        note_value(guest, page, DEVICE_VALUE);
         pthread_rwlock_unlock(&guest->lock);
         ring_unpin(&ring);
         device_reads++;
@@ -186,12 +296,40 @@ static void read_by_device(struct guest *guest, uint64_t *state) {
     if (!pins_unknown) must(window_unpin(guest->window, page, 1), "window_unpin");
 }
 
+/* A file is read by O_DIRECT to pages of which nothing else is known. They may be of all kinds, also such as have left. */
+static void transfer(struct guest *guest, uint64_t *state) {
+    enum { TIMES = 4 };
+    struct some some = choose_some(state, DIRECT_MOST);
+    size_t bytes = some.count * WINDOW_PAGE_BYTES, place = windows_transfer_begin(windows, address_in(guest, some.first), bytes);
+    pthread_rwlock_wrlock(&guest->lock);
+    for (int i = 0; i < TIMES; i++)
+        check(pread(direct, address_in(guest, some.first), bytes, 0) == (ssize_t)bytes, "a file is read by O_DIRECT");
+    for (uint32_t page = some.first; page < some.first + some.count; page++) note_value(guest, page, DEVICE_VALUE);
+    pthread_rwlock_unlock(&guest->lock);
+    windows_transfer_end(windows, place);
+    transfers++;
+}
+
 /* The system swaps pages out, if it has swap. */
 static void page_out(struct guest *guest, uint64_t *state) {
-    uint32_t first = (uint32_t)draw(state, pages), count = 1 + (uint32_t)draw(state, 64);
-    if (count > pages - first) count = pages - first;
-    madvise(guest->at + (size_t)first * WINDOW_PAGE_BYTES, (size_t)count * WINDOW_PAGE_BYTES, MADV_PAGEOUT);
+    struct some some = choose_some(state, 64);
+    madvise(address_in(guest, some.first), (size_t)some.count * WINDOW_PAGE_BYTES, MADV_PAGEOUT);
     page_outs++;
+}
+
+/* Devices may pin for a moment, in which pages leave their window: copies of theirs stay over frames. */
+static void may_pin_for_a_moment(struct guest *guest, uint64_t *state) {
+    windows_set_pins(windows, WINDOWS_PINS_POSSIBLE);
+    pause_for(2);
+    cut(guest, state);
+    windows_set_pins(windows, pins_unknown ? WINDOWS_PINS_POSSIBLE : WINDOWS_PINS_NEVER);
+}
+
+/* No huge pages are wanted for a moment. */
+static void say_huge(struct guest *guest) {
+    check(window_say_huge(guest->window, 0, pages, false) == 0, "window_say_huge");
+    pause_for(2);
+    check(window_say_huge(guest->window, 0, pages, true) == 0, "window_say_huge");
 }
 
 /* Parts are split as they were to be, or each of which any page could be shared; or next to none is any more, and many become whole. */
@@ -202,14 +340,19 @@ static void tune(uint64_t *state) {
 
 static void disturb(uint64_t *state) {
     struct guest *guest = &guests[draw(state, GUESTS)];
-    uint64_t what = draw(state, 100);
+    uint64_t what = draw(state, 120);
     if (huge_from > 0 && draw(state, 24) == 0) tune(state);
+    if (huge_from > 0 && draw(state, 48) == 0) say_huge(guest);
     if (what < 40) discard(guest, state);
-    else if (what >= 90 && has_ring) read_by_device(guest, state);
+    else if (what >= 110 && has_ring) read_by_device(guest, state);
     else if (what < 70) pin(guest, state);
-    else if (what < 72) renew(guest, state);
-    else if (what < 76) fork_child();
-    else if (what < 86) page_out(guest, state);
+    else if (what < 74) renew(guest, state);
+    else if (what < 78) fork_child();
+    else if (what < 88) page_out(guest, state);
+    else if (what < 98 && direct >= 0) transfer(guest, state);
+    else if (what < 101) unmap(guest, state);
+    else if (what < 104) cut(guest, state);
+    else if (what < 106) may_pin_for_a_moment(guest, state);
     pause_for(1);
 }
 
@@ -231,21 +374,32 @@ static void make_guests(void) {
         size_t bytes = (size_t)pages * WINDOW_PAGE_BYTES;
         guests[i].at = memory_of(bytes);
         pthread_rwlock_init(&guests[i].lock, NULL);
-        must(window_make(&guests[i].window, windows, guests[i].at, bytes, WINDOW_NO_CHILD), "window_make");
+        make_window(&guests[i]);
         for (unsigned j = 0; j < WRITERS; j++)
             writers[i][j] = (struct writer){.guest = &guests[i], .number = j, .state = seed + i * WRITERS + j};
     }
 }
 
+/* A file for O_DIRECT, full of one word; -1 if no folder has such files. */
+static int make_direct(void) {
+    static const char *const folders[] = {".", "/var/tmp", "/tmp"};
+    static uint64_t words[DIRECT_MOST * WINDOW_PAGE_BYTES / sizeof(uint64_t)] __attribute__((aligned(WINDOW_PAGE_BYTES)));
+    for (size_t i = 0; i < sizeof words / sizeof words[0]; i++) words[i] = DEVICE_VALUE;
+    for (size_t i = 0; i < sizeof folders / sizeof folders[0]; i++) {
+        int file = open(folders[i], O_RDWR | O_TMPFILE | O_DIRECT | O_CLOEXEC, 0600);
+        if (file >= 0 && write(file, words, sizeof words) == sizeof words) return file;
+        if (file >= 0) close(file);
+    }
+    return -1;
+}
+
 static void make(const struct windows_config *config) {
-    const struct lender_config lending = {
-        .slots = GUESTS * pages, .frames = GUESTS * pages / 2, .recent = 4 * GUESTS * pages, .hash = PAGESHARE_FOLD};
     must(windows_make(&windows, config), "windows_make");
-    check(lender_make(&lender, &lending).status == LENDER_OK, "a lender is made");
-    must(windows_attach(windows, lender_interface(lender)), "windows_attach");
+    make_lender();
     const uint64_t word = DEVICE_VALUE;
     disk = memfd_create("disk", MFD_CLOEXEC);
     for (size_t i = 0; i < WINDOW_PAGE_BYTES / sizeof word; i++) check(write(disk, &word, sizeof word) == sizeof word, "a disk");
+    direct = make_direct();
     make_guests();
 }
 
@@ -278,6 +432,9 @@ static uint64_t end(void) {
            1e-3 * (double)counts.map_ns / (double)(counts.lends + counts.zeros + 1), 1e-3 * (double)counts.hold_most_ns);
     printf("%" PRIu64 " reads by a device%s, %" PRIu64 " times pages were to be swapped out\n", device_reads,
            has_ring ? "" : " (left out: there is no io_uring)", page_outs);
+    printf("%" PRIu64 " reads by O_DIRECT%s, %" PRIu64 " times others were mapped, %" PRIu64 " times pages were cut out, %" PRIu64
+           " times another lender\n",
+           transfers, direct >= 0 ? "" : " (left out: no file can be)", unmaps, cuts, exchanges);
     printf("%zu parts whole, %" PRIu64 " were split, %" PRIu64 " became whole, %" PRIu64 " couldn't\n", counts.parts_whole,
            counts.splits, counts.made_whole, counts.not_made_whole);
     printf("%" PRIu64 " looks, %zu lent now, %" PRIu32 " frames, %zu mappings, %u failures\n", counts.looks, counts.lent,
@@ -310,6 +467,7 @@ int main(int count, char **words) {
         if (strcmp(words[i], "--pins") == 0) config.pins = WINDOWS_PINS_POSSIBLE, pins_unknown = true;
     }
     if (pages == 0 || pages > PAGES_MOST) return 2;
+    is_recorded = config.trace != NULL;
     config.tuning.huge_from = huge_from;
     config.never_wait = huge_from > 0;
     state = seed * 77;
