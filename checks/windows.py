@@ -75,6 +75,7 @@ WITHDRAWN = "if (order != PAGESHARE_WINDOW_RELEASE) pageshare_window_withdraw(&w
 WATCHED = "is_begun ? PAGESHARE_WINDOW_TAKEN_WATCHED : PAGESHARE_WINDOW_NOT_TAKEN"
 PUT = "\n        if (cause == 0 && remapped)"
 COMPARED = "is_equal = is_frame ? are_equal(page, windows->frames_at + bytes_of(frame)) : is_zero(page);"
+REFUSED_DISCARD = "        return result_of(WINDOW_NO_MAPPING, errno);\n    if (is_over_frame"
 # In place of a call's name: its arguments are looked at, and the call is left out.
 LEFT_OUT = "(void)("
 BODIES = {
@@ -119,6 +120,10 @@ BODIES = {
     "takes what is aside for guarded": Body("lend.c", "hold->moves ? PAGESHARE_WINDOW_TAKEN_ASIDE :", "false ? 0 :", ["parts"]),
     "counts what can't be put back as put back": Body("lend.c", f"cause == 0);{PUT}", f"true);{PUT}", ["guards"]),
     "counts what can't be mapped as mapped": Body("lend.c", "note_step(hold, place, cause == 0);", "note_step(hold, place, true);", ["guards"]),
+    "leaves a watch that failed half-way": Body("kernel.c", "if (cause != 0) faults_end_watch(faults, at, pages);", "", ["refusals"]),
+    "keeps memory of what stays": Body("home.c", "if (cause != 0 || home->stays[i]) munmap(", "if (home->stays[i]) munmap(", ["refusals"]),
+    "takes a refused discard for done": Body("home.c", REFUSED_DISCARD, REFUSED_DISCARD.replace("NO_MAPPING", "OK"), ["refusals"]),
+    "joins mappings that lie apart": Body("pages.c", "frame, is_alone);", "frame, false);", ["pages"]),
     "forgets what is stuck": Body("lend.c", "        add_stuck(windows, hold->window,", "        if (false) add_stuck(windows, hold->window,", ["guards"]),
     "keeps the order of what is stuck": Body("lend.c", "pageshare_window_withdraw(page_of(hold, i));", ";", ["guards"]),
     "counts what stays stuck as let go": Body("pages.c", "stuck->place, cause == 0);", "stuck->place, true);", ["guards"]),
