@@ -14,7 +14,7 @@
 #include <string.h>
 #include <sys/mman.h>
 
-enum { SETTLING = 40, LOOKS = 33, FRAMES_MORE = 16 };
+enum { SETTLING = 40, LOOKS = 33, FRAMES_MORE = 16, PAGES_MOST = 1 << 22 };
 
 static void must(bool is_good, const char *what) {
     if (is_good) return;
@@ -43,10 +43,15 @@ static void fill(unsigned char *at, size_t pages, size_t equal) {
     }
 }
 
+/* As much of this as one lender can have. The system has mappings for fewer pages by far. */
+static uint32_t for_lender(size_t pages) { return (uint32_t)(pages < LENDER_PAGES_MOST ? pages : LENDER_PAGES_MOST); }
+
 static void time_looks(size_t pages, size_t equal) {
     const struct windows_config config = {.pins = WINDOWS_PINS_NEVER, .tuning = {.rest_most = 7}};
-    const struct lender_config lending = {
-        .slots = (uint32_t)pages, .frames = (uint32_t)(pages / equal + FRAMES_MORE), .recent = (uint32_t)pages, .hash = PAGESHARE_FOLD};
+    const struct lender_config lending = {.slots = for_lender(pages),
+                                          .frames = for_lender(pages / equal + FRAMES_MORE),
+                                          .recent = (uint32_t)pages,
+                                          .hash = PAGESHARE_FOLD};
     struct windows *windows;
     struct lender *lender;
     struct window *window;
@@ -73,8 +78,8 @@ static void time_looks(size_t pages, size_t equal) {
 
 int main(int argc, char **argv) {
     const size_t pages = argc == 2 ? strtoul(argv[1], NULL, 10) : 0;
-    if (pages < 2 || pages > LENDER_PAGES_MOST - FRAMES_MORE) {
-        fprintf(stderr, "looks PAGES: 2 to %d pages\n", LENDER_PAGES_MOST - FRAMES_MORE);
+    if (pages < 2 || pages > PAGES_MOST) {
+        fprintf(stderr, "looks PAGES: 2 to %d pages\n", PAGES_MOST);
         return 2;
     }
     time_looks(pages, 1);

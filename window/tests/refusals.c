@@ -25,18 +25,21 @@
 #include <pthread.h>
 #include <sched.h>
 #include <signal.h>
+#include <sys/resource.h>
 #include <sys/syscall.h>
 #include <time.h>
 
 enum { RANGES = 3, LARGE = PART, MIDDLE = 96, SMALL = 64, ARENA = 6 * PART, FRAMES = 36 };
-enum { STEPS = 15, ROUNDS_MOST = 60, MODES = 4, WAYS = 2, WAIT_SECONDS = 60, CALM_LOOKS = 2 };
+/* Ways in which the scenario runs: with all that the system has, or with less of it, and a limit of the process. */
+enum { UNLIMITED, LIMITED, WAYS };
+enum { STEPS = 15, ROUNDS_MOST = 60, MODES = 4, WAIT_SECONDS = 60, CALM_LOOKS = 2 };
 
 /* A range of memory, which is a window most of the time. */
 struct range {
     uint8_t *at;
-    size_t place, pages; /* where it begins in the arena */
-    uint8_t (*shadow)[PAGE];
-    bool *is_gone; /* of each page: it was unmapped */
+    size_t pages;
+    uint8_t (*shadow)[PAGE]; /* what its users wrote last */
+    bool *is_gone;           /* of each page: it was unmapped */
     struct window *window;
 };
 static uint8_t shadows[LARGE + MIDDLE + SMALL][PAGE];
@@ -383,8 +386,8 @@ static void begin(void) {
     const struct windows_config config = {.pins = WINDOWS_PINS_NEVER,
                                           .tuning = {.huge_from = 64},
                                           .never_wait = true,
-                                          .never_move = run.way == 1,
-                                          .never_scan = run.way == 1};
+                                          .never_move = run.way == LIMITED,
+                                          .never_scan = run.way == LIMITED};
     if (!came(windows_make(&run.windows, &config), "windows_make")) return;
     make_window(HUGE_RANGE, WINDOW_NO_CHILD);
     make_window(ADVISED_RANGE, WINDOW_NO_CHILD);
@@ -487,7 +490,7 @@ static void unmap(void) {
     check(cause == 0 || is_troubled(), "windows_pause");
     if (cause == 0) {
         calls_count(false);
-        bool is_gone = run.way == 1 ? munmap(at, COUNT * PAGE) == 0 : mmap(at, COUNT * PAGE, PROT_NONE, kind, -1, 0) == at;
+        bool is_gone = run.way == LIMITED ? munmap(at, COUNT * PAGE) == 0 : mmap(at, COUNT * PAGE, PROT_NONE, kind, -1, 0) == at;
         calls_count(true);
         check(is_gone, "pages are unmapped");
         window_forget(ADVISED_RANGE->window, FIRST, COUNT);
@@ -649,6 +652,14 @@ enum { HALF_MODE = 2 };
 /* And of how many calls of any kind one is. */
 static const unsigned one_in[MODES] = {20, 40, 100, 400};
 
+/* Whether the system may refuse mappings by a limit of the process. None is reached. */
+static void set_limit(bool is_limited) {
+    struct rlimit limit;
+    getrlimit(RLIMIT_DATA, &limit);
+    limit.rlim_cur = is_limited && limit.rlim_max > (rlim_t)1 << 40 ? (rlim_t)1 << 40 : limit.rlim_max;
+    setrlimit(RLIMIT_DATA, &limit);
+}
+
 /* One run. `refusal`: what is refused; NULL: nothing. */
 static void do_run(int way, unsigned mode, const struct refusal *refusal) {
     run.way = way, run.mode = mode, run.refused = run.calm = 0;
@@ -657,6 +668,7 @@ static void do_run(int way, unsigned mode, const struct refusal *refusal) {
     guest.state = seed * 1000003 + run.refusal.from * 101 + run.refusal.call * 7 + mode;
     alarm(2 * WAIT_SECONDS);
     size_t mappings = lines_in("/proc/self/maps"), files = open_files();
+    set_limit(way == LIMITED);
     map_ranges(true);
     guest_do(fill_ranges);
     calls_begin(refusal);
@@ -713,7 +725,8 @@ static void find_classes(int way) {
     check(counts->lends > 0 && counts->copied > 0 && counts->zeros > 0 && counts->discarded > 0,
           "pages are lent, written, given up");
     check(counts->taken_home > 0 && counts->splits > 0, "and taken home, and parts are split");
-    if (way == 0 && counts->made_whole == 0) puts("left out: parts that become whole, since this system gave no huge page");
+    if (way == UNLIMITED && counts->made_whole == 0)
+        puts("left out: parts that become whole, since this system gave no huge page");
     for (unsigned step = 0; step < STEPS; step++) {
         for (enum call call = 0; call < CALLS; call++) add_class(way, call, step, run.made[step][call]);
         if (step % ANY_APART == 0) add_class(way, CALLS, step, ROUNDS_MOST);
@@ -769,7 +782,7 @@ int main(int count, char **words) {
     for (int i = 1; i + 1 < count; i += 2) {
         if (strcmp(words[i], "--seconds") == 0) seconds = (time_t)strtol(words[i + 1], NULL, 10);
         if (strcmp(words[i], "--seed") == 0) seed = strtoull(words[i + 1], NULL, 10);
-        if (strcmp(words[i], "--way") == 0) only.way = strtol(words[i + 1], NULL, 10) != 0;
+        if (strcmp(words[i], "--way") == 0) only.way = strtol(words[i + 1], NULL, 10) == LIMITED ? LIMITED : UNLIMITED;
         if (strcmp(words[i], "--from") == 0) from = (unsigned)strtoul(words[i + 1], NULL, 10);
         if (strcmp(words[i], "--mode") == 0) mode = (unsigned)strtoul(words[i + 1], NULL, 10) % MODES;
         if (strcmp(words[i], "--step") == 0) only.step = (unsigned)strtoul(words[i + 1], NULL, 10);

@@ -145,4 +145,5 @@ void strict_free(struct strict_lender *lender) {
     munmap(lender->slots, STRICT_SLOTS * sizeof *lender->slots);
     munmap(lender->interface.pages, WINDOW_BATCH * WINDOW_PAGE_BYTES);
     close(lender->file);
+    lender->slot_count = 0;
 }
