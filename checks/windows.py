@@ -131,6 +131,7 @@ BODIES = {
     "goes on when a look is to end": Body("tasks.c", "return !look->is_cut_short;", "return true;", ["tasks"]),
     "counts no processor time": Body("tasks.c", "return windows->has_budget ?", "return false ?", ["tasks"]),
     "pays for what a thread used before": Body("tasks.c", "clock_spent_ns() - windows->budget.spent;", "0;", ["tasks"]),
+    "forgets that a lender is away": Body("tasks.c", "|| windows->lender_waits) windows->counts", ") windows->counts", ["tasks"]),
     "goes to no window": Body("tasks.c", "look->next = windows->first;", "look->next = NULL;", ["tasks"]),
     "loses the loan of a page that has left": Body("lend.c", "if (is_named) pageshare", "if (is_named && !is_out(page)) pageshare", ["tasks"]),
     "keeps the order of a page that isn't held": Body("lend.c", "else pageshare_window_withdraw(page);", "", ["tasks"]),

@@ -148,7 +148,7 @@ static bool begin(struct look *look) {
     windows->counts.looks++;
     if (windows->counts.looks % LIMIT_EACH == 0) follow_limit(windows);
     windows->counts.pause = windows->counts.looks <= windows->crowded_until ? WINDOWS_CROWDED : WINDOWS_LENDING;
-    if (!windows->has_lender) windows->counts.pause = WINDOWS_NO_LENDER;
+    if (!windows->has_lender || windows->lender_waits) windows->counts.pause = WINDOWS_NO_LENDER;
     if (windows->is_locked) windows->counts.pause = WINDOWS_LOCKED;
     if (cause != 0) windows->counts.pause = WINDOWS_HELD;
     if (cause != 0) note_failure(windows, WINDOW_STUCK, cause);

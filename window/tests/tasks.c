@@ -5,6 +5,7 @@
  */
 #define _GNU_SOURCE
 #include "fixture.h"
+#include <errno.h>
 #include <pthread.h>
 #include <sys/syscall.h>
 #include <time.h>
@@ -212,9 +213,10 @@ static unsigned look_attended(struct fixture *fixture, unsigned ends_at) {
     return attending.calls;
 }
 
-/* A lender of which some calls take more than a second. */
+/* A lender of which some calls take more than a second, or that is away when slots are to be released. */
 static struct window_lender lender;
 static unsigned slow_calls, slow_most;
+static bool is_away;
 
 static void dawdle(void) {
     if (slow_calls == slow_most) return;
@@ -233,6 +235,10 @@ static int lend_slowly(void *opaque, const uint32_t *pages, size_t count, struct
     return lender.lend(opaque, pages, count, loans);
 }
 
+static int release_or_not(void *opaque, const uint64_t *slots, size_t count) {
+    return is_away ? ENOTCONN : lender.release(opaque, slots, count);
+}
+
 /* A window of a set that attends, whose pages are found idle by the next look. Its lender isn't slow yet. */
 static struct window *make_attended(struct fixture *fixture, uint8_t *at, size_t pages) {
     struct windows_config config = never_pinned;
@@ -243,6 +249,7 @@ static struct window *make_attended(struct fixture *fixture, uint8_t *at, size_t
     struct window_lender slow = lender;
     slow.ask = ask_slowly;
     slow.lend = lend_slowly;
+    slow.release = release_or_not;
     slow_calls = slow_most = 0;
     windows_detach(fixture->windows);
     must(windows_attach(fixture->windows, &slow), "windows_attach");
@@ -285,6 +292,26 @@ static void ends(void) {
     must(window_free(window, WINDOW_DROP), "window_free");
     fixture_free(&fixture);
     munmap(at, (size_t)MANY * PAGE);
+}
+
+/* A lender that is away when a look begins is asked nothing more in it, and the counts say so. The next look releases the slots. */
+static void goes_on_alone(void) {
+    struct fixture fixture;
+    uint8_t *at = memory(PAGES);
+    struct window *window = make_attended(&fixture, at, PAGES);
+    check(look_until(&fixture, PAGES) == PAGES, "pages are lent");
+    must(window_discard(window, FIRST, COUNT), "window_discard");
+    is_away = true;
+    const struct window_result result = look(fixture.windows);
+    check(result.status == WINDOW_LENDER_FAILED && result.cause == ENOTCONN, "a look says that the lender is away");
+    check(counts_of(&fixture).pause == WINDOWS_NO_LENDER, "so do the counts");
+    check(counts_of(&fixture).lender_failures == 1 && slots_of(&fixture) == PAGES, "and it is asked nothing more");
+    is_away = false;
+    must(look(fixture.windows), "a look at the lender that is there again");
+    check(counts_of(&fixture).pause == WINDOWS_LENDING && slots_of(&fixture) == PAGES - COUNT, "then the slots are released");
+    must(window_free(window, WINDOW_DROP), "window_free");
+    fixture_free(&fixture);
+    munmap(at, (size_t)PAGES * PAGE);
 }
 
 /* ---- a share of a processor ---- */
@@ -364,6 +391,7 @@ int main(void) {
     never_sleeps();
     attends();
     ends();
+    goes_on_alone();
     disturbed(&never_pinned);
     disturbed(&guarded);
     puts(check_count() == 0 ? "tasks: ok" : "tasks: WRONG");
