@@ -41,7 +41,7 @@ pub record OneChanges (Becomes : WindowPage → WindowPage → Type 0) (lead pla
   pub follows : parts_new ≡ slice_set parts (part_at lead place) (counts_then before after part)
   pub becomes : Becomes before after
 
--- Each of so many pages from one place on becomes what this says, and the counts of their parts follow. Each page still has a part.
+-- Each of so many pages from one place on becomes what this says, and the counts of their parts follow.
 pub record EachChanges (what : Change) (lead first count : ℕ) (old new : List WindowPage) (parts parts_new : List PartCounts) : Type 0 where
   pub pages : Changed (IsNow what) first count old new
   pub counted : Counted lead old parts → Counted lead new parts_new

@@ -1,4 +1,4 @@
-//! What the counts of a table are worth. The function's body is empty: the contract is all there is.
+//! What the counts of a table are worth. The functions' bodies are empty: the contract is all there is.
 ghost use Rattle.window_tables.specs.Laws.{DifferencesCount, EachNumberIsRight, EachTableIsCounted, NoMoreCome, NoneIsMissed, NotesStayInside, SomeKeepMappings};
 
 /// Whatever calls there are for the pages of a table whose bytes are zeros at first, in whatever order, the counts of each part are right of its

@@ -109,7 +109,7 @@ pub fn mappings_at(
     found
 }
 
-/// Returns how many more may begin there, whatever becomes of these pages.
+/// Returns how many more mappings may begin at `count` pages from `first` on, or at the page behind them, whatever becomes of these pages.
 pub fn mappings_more(
     pages: &[WindowPage],
     parts: &[WindowPart],
@@ -135,7 +135,8 @@ fn part_differs(parts: &[WindowPart], lead: usize, place: usize) -> usize
     if is_same { 0 } else { 1 }
 }
 
-/// Returns how many mappings a table of so many pages has whose bytes are zeros. It looks at the parts alone.
+/// Returns how many mappings a table of so many pages has whose bytes are zeros: one, and one more at each part that is whole where the one before
+/// it is split, or the other way round.
 pub fn mappings_new(parts: &[WindowPart], lead: usize, count: usize) -> usize
     ensures { result ≡ mappings_of lead parts.now (replicate count new_page) }
 {
