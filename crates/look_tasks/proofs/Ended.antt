@@ -1,14 +1,11 @@
 -- How a look ends.
-use Rattle.std.proofs.Common.{◌≡◌, ◌∙◌, ℕ, Bool, true, false, cond, refl, ap, sym, subst}
+use Rattle.std.proofs.Common.{◌≡◌, ◌∙◌, ℕ, Bool, true, false, cond, refl, ap, sym}
 use Rattle.std.specs.Prelude.{Option, Some, None}
-use Rattle.look_steps.specs.Steps.{step_of}
-use Rattle.look_steps.specs.declared.step.Step.{Step}
 use Rattle.look_tasks.proofs.Firsts.{are_first, asked_stands, firsts_are, is_first}
-use Rattle.look_tasks.specs.Laws.{ReleasesComeFirst, StandsUntilItsEnd, Turn, after_turn, is_end, its_task}
-use Rattle.look_tasks.specs.Tasks.{Tasks, asked_then, attended, batch_task, begun_then, came_to, entered, first_task, in_window, ending, later_task, looked_at, or_task, rests, stage_task, stage_then, stepped_in, task_in, task_of, tasks_by}
+use Rattle.look_tasks.specs.Laws.{ReleasesComeFirst, StandsUntilItsEnd, is_end, its_task}
+use Rattle.look_tasks.specs.Tasks.{Tasks, asked_then, attended, begun_then, came_to, first_task, in_window, ending, later_task, looked_at, or_task, rests, stage_task}
 use Rattle.look_tasks.specs.declared.task.TaskOutcome.{TaskOutcome}
-use Rattle.look_tasks.specs.declared.task.Stage.{Stage}
-use Rattle.look_tasks.specs.declared.task.Stage.TheVariants.{Rests, Begins, Windows, Parts, Returns, Ends}
+use Rattle.look_tasks.specs.declared.task.Stage.TheVariants.{Windows, Parts}
 use Rattle.look_tasks.specs.declared.task.Task.{Task}
 use Rattle.look_tasks.specs.declared.task.Task.TheVariants.{Over, Sleep, Begin, Attend, Release, Window, Look, Return, GiveBack, Ask, Copy, Lend, Hold, End}
 

@@ -7,7 +7,7 @@ use Rattle.look_steps.specs.Steps.{Steps, due_part, next_by, step_by, step_of, s
 use Rattle.look_steps.specs.declared.step.Step.{Step}
 use Rattle.look_tasks.proofs.Firsts.{are_first, batches_are_first, firsts_are, is_first}
 use Rattle.look_tasks.specs.Laws.{AllPartsCome, EachPartComesOnce, Turn, after_turn, its_task, run, seen, seen_then}
-use Rattle.look_tasks.specs.Tasks.{Tasks, asked_then, batch_task, came_to, done_then, entered, first_task, later_task, later_then, look_begun, or_task, rests, stage_task, stage_then, stepped_in, task_in, tasks_by}
+use Rattle.look_tasks.specs.Tasks.{Tasks, asked_then, batch_task, came_to, done_then, entered, first_task, later_task, look_begun, or_task, rests, stage_task, stage_then, stepped_in, task_in, tasks_by}
 use Rattle.look_tasks.specs.declared.task.TaskOutcome.{TaskOutcome}
 use Rattle.look_tasks.specs.declared.task.Stage.{Stage}
 use Rattle.look_tasks.specs.declared.task.Stage.TheVariants.{Rests, Begins, Windows, Parts, Returns, Ends}
