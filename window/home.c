@@ -132,16 +132,18 @@ static void note_homing(struct window *window, size_t page, bool is_done) {
     if (is_homing(window, page)) note_order(window, page, is_done);
 }
 
-/* Takes memory for pages, and guards them. Returns 0 or an errno; if it isn't 0, nothing is guarded. */
+/* Takes memory for pages, and guards them. Returns 0 or an errno; if it isn't 0, nobody waits, but for pages that are stuck then. */
 static int begin_home(struct home *home) {
-    const struct window *window = home->window;
+    struct window *window = home->window;
     const int kind = MAP_PRIVATE | MAP_ANONYMOUS | MAP_NORESERVE;
     home->at = map_apart(bytes_of(home->count), PROT_READ | PROT_WRITE, kind, NO_FILE);
     if (home->at == MAP_FAILED) return errno;
     int cause = advice_begin(home->at, home->count);
     if (cause == 0) cause = advice_set(&window->advice, home->at, home->count, MEMORY_SMALL);
-    if (cause == 0)
+    if (cause == 0) {
         cause = faults_watch(&window->windows->faults, address_of(window, home->first), home->count, FAULTS_OF_WRITES);
+        if (cause != 0) let_waiters_go(window, home->first, home->count); /* (of some pages the watch may have begun) */
+    }
     if (cause != 0) munmap(home->at, bytes_of(home->count));
     return cause;
 }
