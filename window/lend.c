@@ -79,10 +79,11 @@ static bool begin_hold(struct hold *hold) {
         if (!is_over_frame) madvise(at, bytes_of(hold->count), MADV_COLD);
     }
     int cause = hold->moves && windows->scratch_used + hold->count > SCRATCH ? clear_scratch(windows) : 0;
-    if (cause == 0) cause = faults_watch(&windows->faults, at, hold->count, hold->moves ? FAULTS_OF_MISSING : FAULTS_OF_WRITES);
+    bool is_asked = cause == 0;
+    if (is_asked) cause = faults_watch(&windows->faults, at, hold->count, hold->moves ? FAULTS_OF_MISSING : FAULTS_OF_WRITES);
     if (cause != 0) {
         note_failure(windows, WINDOW_NO_MAPPING, cause);
-        return false;
+        return is_asked; /* (of some pages the watch may have begun) */
     }
     hold->begun_ns = clock_now_ns();
     if (hold->moves) {
