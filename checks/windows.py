@@ -33,7 +33,7 @@ from harness import TOP, LeftOut, StrPath, Tally
 
 TESTS, OUT = TOP / "window/tests", BUILT / "window"
 WRAPS = {
-    "guards": ["ioctl", "madvise", "mremap", "fallocate", "mmap"],
+    "guards": ["ioctl", "madvise", "mremap", "fallocate"],
     "parts": ["ioctl", "madvise", "mremap", "fallocate"],
     "refusals": ["fcntl", "getrlimit", "ioctl", "madvise", "mmap", "mprotect", "mremap", "munmap", "open", "pread", "syscall"],
     "full": ["memfd_create", "fcntl"],

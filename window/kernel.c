@@ -358,12 +358,14 @@ int mapping_copy(void *at, const void *from, size_t pages) {
 
 int mapping_put(void *at, size_t pages, int protection, int file, size_t file_page) {
     const size_t bytes = bytes_of(pages);
-    const int kind = MAP_PRIVATE | MAP_NORESERVE | (file == NO_FILE ? MAP_ANONYMOUS : 0);
-    const off_t from = file == NO_FILE ? 0 : (off_t)bytes_of(file_page);
-    if (!is_limited()) return mmap(at, bytes, protection, kind | MAP_FIXED, file, from) == MAP_FAILED ? errno : 0;
+    const bool is_file = file != NO_FILE;
+    const int kind = MAP_PRIVATE | MAP_NORESERVE | (is_file ? 0 : MAP_ANONYMOUS);
+    const off_t from = is_file ? (off_t)bytes_of(file_page) : 0;
+    if (!is_file && !is_limited()) return mmap(at, bytes, protection, kind | MAP_FIXED, file, from) == MAP_FAILED ? errno : 0;
     void *aside = map_apart_from(bytes, protection, kind, file, from);
     if (aside == MAP_FAILED) return errno;
-    if (mremap(aside, bytes, bytes, MREMAP_MAYMOVE | MREMAP_FIXED, at) != MAP_FAILED) return 0;
+    bool is_kept = !is_file || madvise(aside, bytes, MADV_DONTFORK) == 0;
+    if (is_kept && mremap(aside, bytes, bytes, MREMAP_MAYMOVE | MREMAP_FIXED, at) != MAP_FAILED) return 0;
     int cause = errno;
     munmap(aside, bytes);
     return cause;

@@ -116,7 +116,10 @@ int locked_find(bool (*is_it)(void *opaque, const uint8_t *begin, const uint8_t 
  * of the mapping, such as MADV_DONTFORK, holds of the copy from the beginning. The mapping stays.
  */
 int mapping_copy(void *at, const void *from, size_t pages);
-/* Puts pages of a file there, from its page `file_page` on, or zeros if `file` is NO_FILE. Where it fails nothing has changed. */
+/*
+ * Puts pages of a file there, from its page `file_page` on, which no child of a fork ever has; or zeros if `file` is NO_FILE. Where it fails
+ * nothing has changed.
+ */
 int mapping_put(void *at, size_t pages, int protection, int file, size_t file_page);
 
 /*

@@ -189,7 +189,7 @@ int map_pages(struct window *window, size_t first, size_t count, uint32_t frame,
     const uint8_t *source = source_of(window, frame, protection);
     void *at = address_of(window, first);
     int cause = source != NULL ? mapping_copy(at, source, count) : ENOENT;
-    /* (for a moment a child of a fork would have it) */
+    /* (zeros may be a child's for a moment) */
     if (cause != 0)
         cause = mapping_put(at, count, protection, is_file ? window->windows->frames_fd : NO_FILE, is_file ? frame : 0);
     if (cause != 0) return cause;
