@@ -120,7 +120,6 @@ BODIES = {
     "takes what is aside for guarded": Body("lend.c", "hold->moves ? PAGESHARE_WINDOW_TAKEN_ASIDE :", "false ? 0 :", ["parts"]),
     "counts what can't be put back as put back": Body("lend.c", f"cause == 0);{PUT}", f"true);{PUT}", ["guards"]),
     "counts what can't be mapped as mapped": Body("lend.c", "note_step(hold, place, cause == 0);", "note_step(hold, place, true);", ["guards"]),
-    "leaves a watch that failed half-way": Body("kernel.c", "if (cause != 0) faults_end_watch(faults, at, pages);", "", ["refusals"]),
     "keeps memory of what stays": Body("home.c", "if (cause != 0 || home->stays[i]) munmap(", "if (home->stays[i]) munmap(", ["refusals"]),
     "takes a refused discard for done": Body("home.c", REFUSED_DISCARD, REFUSED_DISCARD.replace("NO_MAPPING", "OK"), ["refusals"]),
     "joins mappings that lie apart": Body("pages.c", "frame, is_alone);", "frame, false);", ["pages"]),
