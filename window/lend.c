@@ -373,6 +373,8 @@ void lender_failed(struct windows *windows, int cause) {
  */
 static bool has_mappings(struct window *window, size_t number, size_t *more) {
     struct windows *windows = window->windows;
+    /* (nothing is counted where a whole batch has room, of which each page lies between two others) */
+    if (pageshare_window_has_mappings(windows->mappings_most, windows->counts.mappings, 2 * WINDOW_BATCH)) return true;
     size_t added = mappings_more(window, number, 1);
     if (!pageshare_window_has_mappings(windows->mappings_most, windows->counts.mappings + *more, added)) {
         note_crowded(windows, 1);
