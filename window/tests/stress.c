@@ -317,12 +317,12 @@ static void page_out(struct guest *guest, uint64_t *state) {
     page_outs++;
 }
 
-/* Devices may pin for a moment, in which pages leave their window: copies of theirs stay over frames. */
+/* Devices may pin for a moment, if they don't always. Pages leave their window meanwhile: copies of theirs stay over frames. */
 static void may_pin_for_a_moment(struct guest *guest, uint64_t *state) {
-    windows_set_pins(windows, WINDOWS_PINS_POSSIBLE);
+    if (!pins_unknown) windows_set_pins(windows, WINDOWS_PINS_POSSIBLE);
     pause_for(2);
     cut(guest, state);
-    windows_set_pins(windows, pins_unknown ? WINDOWS_PINS_POSSIBLE : WINDOWS_PINS_NEVER);
+    if (!pins_unknown) windows_set_pins(windows, WINDOWS_PINS_NEVER);
 }
 
 /* No huge pages are wanted for a moment. */
