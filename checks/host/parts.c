@@ -861,6 +861,8 @@ static void ended(void) {
     int null = open("/dev/null", O_RDWR);
     int status = ioctl(null, VFIO_IOMMU_MAP_DMA, &map), cause = errno;
     setrlimit(RLIMIT_AS, &old);
+    /* (on a busy computer the looking thread is late with its counts) */
+    for (unsigned i = 0; i < SECONDS * 50 && cause == ENOTTY && library_count("lent") != 0; i++) usleep(20000);
     usleep(300000);
     long lends = library_count("lends");
     check(status == -1 && (cause != ENOTTY || library_count("lent") == 0),
