@@ -3,4 +3,4 @@ mod Rested
 mod Sampled
 mod Stayed
 mod Turned
-mod Went
+pub mod Went

@@ -1,6 +1,6 @@
 -- Each page has its turn.
-use Rattle.std.proofs.Common.{◌≡◌, ◌∙◌, ℕ, zero, suc, ◌+◌, ◌-◌, ◌*◌, ◌/◌, ◌%◌, ◌<◌, ◌≤◌, Bool, true, false, cond, not, refl, ap, arith}
-use Rattle.std.specs.Prelude.{max, nat_eq, nat_lt, ◌&&◌}
+use Rattle.std.proofs.Common.{◌≡◌, ◌∙◌, ℕ, zero, suc, ◌+◌, ◌-◌, ◌*◌, ◌/◌, ◌%◌, ◌<◌, ◌≤◌, Bool, true, false, cond, refl, ap, arith}
+use Rattle.std.specs.Prelude.{max, nat_eq}
 use Rattle.std.proofs.lemmas.Bool.{eq-eqb}
 use Rattle.std.proofs.Math.Nat.{add-mul, add-mul-mod_self_right, mod-eq_of_lt, mod-lt, mod-eq-sub-div-mul, div-mul-le_self}
 use Rattle.idle_pages.specs.declared.look.LookConfig.{LookConfig}

@@ -1,16 +1,29 @@
 //! Which pages of a part that rests a look takes.
-ghost use Rattle.std.specs.Prelude.{◌≡◌};
+ghost use Rattle.std.specs.Prelude.{◌≡◌, ◌+◌, ◌%◌, nat_eq};
 ghost use Rattle.idle_pages.specs.Samples.{is_in_sample, is_sampled, is_left_out, is_to_fetch};
 
 use crate::{LookConfig, PageLooks, PartLooks};
+
+// Returns whether a number is one in so many of those in a row: in `rest + 1`. A division by a constant is much cheaper than another one, and
+// these are the rests that a part comes to.
+fn is_one_of(rest: u8, number: u64) -> bool
+    ensures { result ≡ nat_eq (number % (rest + 1)) 0 }
+{
+    match rest {
+        0 => true,
+        1 => number % 2 == 0,
+        3 => number % 4 == 0,
+        7 => number % 8 == 0,
+        _ => number % (u64::from(rest) + 1) == 0,
+    }
+}
 
 impl PartLooks {
     /// Returns whether this look glances at an idle page there. Where the part rests, that is one page in so many.
     pub fn is_in_sample(&self, look: u32, number: u32) -> bool
         ensures { result ≡ is_in_sample self.now look number }
     {
-        let each = u64::from(self.rest) + 1;
-        (u64::from(look) + u64::from(number)) % each == 0
+        is_one_of(self.rest, u64::from(look) + u64::from(number))
     }
 }
 
@@ -20,7 +33,7 @@ impl PageLooks {
     pub fn is_sampled(&self, part: &PartLooks, look: u32, number: u32, is_turn: bool) -> bool
         ensures { result ≡ is_sampled part.now self.now look number is_turn }
     {
-        is_turn || !self.is_again() || part.is_in_sample(look, number)
+        !self.is_again() || part.is_in_sample(look, number) || is_turn
     }
 
     /// Returns whether this look leaves the page out, if its part rests.
