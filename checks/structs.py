@@ -36,7 +36,7 @@ STRUCTS = {
     "WindowPage": "pageshare_window_page", "TableFacts": "pageshare_window_table_facts", "PartCounts": "pageshare_window_counts", "WindowFacts": "pageshare_window_facts",
     "WindowPart": "pageshare_window_part", "WindowPartConfig": "pageshare_window_part_config",
     "WindowPartLook": "pageshare_window_part_look", "OfferedRange": "pageshare_window_range", "Piece": "pageshare_window_piece",
-    "OfferedBounds": "pageshare_window_range_bounds", "Transfer": "pageshare_window_transfer", "WindowWay": "pageshare_window_way",
+    "OfferedBounds": "pageshare_window_range_bounds", "Transfer": "pageshare_window_transfer", "FindOutcome": "pageshare_window_find_outcome",
     "WindowLook": "pageshare_window_look", "LookSteps": "pageshare_window_steps", "PartReturn": "pageshare_window_return",
     "WindowTask": "pageshare_window_task", "LookTasks": "pageshare_window_tasks", "TaskOutcome": "pageshare_window_outcome",
     "Taken": "pageshare_window_taken", "LookFinds": "pageshare_window_finds", "LookTimes": "pageshare_window_times",

@@ -9,9 +9,6 @@ enum {
     AHEAD = 12 /* pages that are fetched while another one is glanced at */
 };
 
-/* What a look makes of a page. */
-enum finding { FOUND_NOTHING, FOUND_IDLE, FOUND_ZERO };
-
 /* What a look has found of a part. */
 struct findings {
     struct found *zeros, *idle;                /* to these the pages are added that are zeros, and other idle ones */
@@ -22,74 +19,52 @@ struct findings {
     struct pageshare_window_table_facts table; /* what is so of the window */
 };
 
-/* A lent page has memory of its own: somebody wrote to it. It is asked for in another way, too, since nothing else is so grave. */
-static void find_copy(struct window *window, size_t number) {
-    struct windows *windows = window->windows;
-    if (!pagemap_is_own(&windows->pagemap, address_of(window, number))) return;
-    windows->counts.copied++;
-    trace_copy(windows->trace, window->base + (uint32_t)number, address_of(window, number));
-    hear_written(window, number);
-    stop_showing_past(window, number);
-}
-
 static uint16_t glance(const struct window *window, size_t number, uint64_t by) {
     return (uint16_t)glance_at(by, address_of(window, number));
 }
 
-/* Notes that a page is new, or has changed. It isn't read before it stays as it is. */
-static void meet_page(struct window *window, size_t number) {
-    page_entry *page = &window->pages[number];
-    uint64_t by = pageshare_window_glanced_by(page, (uint32_t)number);
+/* Asks once more, in another way, whether a page has memory of its own: nothing else is so grave. */
+static void find_copy(struct window *window, size_t number, struct pageshare_window_find_outcome *outcome) {
+    struct windows *windows = window->windows;
+    outcome->is_own = pagemap_is_own(&windows->pagemap, address_of(window, number));
+    if (!outcome->is_own) return;
+    windows->counts.copied++;
+    trace_copy(windows->trace, window->base + (uint32_t)number, address_of(window, number));
+}
+
+static void take_glance(struct window *window, size_t number, struct pageshare_window_find_outcome *outcome) {
+    const page_entry *page = &window->pages[number];
     window->windows->counts.fresh += looks_of(page) == 0 ? 1 : 0;
-    pageshare_window_met(page, part_counts(window, number), (uint32_t)number, glance(window, number, by));
+    outcome->glance = glance(window, number, pageshare_window_glanced_by(page, (uint32_t)number));
 }
 
-/* Reads a page, and notes what that says of it. Returns its fingerprint. */
-static uint64_t read_page(struct window *window, size_t number) {
-    page_entry *page = &window->pages[number];
-    uint64_t fingerprint = fingerprint_of(window->windows->lender.salt, address_of(window, number));
-    uint16_t found = is_over(page) ? 0 : glance(window, number, fingerprint);
+static void read_page(struct window *window, size_t number, struct pageshare_window_find_outcome *outcome) {
+    outcome->fingerprint = fingerprint_of(window->windows->lender.salt, address_of(window, number));
+    outcome->glance = glance(window, number, outcome->fingerprint);
     window->windows->counts.reads++;
-    pageshare_window_read(page, part_counts(window, number), fingerprint, found);
-    return fingerprint;
 }
 
-/*
- * Takes a page's fingerprint, and compares it with the last look's. The library says whether the page is glanced at, and whether it is read.
- * What it has become since it was read is found when it is to be lent.
- */
-static enum finding take_fingerprint(struct window *window, size_t number, uint64_t *fingerprint) {
-    const page_entry *page = &window->pages[number];
+/* Does what is to be done with a page, one step after another. Returns what was found: enum pageshare_window_find_step. */
+static unsigned find(struct window *window, size_t number, uint8_t memory, const struct findings *findings) {
+    struct pageshare_window_counts *counts = part_counts(window, number);
+    const struct pageshare_window_part *part = &part_of(window, number)->is;
     const struct pageshare_window_look look = look_now(window->windows);
-    const struct pageshare_window_way way = pageshare_window_way(page, &part_of(window, number)->is, &look, (uint32_t)number);
-    bool has_changed = way.glances && glance(window, number, kept_of(page)) != clue_in(page);
-    if (has_changed || way.act == PAGESHARE_WINDOW_MEET) meet_page(window, number);
-    if (has_changed || way.act == PAGESHARE_WINDOW_MEET || way.act == PAGESHARE_WINDOW_PASS) return FOUND_NOTHING;
-    window->windows->counts.again += is_asked_again(page) ? 1 : 0;
-    *fingerprint = way.act == PAGESHARE_WINDOW_KEEP ? kept_of(page) : read_page(window, number);
-    if (looks_of(page) < STILL) return FOUND_NOTHING;
-    return *fingerprint == window->windows->fingerprint_of_zeros ? FOUND_ZERO : FOUND_IDLE;
-}
-
-/* Whether a look may read a page: it is the window's, and can be lent. */
-static bool may_read(const struct window *window, const struct pageshare_window_table_facts *table, size_t number) {
+    page_entry *page = &window->pages[number];
     struct pageshare_window_facts facts;
-    find_facts(window, table, number, &facts);
-    return number < window->ready && pageshare_window_is_free(&window->pages[number], &facts);
-}
-
-static enum finding look_at(struct window *window, size_t number, uint8_t found, const struct findings *findings,
-                            uint64_t *fingerprint) {
-    const page_entry *page = &window->pages[number];
-    bool is_of_past = shows_past(page);
-    if (is_out(page)) return FOUND_NOTHING;
-    if (found != PAGE_NONE && is_given_back(page)) note_zero(window, number, false);
-    if ((is_lent(page) || is_of_past) && found != PAGE_NONE) {
-        find_copy(window, number);
-        return FOUND_NOTHING;
+    find_facts(window, &findings->table, number, &facts);
+    bool is_again = is_asked_again(page), is_read = false;
+    uint8_t step =
+        pageshare_window_begin_find(page, counts, part, &look, &facts, (uint32_t)number, memory, number < window->ready);
+    while (step != PAGESHARE_WINDOW_FIND_OVER && step < PAGESHARE_WINDOW_FIND_IDLE) {
+        struct pageshare_window_find_outcome outcome = {.fingerprint = 0};
+        if (step == PAGESHARE_WINDOW_FIND_COPY) find_copy(window, number, &outcome);
+        if (step == PAGESHARE_WINDOW_FIND_GLANCE) take_glance(window, number, &outcome);
+        if (step == PAGESHARE_WINDOW_FIND_READ) read_page(window, number, &outcome);
+        is_read = is_read || step == PAGESHARE_WINDOW_FIND_READ || step == PAGESHARE_WINDOW_FIND_COUNT;
+        step = pageshare_window_find_done(page, counts, part, &look, (uint32_t)number, step, &outcome);
     }
-    bool is_there = found == PAGE_PRESENT || is_of_past;
-    return is_there && may_read(window, &findings->table, number) ? take_fingerprint(window, number, fingerprint) : FOUND_NOTHING;
+    window->windows->counts.again += is_again && (is_read || step != PAGESHARE_WINDOW_FIND_OVER) ? 1 : 0;
+    return step;
 }
 
 #ifdef WINDOW_TRACE
@@ -122,30 +97,20 @@ static void make_ready(struct window *window, size_t first, size_t count, size_t
     --*left;
 }
 
-/* A page of zeros in a whole part stays where it is, and counts. */
-static void count_zero(struct window *window, size_t number) {
-    note_seen(window, number, true);
-    pageshare_window_asked(&window->pages[number], part_counts(window, number));
-}
-
 static void add(struct found *found, size_t number, uint64_t fingerprint) {
     if (found->count == FOUND_MOST) return; /* (a later look finds it again) */
     found->pages[found->count] = (uint32_t)number;
     found->fingerprints[found->count++] = fingerprint;
 }
 
-/* Looks at a page that has memory of its own, and adds it to the findings if it is idle. */
-static void add_finding(struct window *window, size_t number, uint8_t found, struct findings *findings) {
+/* Looks at a page, and adds it to the findings if it is idle. */
+static void add_finding(struct window *window, size_t number, uint8_t memory, struct findings *findings) {
     const page_entry *page = &window->pages[number];
-    unsigned before = looks_of(page);
-    uint64_t fingerprint = 0;
-    enum finding finding = look_at(window, number, found, findings, &fingerprint);
-    bool is_kept_back = finding == FOUND_ZERO && part_of(window, number)->is.whole;
+    unsigned before = looks_of(page), found = find(window, number, memory, findings);
     findings->changes += before == STILL && looks_of(page) < STILL ? 1 : 0;
-    findings->young += found != PAGE_NONE && is_young(page) ? 1 : 0;
-    if (is_kept_back) count_zero(window, number);
-    if (finding == FOUND_IDLE) add(findings->idle, number, fingerprint);
-    if (finding == FOUND_ZERO && !is_kept_back) add(findings->zeros, number, fingerprint);
+    findings->young += memory != PAGE_NONE && is_young(page) ? 1 : 0;
+    if (found == PAGESHARE_WINDOW_FIND_IDLE) add(findings->idle, number, kept_of(page));
+    if (found == PAGESHARE_WINDOW_FIND_ZEROS) add(findings->zeros, number, kept_of(page));
 }
 
 /* Fetches what a glance at a page will need, so that it needn't wait. */
@@ -156,21 +121,23 @@ static void fetch(const struct window *window, size_t number) {
     __builtin_prefetch(address_of(window, number) + glance_place(kept_of(page)) * sizeof(uint64_t));
 }
 
-/* Whether a page that this look wouldn't take has changed. */
-static bool has_changed_beside(const struct window *window, size_t number, uint8_t found, const struct findings *findings) {
+/* Looks at a page that this look would leave out. Returns whether it had changed. */
+static bool follow_to(struct window *window, size_t number, uint8_t memory, struct findings *findings) {
     const page_entry *page = &window->pages[number];
     const struct pageshare_window_look look = look_now(window->windows);
-    if (found != PAGE_PRESENT || is_over(page)) return false;
-    if (!pageshare_window_is_left_out(page, &part_of(window, number)->is, &look, (uint32_t)number)) return false;
-    return may_read(window, &findings->table, number) && glance(window, number, kept_of(page)) != clue_in(page);
+    size_t before = findings->changes;
+    if (memory != PAGE_PRESENT || !pageshare_window_is_left_out(page, &part_of(window, number)->is, &look, (uint32_t)number))
+        return false;
+    add_finding(window, number, memory, findings);
+    return findings->changes > before;
 }
 
 /* Where a sampled page has changed those beside it are taken, too, as far as they have changed. None of them is idle any more. */
 static void follow(struct window *window, size_t first, size_t count, size_t i, const uint8_t *found, struct findings *findings) {
-    for (size_t next = i + 1; next < count && has_changed_beside(window, first + next, found[next], findings); next++)
-        add_finding(window, first + next, found[next], findings);
-    for (size_t next = i; next > 0 && has_changed_beside(window, first + next - 1, found[next - 1], findings); next--)
-        add_finding(window, first + next - 1, found[next - 1], findings);
+    for (size_t next = i + 1; next < count && follow_to(window, first + next, found[next], findings); next++) {
+    }
+    for (size_t next = i; next > 0 && follow_to(window, first + next - 1, found[next - 1], findings); next--) {
+    }
 }
 
 /* Looks at those pages of a part that this look takes. */

@@ -498,23 +498,28 @@ size_t pageshare_window_mappings_new(const struct pageshare_window_part *parts, 
 
 /* A look, and how often it takes what. */
 struct pageshare_window_look {
+    uint64_t zeros;    /* the fingerprint of a page of zeros */
     uint32_t look;     /* its number */
     uint16_t turns;    /* a page that nobody else has is asked about again at one look in so many; 0 counts as 8 */
     uint8_t rest_most; /* idle pages that it leaves out at most for each one that it takes, where a part rests */
 };
 
-/* What comes of a look at a page. */
-enum pageshare_window_act {
-    PAGESHARE_WINDOW_PASS = 0, /* nothing */
-    PAGESHARE_WINDOW_MEET = 1, /* the page is new, or has changed: it isn't read before it stays as it is */
-    PAGESHARE_WINDOW_KEEP = 2, /* the fingerprint of the last read counts */
-    PAGESHARE_WINDOW_READ = 3  /* the page is read */
+/* What is done next with a page at which a look has come. */
+enum pageshare_window_find_step {
+    PAGESHARE_WINDOW_FIND_OVER = 0,   /* nothing, and nothing was found */
+    PAGESHARE_WINDOW_FIND_COPY = 1,   /* the system is asked once more whether it has memory of its own */
+    PAGESHARE_WINDOW_FIND_GLANCE = 2, /* a glance is taken, where pageshare_window_glanced_by says */
+    PAGESHARE_WINDOW_FIND_READ = 3,   /* it is read: its fingerprint is taken, and a glance by that */
+    PAGESHARE_WINDOW_FIND_COUNT = 4,  /* nothing: it is zeros in a whole part, and counts */
+    PAGESHARE_WINDOW_FIND_IDLE = 5,   /* nothing: it is idle, and its fingerprint is kept */
+    PAGESHARE_WINDOW_FIND_ZEROS = 6   /* nothing: it is idle, and zeros */
 };
 
-/* What a look does with a page, before any byte of it is read. */
-struct pageshare_window_way {
-    bool glances; /* it glances at the page first; if the glance isn't the last one's, the page has changed */
-    uint8_t act;  /* enum pageshare_window_act: what comes of it otherwise */
+/* What came of a step. */
+struct pageshare_window_find_outcome {
+    uint64_t fingerprint; /* of READ */
+    uint16_t glance;      /* of GLANCE; of READ by the fingerprint */
+    bool is_own;          /* of COPY: it has memory of its own */
 };
 
 /* A part that a look comes back to, and when. */
@@ -625,10 +630,17 @@ size_t pageshare_window_take_pages(const struct pageshare_window_page *pages, si
                                    size_t found_count, const struct pageshare_window_part *part,
                                    const struct pageshare_window_look *look, uint32_t first, bool is_return, bool all,
                                    uint16_t *taken, size_t taken_most);
-/* What the look does with a page. */
-struct pageshare_window_way pageshare_window_way(const struct pageshare_window_page *page,
-                                                 const struct pageshare_window_part *part,
-                                                 const struct pageshare_window_look *look, uint32_t number);
+/*
+ * A look at a page, whose number in its window is `number`. begin_find takes what is so of the page; which memory it has: 0 none of its own, 1
+ * some, 2 some that is swapped out; and whether its memory is left alone by the system. find_done takes what came of the step that was done.
+ * Both return what is done next: enum pageshare_window_find_step. Bytes of a page are read only if that says so.
+ */
+uint8_t pageshare_window_begin_find(struct pageshare_window_page *page, struct pageshare_window_counts *counts,
+                                    const struct pageshare_window_part *part, const struct pageshare_window_look *look,
+                                    const struct pageshare_window_facts *facts, uint32_t number, uint8_t memory, bool is_ready);
+uint8_t pageshare_window_find_done(struct pageshare_window_page *page, struct pageshare_window_counts *counts,
+                                   const struct pageshare_window_part *part, const struct pageshare_window_look *look,
+                                   uint32_t number, uint8_t step, const struct pageshare_window_find_outcome *outcome);
 /* Whether it leaves a page out, where the part rests; and whether a glance at a page is so likely that its bytes are fetched before. */
 bool pageshare_window_is_left_out(const struct pageshare_window_page *page, const struct pageshare_window_part *part,
                                   const struct pageshare_window_look *look, uint32_t number);
@@ -636,11 +648,6 @@ bool pageshare_window_is_to_fetch(const struct pageshare_window_page *page, cons
                                   const struct pageshare_window_look *look, uint32_t number);
 /* The number that says where a glance at a page looks. A glance is a number below 32,768. */
 uint64_t pageshare_window_glanced_by(const struct pageshare_window_page *page, uint32_t number);
-/* A page is new, or has changed, and this is what a glance finds there. Or it was read: its fingerprint, and a glance by that. */
-void pageshare_window_met(struct pageshare_window_page *page, struct pageshare_window_counts *part, uint32_t number,
-                          uint16_t glance);
-void pageshare_window_read(struct pageshare_window_page *page, struct pageshare_window_counts *part, uint64_t fingerprint,
-                           uint16_t glance);
 /* A page was asked about in vain; it can't be lent now; it is to be asked about at once; or it was to be held, and was, or wasn't. */
 void pageshare_window_asked(struct pageshare_window_page *page, struct pageshare_window_counts *part);
 void pageshare_window_asked_last(struct pageshare_window_page *page, struct pageshare_window_counts *part);

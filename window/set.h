@@ -178,8 +178,10 @@ static inline struct window_result result_of(enum window_status status, int caus
 
 /* The look under way, as the library takes it. */
 static inline struct pageshare_window_look look_now(const struct windows *windows) {
-    return (struct pageshare_window_look){
-        .look = (uint32_t)windows->counts.looks, .turns = windows->tuning.turns, .rest_most = windows->tuning.rest_most};
+    return (struct pageshare_window_look){.zeros = windows->fingerprint_of_zeros,
+                                          .look = (uint32_t)windows->counts.looks,
+                                          .turns = windows->tuning.turns,
+                                          .rest_most = windows->tuning.rest_most};
 }
 
 /* Whether a page is the window's: no other may be touched. */

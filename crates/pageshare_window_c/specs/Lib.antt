@@ -1,4 +1,5 @@
 pub mod Budgets
+pub mod Finds
 pub mod Holds
 pub mod Looks
 pub mod Pages

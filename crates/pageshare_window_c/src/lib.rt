@@ -28,6 +28,7 @@ ghost use Rattle.pageshare_window_c.specs.Pages.{Takes, number_of};
 ghost use Rattle.pageshare_window_c.specs.Parts.{config_of, look_of, part_number, part_of};
 
 mod budget;
+mod finds;
 mod holds;
 mod laws;
 mod looks;
@@ -43,6 +44,7 @@ mod times;
 
 pub use budget::{CREDIT_NS, OWED_NS, SAVED_NS, WindowBudget};
 use budget::{budget_of, config_by, put};
+pub use finds::{pageshare_window_begin_find, pageshare_window_find_done};
 pub use holds::{
     pageshare_window_begin_hold, pageshare_window_hold_done, pageshare_window_hold_step,
 };
@@ -51,11 +53,10 @@ pub use look_steps::{LookSteps, PartReturn};
 pub use look_tasks::{LookTasks, TaskOutcome};
 pub use look_times::{LookFinds, LookTimes};
 pub use looks::{
-    WindowLook, WindowWay, pageshare_window_ask_at_once, pageshare_window_asked,
-    pageshare_window_asked_last, pageshare_window_glanced_by, pageshare_window_held,
-    pageshare_window_is_in_passing, pageshare_window_is_left_out, pageshare_window_is_to_fetch,
-    pageshare_window_met, pageshare_window_read, pageshare_window_set_rest, pageshare_window_wake,
-    pageshare_window_way,
+    WindowLook, pageshare_window_ask_at_once, pageshare_window_asked, pageshare_window_asked_last,
+    pageshare_window_glanced_by, pageshare_window_held, pageshare_window_is_in_passing,
+    pageshare_window_is_left_out, pageshare_window_is_to_fetch, pageshare_window_set_rest,
+    pageshare_window_wake,
 };
 use mapping_room::{MappingRoom, fits};
 pub use mappings::{
@@ -65,6 +66,7 @@ pub use numbers::pageshare_window_find_numbers;
 use offered_ranges::{add, is_part_left, next as next_piece, take_out};
 pub use offered_ranges::{OfferedBounds, OfferedRange, Piece};
 use order::number_of;
+pub use page_finds::FindOutcome;
 use page_lender::{Notice, Outcome};
 pub use page_pins::Transfer;
 use part::next_of_part;

@@ -1,32 +1,25 @@
 //! Pages and parts, as looks know them.
-ghost use Rattle.std.specs.Prelude.{◌≡◌, ◌+◌, ◌<◌, ◌≤◌, if◌then◌else◌, false, [], ◌∷◌, ◌++◌, length, take};
-ghost use Rattle.idle_pages.specs.Idle.{asked, asked_last, due, glanced_by, held, met};
+ghost use Rattle.std.specs.Prelude.{◌≡◌, ◌+◌, ◌%◌, ◌<◌, ◌≤◌, nat_eq, if◌then◌else◌, false, [], ◌∷◌, ◌++◌, length, take};
+ghost use Rattle.idle_pages.specs.Idle.{asked, asked_last, due, glanced_by, held};
 ghost use Rattle.idle_pages.specs.Rests.{found_then, woken};
 ghost use Rattle.idle_pages.specs.Samples.{is_left_out, is_to_fetch};
-ghost use Rattle.idle_pages.specs.Turns.{is_asked_in_passing};
-ghost use Rattle.idle_pages.specs.Ways.{way};
+ghost use Rattle.idle_pages.specs.Turns.{is_asked_in_passing, is_turn_of_idle};
+ghost use Rattle.idle_pages.specs.declared.look.TheConstants.{TOGETHER};
+ghost use Rattle.page_finds.specs.Notes.{Notes, looks_of};
 ghost use Rattle.window_pages.specs.Bytes.{known_of, notes_of};
-ghost use Rattle.pageshare_window_c.specs.Looks.{Notes, NotesRead, act_number, config_of, is_taken, looks_of, number_at, places_in, places_where, rests_of, seen_if_alike, takes_at, with_rests};
+ghost use Rattle.pageshare_window_c.specs.Looks.{config_of, is_taken, number_at, places_in, places_where, rests_of, takes_at, takes_by, with_rests};
 
 use crate::WindowPart;
-use idle_pages::{Act, LookConfig, PageLooks, PartLooks};
-use window_pages::{PageNotes, PartCounts, WindowPage, write_notes};
-
-/// What a look does with a page.
-#[repr(C)]
-#[derive(Clone, Copy)]
-pub struct WindowWay {
-    /// It glances at the page first. If the glance isn't the last one's, the page has changed.
-    pub glances: bool,
-    /// The number of what comes of it if the page hasn't changed: 0 nothing, 1 it is new, 2 the fingerprint of the last read counts, 3 it is
-    /// read.
-    pub act: u8,
-}
+use idle_pages::{LookConfig, PartLooks, TOGETHER};
+use page_finds::{looks_of, write_looks};
+use window_pages::{PartCounts, WindowPage};
 
 /// What is so of a part and of the look at it.
 #[repr(C)]
 #[derive(Clone, Copy)]
 pub struct WindowLook {
+    /// The fingerprint of a page of zeros.
+    pub zeros: u64,
     /// The number of the look.
     pub look: u32,
     /// A page that was asked about most often is asked about again at one look in so many; 0 counts as 8.
@@ -35,21 +28,8 @@ pub struct WindowLook {
     pub rest_most: u8,
 }
 
-// Returns what looks have found of a page.
-fn looks_of(page: &WindowPage) -> PageLooks
-    ensures { result ≡ looks_of page.now }
-{
-    let notes = page.notes();
-    PageLooks {
-        fingerprint: notes.fingerprint,
-        clue: notes.clue,
-        looks: notes.looks,
-        asks: notes.asks,
-    }
-}
-
 // Returns what looks have found of a part.
-fn rests_of(part: &WindowPart) -> PartLooks
+pub(crate) fn rests_of(part: &WindowPart) -> PartLooks
     ensures { result ≡ rests_of part.now }
 {
     PartLooks {
@@ -62,47 +42,13 @@ fn rests_of(part: &WindowPart) -> PartLooks
 }
 
 // Returns how often a look takes what.
-fn config_of(look: &WindowLook) -> LookConfig
+pub(crate) fn config_of(look: &WindowLook) -> LookConfig
     ensures { result ≡ config_of look.now }
 {
     LookConfig {
         turns: look.turns,
         rest_most: look.rest_most,
     }
-}
-
-// Writes what looks have found of a page.
-fn put(page: &mut WindowPage, counts: &mut PartCounts, looks: &PageLooks, seen: bool)
-    ensures { Notes looks.now seen page.old page.new counts.old counts.new }
-{
-    let notes = PageNotes {
-        fingerprint: looks.fingerprint,
-        clue: looks.clue,
-        looks: looks.looks,
-        asks: looks.asks,
-        seen,
-    };
-    write_notes(page, counts, &notes);
-}
-
-// Returns the number of what comes of a look.
-fn act_number(act: Act) -> u8
-    ensures { result ≡ act_number act }
-{
-    match act {
-        Act::Pass => 0,
-        Act::Meet => 1,
-        Act::Keep => 2,
-        Act::Read => 3,
-    }
-}
-
-// Returns whether a page that was seen elsewhere counts so still, once it was read: it was read with the same fingerprint.
-fn seen_if_alike(is_over: bool, looks: u8, seen: bool) -> bool
-    ensures { result ≡ seen_if_alike is_over looks seen }
-{
-    let first = if is_over { 1 } else { 2 };
-    seen && looks > first
 }
 
 // Writes a part's rest.
@@ -118,24 +64,6 @@ fn put_rests(part: &mut WindowPart, rests: &PartLooks)
     };
 }
 
-// Returns whether a look takes a page of which it is known whether it has memory of its own, or is taken without.
-fn is_taken(
-    page: &WindowPage,
-    part: &PartLooks,
-    config: &LookConfig,
-    look: u32,
-    number: u32,
-    is_return: bool,
-) -> bool
-    ensures { result ≡ is_taken config.now part.now look number is_return page.now }
-{
-    let looks = looks_of(page);
-    if is_return {
-        return looks.is_young();
-    }
-    part.rest == 0 || !looks.is_left_out(config, part, look, number)
-}
-
 // Returns the number of a page, at most the greatest one.
 fn number_at(first: u32, place: usize) -> u32
     requires { place ≤ 65535 }
@@ -144,26 +72,55 @@ fn number_at(first: u32, place: usize) -> u32
     first.saturating_add(place as u32)
 }
 
-// Returns whether a look takes the page at a place.
-fn takes_at(
+// Returns whether it is the turn of idle pages at a page, by whether it was at the page before it. Pages in one row have their turns together.
+fn turn_after(before: bool, part: &PartLooks, config: &LookConfig, look: u32, number: u32) -> bool
+    requires { nat_eq (number % TOGETHER) 0 ≡ false → before ≡ is_turn_of_idle config.now part.now look number }
+    ensures { result ≡ is_turn_of_idle config.now part.now look number }
+{
+    if number % TOGETHER == 0 {
+        part.is_turn_of_idle(config, look, number)
+    } else {
+        before
+    }
+}
+
+// Returns whether a look takes a page of which it is known whether it has memory of its own, or is taken without. `is_turn`: it is the turn of
+// idle pages there.
+fn is_taken(
+    page: &WindowPage,
+    part: &PartLooks,
+    look: u32,
+    number: u32,
+    is_return: bool,
+    is_turn: bool,
+) -> bool
+    ensures { result ≡ is_taken part.now look number is_return is_turn page.now }
+{
+    let looks = looks_of(page);
+    if is_return {
+        return looks.is_young();
+    }
+    part.rest == 0 || looks.is_sampled(part, look, number, is_turn)
+}
+
+// Returns whether a look takes the page at a place, whose number this is.
+fn takes_by(
     pages: &[WindowPage],
     found: &[u8],
     part: &PartLooks,
-    config: &LookConfig,
     look: u32,
-    first: u32,
+    number: u32,
     is_return: bool,
     all: bool,
+    is_turn: bool,
     place: usize,
 ) -> bool
     requires page { place < length pages.now }
     requires found { place < length found.now }
-    requires most { place ≤ 65535 }
-    ensures { result ≡ takes_at pages.now found.now config.now part.now look first is_return all place }
+    ensures { result ≡ takes_by pages.now found.now part.now look number is_return all is_turn place }
 {
     let is_there = all || found[place] != 0;
-    let number = number_at(first, place);
-    is_there && is_taken(&pages[place], part, config, look, number, is_return)
+    is_there && is_taken(&pages[place], part, look, number, is_return, is_turn)
 }
 
 // Writes a place behind so many, if this is so. Returns how many there are then.
@@ -202,39 +159,17 @@ pub extern "C" fn pageshare_window_take_pages(
     let config = config_of(look);
     let most = pages.len().min(found.len()).min(taken.len()).min(65_535);
     let mut count = 0;
+    let mut number = number_at(first, 0);
+    let mut is_turn = rests.is_turn_of_idle(&config, look.look, number);
     for place in 0..most {
-        let is_so = takes_at(
-            pages, found, &rests, &config, look.look, first, is_return, all, place,
+        let is_so = takes_by(
+            pages, found, &rests, look.look, number, is_return, all, is_turn, place,
         );
         count = put_if(is_so, taken, count, place);
+        number = number_at(first, place + 1);
+        is_turn = turn_after(is_turn, &rests, &config, look.look, number);
     }
     count
-}
-
-/// Returns what a look does with a page, whose number in its window is `number`.
-#[unsafe(no_mangle)]
-pub extern "C" fn pageshare_window_way(
-    page: &WindowPage,
-    part: &WindowPart,
-    look: &WindowLook,
-    number: u32,
-) -> WindowWay
-    ensures glances { result.glances ≡ (way (config_of look.now) (rests_of part.now) (looks_of page.now) (known_of page.now).over look.now.look number).glances }
-    ensures act { result.act ≡ act_number (way (config_of look.now) (rests_of part.now) (looks_of page.now) (known_of page.now).over look.now.look number).act }
-{
-    let looks = looks_of(page);
-    let is_over = page.known().over;
-    let way = looks.way(
-        &config_of(look),
-        &rests_of(part),
-        is_over,
-        look.look,
-        number,
-    );
-    WindowWay {
-        glances: way.glances,
-        act: act_number(way.act),
-    }
 }
 
 /// Returns the number that says where a glance at a page looks.
@@ -245,38 +180,6 @@ pub extern "C" fn pageshare_window_glanced_by(page: &WindowPage, number: u32) ->
     looks_of(page).glanced_by(number)
 }
 
-/// Learns that a page is new, or has changed, and what a glance finds of it by the number that `pageshare_window_glanced_by` returned.
-#[unsafe(no_mangle)]
-pub extern "C" fn pageshare_window_met(
-    page: &mut WindowPage,
-    counts: &mut PartCounts,
-    number: u32,
-    glance: u16,
-)
-    ensures { Notes (met (looks_of page.old) number glance) false page.old page.new counts.old counts.new }
-{
-    let mut looks = looks_of(page);
-    looks.met(number, glance);
-    put(page, counts, &looks, false);
-}
-
-/// Takes a page's fingerprint, which was read now, and what a glance finds by it. Of a page over a frame the glance counts for nothing.
-#[unsafe(no_mangle)]
-pub extern "C" fn pageshare_window_read(
-    page: &mut WindowPage,
-    counts: &mut PartCounts,
-    fingerprint: u64,
-    glance: u16,
-)
-    ensures { NotesRead fingerprint glance page.old page.new counts.old counts.new }
-{
-    let is_over = page.known().over;
-    let mut looks = looks_of(page);
-    looks.read(is_over, fingerprint, glance);
-    let seen = seen_if_alike(is_over, looks.looks, page.notes().seen);
-    put(page, counts, &looks, seen);
-}
-
 /// Learns that a page was asked about in vain.
 #[unsafe(no_mangle)]
 pub extern "C" fn pageshare_window_asked(page: &mut WindowPage, counts: &mut PartCounts)
@@ -285,7 +188,7 @@ pub extern "C" fn pageshare_window_asked(page: &mut WindowPage, counts: &mut Par
     let mut looks = looks_of(page);
     looks.asked();
     let seen = page.notes().seen;
-    put(page, counts, &looks, seen);
+    write_looks(page, counts, &looks, seen);
 }
 
 /// Learns that a page can't be lent now. So it is asked about as seldom as one that was asked about in vain most often.
@@ -296,7 +199,7 @@ pub extern "C" fn pageshare_window_asked_last(page: &mut WindowPage, counts: &mu
     let mut looks = looks_of(page);
     looks.asked_last();
     let seen = page.notes().seen;
-    put(page, counts, &looks, seen);
+    write_looks(page, counts, &looks, seen);
 }
 
 /// Learns that a page is to be asked about at once, and doesn't count as one that could be shared.
@@ -306,7 +209,7 @@ pub extern "C" fn pageshare_window_ask_at_once(page: &mut WindowPage, counts: &m
 {
     let mut looks = looks_of(page);
     looks.ask_at_once();
-    put(page, counts, &looks, false);
+    write_looks(page, counts, &looks, false);
 }
 
 /// Learns that a page was to be held, and whether it was. One that wasn't is tried again later.
@@ -321,7 +224,7 @@ pub extern "C" fn pageshare_window_held(
     let mut looks = looks_of(page);
     looks.held(was_held);
     let seen = page.notes().seen;
-    put(page, counts, &looks, seen);
+    write_looks(page, counts, &looks, seen);
 }
 
 /// Returns whether others mustn't find a page by the question about it.
