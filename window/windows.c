@@ -176,38 +176,57 @@ struct window_result windows_attach(struct windows *windows, const struct window
     return result_of(WINDOW_OK, 0);
 }
 
-/* No slot of the window counts any more; what it shows is of the past. */
-static void detach_window(struct window *window) {
-    size_t *mappings = &window->windows->counts.mappings;
-    const bool is_counted = !window->ended; /* (those of a window that has ended aren't) */
-    *mappings -= is_counted ? mappings_of(window, 0, window->count) : 0;
-    pageshare_window_detach(window->pages, window->count, window->counts, parts_in(window), window->lead, 0, window->count);
-    *mappings += is_counted ? mappings_of(window, 0, window->count) : 0;
-    for (size_t i = 0; i < parts_in(window); i++) {
-        struct part *part = &window->parts[i];
-        *part = (struct part){.is.whole = part->is.whole, .is.is_huge = part->is.is_huge};
-    }
+/* No slot of a part counts any more; what its pages show is of the past. Takes the lock. */
+static void detach_part(struct window *window, size_t first) {
+    struct windows *windows = window->windows;
+    const size_t count = rest_of_part(window, first);
+    lock_for_look(windows);
+    const bool is_counted = !window->ended; /* (the mappings of a window that has ended aren't) */
+    windows->counts.mappings -= is_counted ? mappings_of(window, first, count) : 0;
+    pageshare_window_detach(window->pages, window->count, window->counts, parts_in(window), window->lead, first, count);
+    windows->counts.mappings += is_counted ? mappings_of(window, first, count) : 0;
+    struct part *part = part_of(window, first);
+    *part = (struct part){.is.whole = part->is.whole, .is.is_huge = part->is.is_huge};
+    unlock_set(windows);
+}
+
+/* (windows that are made meanwhile come before the first one, and have no slot; the thread that calls this alone frees windows) */
+static struct window *first_window(struct windows *windows) {
+    lock_for_look(windows);
+    struct window *window = windows->first;
+    unlock_set(windows);
+    return window;
 }
 
 void windows_detach(struct windows *windows) {
     if (!windows->has_lender) return;
+    for (struct window *window = first_window(windows); window != NULL; window = window->next)
+        for (size_t first = 0; first < window->count; first += rest_of_part(window, first)) detach_part(window, first);
     lock_for_look(windows);
-    for (struct window *window = windows->first; window != NULL; window = window->next) detach_window(window);
     forget_frames(windows);
     windows->counts.pause = WINDOWS_NO_LENDER;
     unlock_set(windows);
 }
 
-int windows_each_slot(struct windows *windows, int (*each)(void *opaque, uint32_t page, uint64_t slot, bool shown),
-                      void *opaque) {
+typedef int each_slot(void *opaque, uint32_t page, uint64_t slot, bool shown);
+
+/* Takes the lock. */
+static int each_slot_of_part(struct window *window, size_t first, each_slot *each, void *opaque) {
     int stopped = 0;
-    lock_for_look(windows);
-    for (struct window *window = windows->first; window != NULL && stopped == 0; window = window->next)
-        for (size_t i = 0; i < window->count && stopped == 0; i++) {
-            const page_entry *page = &window->pages[i];
-            if (has_slot(page)) stopped = each(opaque, window->base + (uint32_t)i, slot_number(page->slot), is_lent(page));
-        }
-    unlock_set(windows);
+    lock_for_look(window->windows);
+    for (size_t i = first; i < first + rest_of_part(window, first) && stopped == 0; i++) {
+        const page_entry *page = &window->pages[i];
+        if (has_slot(page)) stopped = each(opaque, window->base + (uint32_t)i, slot_number(page->slot), is_lent(page));
+    }
+    unlock_set(window->windows);
+    return stopped;
+}
+
+int windows_each_slot(struct windows *windows, each_slot *each, void *opaque) {
+    int stopped = 0;
+    for (struct window *window = first_window(windows); window != NULL && stopped == 0; window = window->next)
+        for (size_t first = 0; first < window->count && stopped == 0; first += rest_of_part(window, first))
+            stopped = each_slot_of_part(window, first, each, opaque);
     return stopped;
 }
 

@@ -1,14 +1,15 @@
 /*
  * How long a guest's write waits while another guest's pages are trimmed, pinned and discarded: at most 1 ms of what the writer waits
  * for others. On a busy machine a thread may lose its processor for longer, so that half of the writes' longest waits count, each the
- * longest of some. Prints a table, and "stalls: ok" (status 0) or what isn't so (status 1).
+ * longest of some. And calls of a monitor go on while the lender of a large guest goes. Prints a table, and "stalls: ok" (status 0) or
+ * what isn't so (status 1).
  */
 #define _GNU_SOURCE
 #include "fixture.h"
 #include <pthread.h>
 #include <time.h>
 
-enum { MANY = 131072, FEW = 4096, PARTS = 64, MOST_US = 1000 };
+enum { MANY = 131072, FEW = 4096, PARTS = 64, MOST_US = 1000, LARGE = 1 << 22, CALLS = 16 };
 
 static uint8_t *few;
 static atomic_bool stop;
@@ -70,6 +71,36 @@ static void measure(struct matter *matter, const char *name) {
     check(waits[PARTS / 2] <= MOST_US, "a write waits for at most 1 ms");
 }
 
+static atomic_uint calls;
+
+static void *call_on(void *opaque) {
+    bool is_its;
+    while (!atomic_load(&stop)) {
+        window_run(opaque, 0, 1, &is_its);
+        atomic_fetch_add(&calls, 1);
+    }
+    return NULL;
+}
+
+/* A monitor's calls don't wait until all of a large guest's pages have lost their lender. */
+static void lose_lender(void) {
+    const struct windows_config config = {.pins = WINDOWS_PINS_NEVER};
+    struct fixture fixture = fixture_make(&config, FEW);
+    struct window *window = window_over(&fixture, memory(LARGE), LARGE);
+    pthread_t caller;
+    atomic_store(&stop, false);
+    check(pthread_create(&caller, NULL, call_on, window) == 0, "a thread that calls");
+    while (atomic_load(&calls) == 0) usleep(100);
+    unsigned before = atomic_load(&calls);
+    windows_detach(fixture.windows);
+    check(atomic_load(&calls) - before >= CALLS, "calls go on while a lender goes");
+    atomic_store(&stop, true);
+    pthread_join(caller, NULL);
+    must(window_free(window, WINDOW_DROP), "window_free");
+    must(windows_attach(fixture.windows, lender_interface(fixture.lender)), "windows_attach");
+    fixture_free(&fixture);
+}
+
 int main(void) {
     const struct windows_config config = {.pins = WINDOWS_PINS_NEVER};
     struct matter matter = {.fixture = fixture_make(&config, MANY)};
@@ -97,6 +128,7 @@ int main(void) {
     must(window_free(matter.window, WINDOW_DROP), "window_free");
     must(window_free(other, WINDOW_DROP), "window_free");
     fixture_free(&matter.fixture);
+    lose_lender();
     puts(check_count() == 0 ? "stalls: ok" : "stalls: WRONG");
     return check_count() == 0 ? 0 : 1;
 }
