@@ -211,16 +211,35 @@ static int read_entries(int fd, const void *at, size_t pages, uint64_t *entries)
     return (size_t)got == wanted ? 0 : EIO;
 }
 
+enum { GAP = 8 /* a call takes as long as so many pages more */ };
+
+/* The end of those pages that are looked at by one call, from one on of which this is so: the next such page isn't far. */
+static size_t end_of_call(const bool *is_so, size_t first, size_t pages) {
+    size_t end = first + 1;
+    for (size_t i = end; i < pages && i < end + GAP; i++)
+        if (is_so[i]) end = i + 1;
+    return end;
+}
+
+/* Whether these pages are so many, or so far apart, that all pages' records are looked at in less time than theirs alone. */
+static bool are_many(const bool *over, size_t pages) {
+    size_t cost = 0;
+    for (size_t first = 0, end = 0; first < pages; first = end) {
+        end = over[first] ? end_of_call(over, first, pages) : first + 1;
+        if (over[first]) cost += end - first + GAP;
+    }
+    return cost >= pages;
+}
+
 /* Finds again those pages that lie over a file's and are there: the file's own don't count. */
 static int leave_out_files(int fd, const uint8_t *at, size_t pages, const bool *over, uint8_t *found) {
-    enum { GAP = 8 }; /* a call takes as long as so many pages more */
+    bool again[PAGEMAP_MOST];
     int cause = 0;
+    for (size_t i = 0; i < pages; i++) again[i] = over[i] && found[i] != PAGE_NONE;
     for (size_t first = 0, end = 0; first < pages && cause == 0; first = end) {
         bool is_huge = false;
-        end = first + 1;
-        if (!over[first] || found[first] == PAGE_NONE) continue;
-        for (size_t i = end; i < pages && i < end + GAP; i++)
-            if (over[i] && found[i] != PAGE_NONE) end = i + 1;
+        end = again[first] ? end_of_call(again, first, pages) : first + 1;
+        if (!again[first]) continue;
         memset(found + first, PAGE_NONE, end - first);
         cause = find_by_scan(fd, at + bytes_of(first), end - first, true, found + first, &is_huge);
     }
@@ -232,8 +251,9 @@ int pagemap_find(const struct pagemap *pagemap, const void *at, size_t pages, co
     memset(found, PAGE_NONE, pages);
     *is_huge = true;
     if (pagemap->scans) {
-        int failed = find_by_scan(pagemap->fd, at, pages, over == NULL, found, is_huge);
-        return failed != 0 || over == NULL ? failed : leave_out_files(pagemap->fd, at, pages, over, found);
+        bool is_once = over == NULL || are_many(over, pages);
+        int failed = find_by_scan(pagemap->fd, at, pages, is_once, found, is_huge);
+        return failed != 0 || is_once ? failed : leave_out_files(pagemap->fd, at, pages, over, found);
     }
     int cause = read_entries(pagemap->fd, at, pages, entries);
     for (size_t i = 0; i < pages && cause == 0; i++) found[i] = kind_of(entries[i]);
