@@ -74,6 +74,7 @@ LEAVES = "(struct pageshare_window_facts){.leaves = true}"
 WITHDRAWN = "if (order != PAGESHARE_WINDOW_RELEASE) pageshare_window_withdraw(&window->pages[number]);"
 WATCHED = "is_begun ? PAGESHARE_WINDOW_TAKEN_WATCHED : PAGESHARE_WINDOW_NOT_TAKEN"
 PUT = "\n        if (cause == 0 && remapped)"
+ALONE = "return !joins_before && (behind == window->count"
 COMPARED = "is_equal = is_frame ? are_equal(page, windows->frames_at + bytes_of(frame)) : is_zero(page);"
 REFUSED_DISCARD = "        return result_of(WINDOW_NO_MAPPING, errno);\n    if (is_over_frame"
 # In place of a call's name: its arguments are looked at, and the call is left out.
@@ -122,6 +123,7 @@ BODIES = {
     "counts what can't be mapped as mapped": Body("lend.c", "note_step(hold, place, cause == 0);", "note_step(hold, place, true);", ["guards"]),
     "keeps memory of what stays": Body("home.c", "if (cause != 0 || home->stays[i]) munmap(", "if (home->stays[i]) munmap(", ["refusals"]),
     "takes a refused discard for done": Body("home.c", REFUSED_DISCARD, REFUSED_DISCARD.replace("NO_MAPPING", "OK"), ["refusals"]),
+    "joins zeros that lie apart": Body("pages.c", ALONE, ALONE.replace("!joins_before", "is_over(&window->pages[first]) && !joins_before"), ["pages"]),
     "joins mappings that lie apart": Body("pages.c", "frame, is_alone);", "frame, false);", ["pages"]),
     "forgets what is stuck": Body("lend.c", "        add_stuck(windows, hold->window,", "        if (false) add_stuck(windows, hold->window,", ["guards"]),
     "keeps the order of what is stuck": Body("lend.c", "pageshare_window_withdraw(page_of(hold, i));", ";", ["guards"]),

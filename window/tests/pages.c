@@ -386,6 +386,28 @@ static void mappings_one_by_one(void) {
     fixture_free(&fixture);
 }
 
+/* Nor where zeros between others that are lent are given back, and written then. */
+static void mappings_of_zeros(void) {
+    enum { MANY = 256 };
+    const struct windows_config config = {.pins = WINDOWS_PINS_NEVER, .never_move = true};
+    struct fixture fixture = fixture_make(&config, MANY);
+    uint8_t *at = memory(MANY);
+    struct window *window = window_over(&fixture, at, MANY);
+    for (size_t page = 0; page < MANY; page++) memset(at + page * PAGE, page % 2 == 0 ? 1 : (int)(page / 2), PAGE);
+    check(look_until(&fixture, MANY / 2) == MANY / 2, "every other page is lent");
+    for (size_t page = 1; page < MANY; page += 2) memset(at + page * PAGE, 0, PAGE);
+    for (int i = 0; i < 40 && counts_of(&fixture).zeros_now < MANY / 2; i++) look(fixture.windows);
+    check(counts_of(&fixture).zeros_now == MANY / 2, "the others are given back");
+    for (size_t page = 1; page < MANY; page += 2) at[page * PAGE] = 1;
+    for (size_t page = 0; page < MANY; page += 2) {
+        must(window_discard(window, page, 1), "window_discard");
+        at[page * PAGE] = 1;
+    }
+    check(counts_of(&fixture).mappings >= mappings_in(at, MANY), "as many are counted as the system has, or more, of zeros");
+    must(window_free(window, WINDOW_DROP), "window_free");
+    fixture_free(&fixture);
+}
+
 /* Another userfaultfd has a part of the window: its pages aren't held, the others are. */
 static void second_userfaultfd(void) {
     struct fixture fixture = fixture_make(&never_pinned, PAGES);
@@ -765,6 +787,7 @@ int main(void) {
     ends();
     mappings();
     mappings_one_by_one();
+    mappings_of_zeros();
     beliefs();
     places();
     clues();
