@@ -124,6 +124,7 @@ BODIES = {
     "keeps memory of what stays": Body("home.c", "if (cause != 0 || home->stays[i]) munmap(", "if (home->stays[i]) munmap(", ["refusals"]),
     "takes a refused discard for done": Body("home.c", REFUSED_DISCARD, REFUSED_DISCARD.replace("NO_MAPPING", "OK"), ["refusals"]),
     "joins zeros that lie apart": Body("pages.c", ALONE, ALONE.replace("!joins_before", "is_over(&window->pages[first]) && !joins_before"), ["pages"]),
+    "joins zeros that were written": Body("pages.c", "|| memchr(written, true, count) == NULL", "|| count > 0", ["guards"]),
     "joins mappings that lie apart": Body("pages.c", "frame, is_alone);", "frame, false);", ["pages"]),
     "forgets what is stuck": Body("lend.c", "        add_stuck(windows, hold->window,", "        if (false) add_stuck(windows, hold->window,", ["guards"]),
     "keeps the order of what is stuck": Body("lend.c", "pageshare_window_withdraw(page_of(hold, i));", ";", ["guards"]),

@@ -41,6 +41,7 @@ static struct window_result give_up(struct window *window, size_t first, size_t 
         clear(window, first, count);
         is_cleared = true;
     }
+    if (is_over_frame && !is_cleared) note_apart(window, first, count);
     note_given_up(window, first, count, is_cleared);
     return result_of(WINDOW_OK, 0);
 }

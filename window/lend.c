@@ -20,6 +20,7 @@ struct hold {
     size_t scratch;    /* where they are then, in the scratch area */
     bool any_file;     /* a frame was mapped */
     bool held[HOLD_MOST];
+    bool zeros[HOLD_MOST];     /* zeros were mapped */
     uint8_t places[HOLD_MOST]; /* where the memory of each is: the library writes it */
 };
 
@@ -167,6 +168,7 @@ static void map_run(struct hold *hold, size_t i, size_t count, bool is_frame) {
     }
     if (cause != 0) return;
     hold->any_file = hold->any_file || is_frame;
+    memset(hold->zeros + i, !is_frame, count);
     windows->counts.lends += is_frame ? count : 0;
     /* (if nobody is woken here the end of the watch does it; a page that was taken out is given back only then) */
     if (faults_wake(&windows->faults, address_of(hold->window, hold->first + i), count) == 0) note_held(hold, count);
@@ -250,6 +252,14 @@ static void keep_from_children(const struct hold *hold) {
     if (result.status != WINDOW_OK) note_failure(windows, result.status, result.cause);
 }
 
+/* Zeros that were mapped may count as a mapping by themselves. */
+static void note_zeros(const struct hold *hold) {
+    for (size_t i = 0, count = 1; i < hold->count; i += count, count = 1) {
+        while (i + count < hold->count && hold->zeros[i + count] == hold->zeros[i]) count++;
+        if (hold->zeros[i]) note_apart(hold->window, hold->first + i, count);
+    }
+}
+
 /* Shows frames, or zeros, in place of pages in a row, where a page is equal to what is to be shown. With the lock. */
 static void settle(struct hold *hold) {
     struct windows *windows = hold->window->windows;
@@ -259,6 +269,7 @@ static void settle(struct hold *hold) {
     trace_dawdle();
     map(hold);
     let_go(hold);
+    note_zeros(hold);
     note_held(hold, hold->left);
     for (size_t i = 0; i < hold->count; i++) pageshare_window_held(page_of(hold, i), counts_of(hold, i), hold->held[i]);
     if (hold->any_file) say_again(hold->window, hold->first, hold->count, true);

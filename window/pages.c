@@ -2,6 +2,7 @@
 #define _GNU_SOURCE
 #include "set.h"
 #include <errno.h>
+#include <string.h>
 #include <sys/mman.h>
 #include <time.h>
 
@@ -186,6 +187,17 @@ static bool are_alone(const struct window *window, size_t first, size_t behind) 
     const bool is_whole = part_of(window, first)->is.whole;
     bool joins_before = first > 0 && may_join(window, first - 1, is_whole);
     return !joins_before && (behind == window->count || !may_join(window, behind, is_whole));
+}
+
+void note_apart(struct window *window, size_t first, size_t count) {
+    bool written[PART], are_zeros[PART];
+    int cause = pagemap_find_copies(&window->windows->pagemap, address_of(window, first), count, written);
+    if (cause != 0) memset(written, true, sizeof written); /* (too many mappings may be counted, but not too few) */
+    if (is_moved(&window->pages[first]) || memchr(written, true, count) == NULL) return;
+    for (size_t i = 0; i < count; i++) are_zeros[i] = is_given_back(&window->pages[first + i]) && !written[i];
+    note_moved(window, first, count);
+    for (size_t i = 0; i < count; i++)
+        if (are_zeros[i]) note_zero(window, first + i, true);
 }
 
 int map_pages(struct window *window, size_t first, size_t count, uint32_t frame, int protection) {

@@ -40,6 +40,7 @@ static inline bool is_past(const page_entry *page) { return (page->belief & PAGE
 static inline bool is_out(const page_entry *page) { return (page->belief & PAGESHARE_WINDOW_OUT) != 0; }
 static inline bool is_ordered(const page_entry *page) { return (page->looks & PAGESHARE_WINDOW_ORDERED) != 0; }
 static inline bool is_same(const page_entry *page) { return (page->looks & PAGESHARE_WINDOW_SAME) != 0; }
+static inline bool is_moved(const page_entry *page) { return (page->looks & PAGESHARE_WINDOW_MOVED) != 0; }
 static inline bool is_seen(const page_entry *page) { return (page->clue & PAGESHARE_WINDOW_SEEN) != 0; }
 static inline unsigned clue_in(const page_entry *page) { return page->clue & PAGESHARE_WINDOW_CLUE; }
 
@@ -265,6 +266,12 @@ int clear_scratch(struct windows *windows);
 
 /* Notes that pages in a row have memory of their own at their place, which was moved there. */
 void note_moved(struct window *window, size_t first, size_t count);
+
+/*
+ * Zeros were mapped in the place of these pages, all has been said of them, and nobody waits for them. If one of them was written before, the
+ * system may not have joined them with what is beside them: then they count as a mapping by themselves. With the lock.
+ */
+void note_apart(struct window *window, size_t first, size_t count);
 
 /* Maps frames in a row in place of pages, or zeros, with this protection. Returns 0 or an errno, and then nothing has changed. */
 int map_pages(struct window *window, size_t first, size_t count, uint32_t frame, int protection);

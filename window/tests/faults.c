@@ -87,7 +87,9 @@ void *__wrap_mremap(void *at, size_t old_bytes, size_t bytes, int flags, ...) {
         errno = ENOMEM;
         return MAP_FAILED;
     }
-    return __real_mremap(at, old_bytes, bytes, flags, to);
+    void *mapped = __real_mremap(at, old_bytes, bytes, flags, to);
+    if (mapped != MAP_FAILED && planned.maps != NULL && is_in_window((uintptr_t)to)) planned.maps((uintptr_t)to, bytes);
+    return mapped;
 }
 
 int __wrap_fallocate(int fd, int mode, off_t from, off_t bytes) {

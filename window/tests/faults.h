@@ -18,6 +18,7 @@ struct planned {
     int punches;                                 /* fallocate fails with EINTR */
     uintptr_t window, window_end;                /* where pages can't be put */
     void (*watches)(uintptr_t at, size_t bytes); /* is called before a part of the window is watched; NULL: nothing */
+    void (*maps)(uintptr_t at, size_t bytes);    /* and after something was mapped there that lay elsewhere */
 };
 extern struct planned planned;
 

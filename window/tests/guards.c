@@ -203,6 +203,34 @@ static void punch_fails(void) {
     fixture_free(&fixture);
 }
 
+static void write_to(uintptr_t at, size_t bytes) {
+    if (bytes > 0) ((uint8_t *)at)[PAGE / 2] = 9;
+}
+
+/*
+ * Zeros are written as soon as they are mapped, before the same was said of them as of what is beside them. So the system doesn't join them with
+ * that, and no such mapping is left out of the count.
+ */
+static void write_comes_first(bool never_move, bool are_given_up) {
+    enum { FIRST = 20, COUNT = 8 };
+    const struct windows_config config = {.pins = WINDOWS_PINS_NEVER, .never_move = never_move};
+    struct fixture fixture = fixture_make(&config, PAGES);
+    uint8_t *at = memory(PAGES);
+    check(madvise(at, PAGES * PAGE, MADV_DONTDUMP) == 0, "memory that isn't dumped");
+    struct window *window = window_over(&fixture, at, PAGES);
+    fill(at, PAGES, PAGES);
+    memset(at + FIRST * PAGE, are_given_up ? 1 : 0, COUNT * PAGE);
+    if (are_given_up) check(look_until(&fixture, COUNT + 1) == COUNT + 1, "some pages are lent");
+    planned = (struct planned){.maps = write_to, .window = (uintptr_t)at, .window_end = (uintptr_t)at + PAGES * PAGE};
+    for (int i = 0; i < 20 && !are_given_up && counts_of(&fixture).zeros < COUNT; i++) look(fixture.windows);
+    if (are_given_up) must(window_discard(window, FIRST, COUNT), "window_discard");
+    planned = (struct planned){0};
+    check(at[FIRST * PAGE + PAGE / 2] == 9 && at[FIRST * PAGE] == 0, "zeros were mapped, and written");
+    check(counts_of(&fixture).mappings >= mappings_in(at, PAGES), "as many mappings are counted as the system has, or more");
+    must(window_free(window, WINDOW_DROP), "window_free");
+    fixture_free(&fixture);
+}
+
 int main(void) {
     guard_fails();
     put_fails();
@@ -214,6 +242,9 @@ int main(void) {
     release_of_zeros_fails(true);
     populate_fails();
     punch_fails();
+    write_comes_first(true, false); /* (nothing is mapped where zeros were moved away) */
+    write_comes_first(true, true);
+    write_comes_first(false, true);
     puts(check_count() == 0 ? "guards: ok" : "guards: WRONG");
     return check_count() == 0 ? 0 : 1;
 }

@@ -705,8 +705,6 @@ static void beliefs(void) {
     }
 }
 
-static bool is_moved(const page_entry *page) { return (page->looks & PAGESHARE_WINDOW_MOVED) != 0; }
-
 static bool begins_moved(const page_entry *page) { return (page->looks & PAGESHARE_WINDOW_BEGINS) != 0; }
 
 /* What C reads of a page's place is what was noted of it. */

@@ -318,8 +318,8 @@ static void check_mapping(const struct mapping *mapping, const char *flags) {
     check(!is_childs || is_own(mapping), "no child of a fork would have frames, but copies of them at most");
 }
 
-/* So many mappings may be left out of the count, and some for each refused call: memory of some ages side by side may be several. */
-enum { ASTRAY = 8, ASTRAY_EACH = 4 };
+/* So many mappings may be left out of the count, and some for each refused call: copies over frames in a row may be several. */
+enum { ASTRAY = 2, ASTRAY_EACH = 4 };
 
 /* Whether something couldn't be said of memory, or known of it. Then many pages there may be mappings by themselves, as later ones come. */
 static bool is_unlike(void) {
