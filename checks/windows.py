@@ -33,8 +33,8 @@ from harness import TOP, LeftOut, StrPath, Tally
 
 TESTS, OUT = TOP / "window/tests", BUILT / "window"
 WRAPS = {
-    "guards": ["ioctl", "madvise", "mremap", "fallocate"],
-    "parts": ["ioctl", "madvise", "mremap", "fallocate"],
+    "guards": ["ioctl", "madvise", "mremap", "fallocate", "syscall"],
+    "parts": ["ioctl", "madvise", "mremap", "fallocate", "syscall"],
     "refusals": ["fcntl", "getrlimit", "ioctl", "madvise", "mmap", "mprotect", "mremap", "munmap", "open", "pread", "syscall"],
     "full": ["memfd_create", "fcntl"],
     "tasks": ["pageshare_window_next_task"],
@@ -123,6 +123,7 @@ BODIES = {
     "counts what can't be mapped as mapped": Body("lend.c", "note_step(hold, place, cause == 0);", "note_step(hold, place, true);", ["guards"]),
     "keeps memory of what stays": Body("home.c", "if (cause != 0 || home->stays[i]) munmap(", "if (home->stays[i]) munmap(", ["refusals"]),
     "takes a refused discard for done": Body("home.c", REFUSED_DISCARD, REFUSED_DISCARD.replace("NO_MAPPING", "OK"), ["refusals"]),
+    "takes a policy that isn't known for none": Body("window.c", "if (facts->policy_cause != 0) return", "if (false) return", ["guards"]),
     "joins zeros that lie apart": Body("pages.c", ALONE, ALONE.replace("!joins_before", "is_over(&window->pages[first]) && !joins_before"), ["pages"]),
     "joins zeros that were written": Body("pages.c", "|| memchr(written, true, count) == NULL", "|| count > 0", ["guards"]),
     "joins mappings that lie apart": Body("pages.c", "frame, is_alone);", "frame, false);", ["pages"]),

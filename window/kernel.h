@@ -79,6 +79,7 @@ struct range_facts {
     bool is_uniform; /* all of it has the same advice */
     bool is_locked;  /* a part of it is */
     struct advice advice;
+    int policy_cause; /* the errno with which the system didn't tell a memory policy of it, or 0 */
 };
 int range_read(struct range_facts *facts, const void *at, size_t pages);
 

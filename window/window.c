@@ -44,7 +44,10 @@ static struct window_result read_range(void *at, size_t bytes, struct range_fact
         return result_of(WINDOW_BAD_RANGE, EINVAL);
     int cause = range_read(facts, at, pages);
     if (cause != 0) return result_of(WINDOW_NO_PAGEMAP, cause);
-    if (!facts->is_private || !facts->is_uniform) return result_of(WINDOW_BAD_MEMORY, EINVAL);
+    if (!facts->is_private) return result_of(WINDOW_BAD_MEMORY, EINVAL);
+    /* (frames, and pages that get memory of their own, would lose a policy that isn't known) */
+    if (facts->policy_cause != 0) return result_of(WINDOW_ADVICE, facts->policy_cause);
+    if (!facts->is_uniform) return result_of(WINDOW_BAD_MEMORY, EINVAL);
     return facts->is_locked ? result_of(WINDOW_LOCKED, EPERM) : result_of(WINDOW_OK, 0);
 }
 

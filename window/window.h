@@ -44,7 +44,7 @@ enum window_status {
     WINDOW_NO_MAPPING,    /* the system has no mapping, or no memory: the pages show what they showed */
     WINDOW_STUCK, /* the system refused to put pages back that were held: the next look tries again. Threads that use them wait */
     WINDOW_LENDER_FAILED, /* the lender returned `cause` */
-    WINDOW_ADVICE,        /* the system refused to set a range's advice or memory policy again */
+    WINDOW_ADVICE,        /* the system refused to tell a range's memory policy, or to set its advice or policy again */
 };
 struct window_result {
     enum window_status status;

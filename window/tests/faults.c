@@ -6,6 +6,7 @@
 #include <stddef.h>
 #include <sys/ioctl.h>
 #include <sys/mman.h>
+#include <sys/syscall.h>
 #include <sys/types.h>
 
 struct planned planned;
@@ -18,6 +19,8 @@ void *__real_mremap(void *at, size_t old_bytes, size_t bytes, int flags, ...);
 void *__wrap_mremap(void *at, size_t old_bytes, size_t bytes, int flags, ...);
 int __real_fallocate(int fd, int mode, off_t from, off_t bytes);
 int __wrap_fallocate(int fd, int mode, off_t from, off_t bytes);
+long __real_syscall(long number, ...);
+long __wrap_syscall(long number, ...);
 
 /* As the kernel's: to, from, bytes, mode, moved. */
 struct move {
@@ -95,4 +98,14 @@ void *__wrap_mremap(void *at, size_t old_bytes, size_t bytes, int flags, ...) {
 int __wrap_fallocate(int fd, int mode, off_t from, off_t bytes) {
     if (fails(&planned.punches)) return refuse(EINTR);
     return __real_fallocate(fd, mode, from, bytes);
+}
+
+long __wrap_syscall(long number, ...) {
+    long words[6];
+    va_list rest;
+    va_start(rest, number);
+    for (int i = 0; i < 6; i++) words[i] = va_arg(rest, long);
+    va_end(rest);
+    if (number == SYS_get_mempolicy && fails(&planned.policies)) return refuse(planned.policies_cause);
+    return __real_syscall(number, words[0], words[1], words[2], words[3], words[4], words[5]);
 }

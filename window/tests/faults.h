@@ -1,4 +1,4 @@
-/* System calls that fail when a test wants it. Linked with -Wl,--wrap for ioctl, madvise, mremap, fallocate. */
+/* System calls that fail when a test wants it. Linked with -Wl,--wrap for ioctl, madvise, mremap, fallocate, syscall. */
 #ifndef PAGESHARE_WINDOW_FAULTS_H
 #define PAGESHARE_WINDOW_FAULTS_H
 
@@ -16,6 +16,7 @@ struct planned {
     int reads, huge;                             /* MADV_POPULATE_READ, MADV_HUGEPAGE fails with ENOMEM */
     int small;                                   /* MADV_NOHUGEPAGE of a part of the window fails with ENOMEM */
     int punches;                                 /* fallocate fails with EINTR */
+    int policies, policies_cause;                /* a memory policy can't be read, with this errno */
     uintptr_t window, window_end;                /* where pages can't be put */
     void (*watches)(uintptr_t at, size_t bytes); /* is called before a part of the window is watched; NULL: nothing */
     void (*maps)(uintptr_t at, size_t bytes);    /* and after something was mapped there that lay elsewhere */

@@ -231,6 +231,24 @@ static void write_comes_first(bool never_move, bool are_given_up) {
     fixture_free(&fixture);
 }
 
+/* The memory policy of a range can't be read: it is no window, unless there is no such call for this process, and so no policy. */
+static void policy_is_unknown(int cause) {
+    const struct windows_config config = {.pins = WINDOWS_PINS_NEVER};
+    struct fixture fixture = fixture_make(&config, PAGES);
+    uint8_t *at = memory(PAGES);
+    struct window *window;
+    bool is_none = cause == ENOSYS || cause == EPERM;
+    planned = (struct planned){.policies = 1, .policies_cause = cause};
+    struct window_result result = window_make(&window, fixture.windows, at, PAGES * PAGE, WINDOW_NO_CHILD);
+    check(planned.policies == 0, "a window's memory policy is read");
+    if (!is_none)
+        check(result.status == WINDOW_ADVICE && result.cause == cause && window == NULL, "an unknown policy is refused");
+    if (is_none) must(result, "window_make");
+    if (window == NULL) window = window_over(&fixture, at, PAGES);
+    must(window_free(window, WINDOW_DROP), "window_free");
+    fixture_free(&fixture);
+}
+
 int main(void) {
     guard_fails();
     put_fails();
@@ -242,6 +260,9 @@ int main(void) {
     release_of_zeros_fails(true);
     populate_fails();
     punch_fails();
+    policy_is_unknown(EFAULT);
+    policy_is_unknown(ENOSYS);
+    policy_is_unknown(EPERM);
     write_comes_first(true, false); /* (nothing is mapped where zeros were moved away) */
     write_comes_first(true, true);
     write_comes_first(false, true);

@@ -321,10 +321,10 @@ static void check_mapping(const struct mapping *mapping, const char *flags) {
 /* So many mappings may be left out of the count, and some for each refused call: copies over frames in a row may be several. */
 enum { ASTRAY = 2, ASTRAY_EACH = 4 };
 
-/* Whether something couldn't be said of memory, or known of it. Then many pages there may be mappings by themselves, as later ones come. */
+/* Whether something couldn't be said of memory. Then many pages there may be mappings by themselves, as later ones come. */
 static bool is_unlike(void) {
     unsigned unsaid = 0;
-    for (enum call call = CALL_DONTFORK; call <= CALL_READ_POLICY; call++) unsaid += calls_refused_of(call);
+    for (enum call call = CALL_DONTFORK; call <= CALL_SET_POLICY; call++) unsaid += calls_refused_of(call);
     return unsaid > 0;
 }
 
