@@ -145,7 +145,7 @@ static int begin_home(struct home *home) {
         cause = faults_watch(&window->windows->faults, address_of(window, home->first), home->count, FAULTS_OF_WRITES);
         if (cause != 0) let_waiters_go(window, home->first, home->count); /* (of some pages the watch may have begun) */
     }
-    if (cause != 0) munmap(home->at, bytes_of(home->count));
+    if (cause != 0) unmap_apart(home->at, bytes_of(home->count));
     return cause;
 }
 
@@ -190,7 +190,7 @@ static int bring_guarded(struct home *home) {
         for (end = i + 1; end < home->count && home->stays[end] == home->stays[i]; end++) {
         }
         if (cause == 0 && !home->stays[i]) cause = bring(home, i, end - i);
-        if (cause != 0 || home->stays[i]) munmap(home->at + bytes_of(i), bytes_of(end - i));
+        if (cause != 0 || home->stays[i]) unmap_apart(home->at + bytes_of(i), bytes_of(end - i));
     }
     int kept = let_waiters_go(window, home->first, home->count);
     return kept != 0 ? kept : cause;

@@ -4,6 +4,7 @@
 #include <errno.h>
 #include <fcntl.h>
 #include <linux/userfaultfd.h>
+#include <pthread.h>
 #include <sched.h>
 #include <stdatomic.h>
 #include <stdio.h>
@@ -288,6 +289,50 @@ bool pagemap_is_own(const struct pagemap *pagemap, const void *at) {
     return read_entries(pagemap->fd, at, 1, &entry) == 0 && kind_of(entry) != PAGE_NONE;
 }
 
+/* Memory of the library itself that the system refused to unmap. */
+struct left {
+    void *at;
+    size_t bytes;
+};
+enum { LEFT_MOST = 64 /* that are kept; what else is left has no memory, and stays mapped */ };
+static pthread_mutex_t left_lock = PTHREAD_MUTEX_INITIALIZER; /* round the list; never held in a call of the system */
+static struct left left[LEFT_MOST];
+static size_t left_count;
+static atomic_size_t left_all; /* with those that aren't kept */
+
+static void keep_left(void *at, size_t bytes) {
+    pthread_mutex_lock(&left_lock);
+    if (left_count < LEFT_MOST) left[left_count++] = (struct left){.at = at, .bytes = bytes};
+    pthread_mutex_unlock(&left_lock);
+    atomic_fetch_add(&left_all, 1);
+}
+
+/* Takes the first one off the list, if there is one. */
+static bool take_left(struct left *one) {
+    pthread_mutex_lock(&left_lock);
+    bool is_any = left_count > 0;
+    if (is_any) {
+        *one = left[0];
+        memmove(left, left + 1, --left_count * sizeof left[0]);
+        atomic_fetch_sub(&left_all, 1);
+    }
+    pthread_mutex_unlock(&left_lock);
+    return is_any;
+}
+
+void unmap_apart(void *at, size_t bytes) {
+    if (bytes == 0 || munmap(at, bytes) == 0) return;
+    madvise(at, bytes, MADV_DONTNEED); /* (refused only where it is locked: then it keeps its memory for as long) */
+    keep_left(at, bytes);
+}
+
+void unmap_again(void) {
+    struct left one;
+    for (size_t tries = left_mapped(); tries > 0 && take_left(&one); tries--) unmap_apart(one.at, one.bytes);
+}
+
+size_t left_mapped(void) { return atomic_load(&left_all); }
+
 /* Maps memory of the library itself in its own range of addresses, from a place in the file on. */
 static void *map_apart_from(size_t bytes, int protection, int flags, int file, off_t from) {
     enum { PLACES = 48, LEAP = 20, LEAP_MOST = 40 };
@@ -304,7 +349,7 @@ static void *map_apart_from(size_t bytes, int protection, int flags, int file, o
         void *found = mmap((void *)at, bytes, protection, flags, file, from);
         if (found == MAP_FAILED || found == (void *)at || !atomic_load(&is_used)) return found;
         /* (that place is taken, so the system chose another) */
-        munmap(found, bytes);
+        unmap_apart(found, bytes);
         atomic_fetch_add(&next, (uintptr_t)1 << leap);
         leap += leap < LEAP_MOST ? 1 : 0;
     }
@@ -320,7 +365,7 @@ void *table_make(size_t count, size_t bytes_each) {
 }
 
 void table_free(void *table, size_t count, size_t bytes_each) {
-    if (table != NULL) munmap(table, count * bytes_each);
+    if (table != NULL) unmap_apart(table, count * bytes_each);
 }
 
 /* The number that a file begins with, or `otherwise`. */
@@ -365,7 +410,7 @@ static int copy_and_move(void *at, void *from, size_t bytes) {
     bool is_copied = mremap(from, bytes, bytes, how | MREMAP_DONTUNMAP, aside) != MAP_FAILED;
     if (is_copied && mremap(aside, bytes, bytes, how, at) != MAP_FAILED) return 0;
     int cause = errno;
-    munmap(aside, bytes);
+    unmap_apart(aside, bytes);
     return cause;
 }
 
@@ -387,7 +432,7 @@ int mapping_put(void *at, size_t pages, int protection, int file, size_t file_pa
     bool is_kept = !is_file || madvise(aside, bytes, MADV_DONTFORK) == 0;
     if (is_kept && mremap(aside, bytes, bytes, MREMAP_MAYMOVE | MREMAP_FIXED, at) != MAP_FAILED) return 0;
     int cause = errno;
-    munmap(aside, bytes);
+    unmap_apart(aside, bytes);
     return cause;
 }
 

@@ -129,6 +129,15 @@ int mapping_put(void *at, size_t pages, int protection, int file, size_t file_pa
  */
 void *map_apart(size_t bytes, int protection, int flags, int file);
 /*
+ * Unmaps memory of the library itself. The system may refuse that where the process has as many mappings as it may have: then the memory is
+ * given back, and unmap_again unmaps the rest later.
+ */
+void unmap_apart(void *at, size_t bytes);
+/* Tries again to unmap what the system refused to unmap. Not with a lock. */
+void unmap_again(void);
+/* How many times the system refused that, of what is still mapped. */
+size_t left_mapped(void);
+/*
  * Memory of zeros for a table, in a mapping of its own: the process's malloc may be busy, or another's. NULL if there is none. Its pages take
  * memory as they are written.
  */

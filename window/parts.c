@@ -113,13 +113,13 @@ static uint8_t *make_room(const struct window *window) {
     if (all == MAP_FAILED) return NULL;
     size_t before = (bytes - (uintptr_t)all % bytes) % bytes;
     uint8_t *room = all + before;
-    if (before > 0) munmap(all, before);
-    munmap(room + bytes, bytes - before);
+    if (before > 0) unmap_apart(all, before);
+    unmap_apart(room + bytes, bytes - before);
     if (advice_set(&window->advice, room, PART, MEMORY_HUGE) == 0) {
         *(volatile uint8_t *)room = 0;
         if (pagemap_is_huge(&window->windows->pagemap, room)) return room;
     }
-    munmap(room, bytes);
+    unmap_apart(room, bytes);
     return NULL;
 }
 
@@ -179,7 +179,7 @@ static void make_whole(struct window *window, size_t first) {
     bool is_whole = room != NULL && exchange(window, first, room);
     if (is_whole) set_whole(window, first, true);
     else window->windows->counts.not_made_whole++;
-    if (!is_whole && room != NULL) munmap(room, bytes_of(PART));
+    if (!is_whole && room != NULL) unmap_apart(room, bytes_of(PART));
 }
 
 /* ---- which of that is done ---- */

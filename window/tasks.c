@@ -142,6 +142,7 @@ static bool begin(struct look *look) {
     windows->fingerprint_of_zeros = fingerprint_of(windows->lender.salt, zeros);
     look->unready = merged_kib() > 0 ? READY_PARTS : SIZE_MAX;
     look->has_begun = true;
+    unmap_again();
     lock_for_look(windows);
     look->next = windows->first;
     int cause = free_stuck(windows);

@@ -252,7 +252,7 @@ enum windows_pause {
 
 enum { WINDOWS_TIMES = 24 };
 
-/* Counts of a set, since it was made, but for the first eight. */
+/* Counts of a set, since it was made, but for the first nine. */
 struct windows_counts {
     enum windows_pause pause;
     size_t windows, pages;
@@ -261,6 +261,7 @@ struct windows_counts {
     size_t mappings;  /* of the system, that windows take */
     size_t mappings_most;
     size_t table_bytes; /* of tables */
+    size_t left_mapped; /* memory of the library itself, without content, that the system refused to unmap: looks try again */
     uint64_t looks, lends, copied, zeros, discarded, taken_home;
     uint64_t asked, seen;          /* questions, and those of pages that were seen elsewhere */
     uint64_t changed;              /* pages written between their lend and the comparison, which stay private */

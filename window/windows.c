@@ -41,7 +41,7 @@ static void make_zeros(struct windows *windows) {
     if (at == MAP_FAILED) return;
     uint8_t *zeros = at + bytes_of(1);
     if (is_kept_back(at, PART + 2) && mprotect(zeros, bytes_of(PART), PROT_READ | PROT_WRITE) == 0) windows->zeros = zeros;
-    else munmap(at, bytes_of(PART + 2));
+    else unmap_apart(at, bytes_of(PART + 2));
 }
 
 /* Maps the frames' file; for reading alone if the system, which may count each byte that could be written, refuses it otherwise. */
@@ -49,7 +49,7 @@ static uint8_t *map_frames(size_t frames, int fd, bool *are_given) {
     void *at = map_apart(bytes_of(frames), PROT_READ | PROT_WRITE, MAP_PRIVATE | MAP_NORESERVE, fd);
     *are_given = at != MAP_FAILED && is_kept_back(at, frames) && madvise(at, bytes_of(frames), MADV_DONTDUMP) == 0;
     if (*are_given) return at;
-    if (at != MAP_FAILED) munmap(at, bytes_of(frames));
+    if (at != MAP_FAILED) unmap_apart(at, bytes_of(frames));
     at = map_apart(bytes_of(frames), PROT_READ, MAP_SHARED | MAP_NORESERVE, fd);
     return at == MAP_FAILED ? NULL : at;
 }
@@ -113,7 +113,7 @@ static void close_file(int fd) {
 }
 
 static void forget_frames(struct windows *windows) {
-    if (windows->frames_at != NULL) munmap(windows->frames_at, bytes_of(windows->lender.frame_count));
+    if (windows->frames_at != NULL) unmap_apart(windows->frames_at, bytes_of(windows->lender.frame_count));
     close_file(windows->frames_fd);
     windows->frames_at = NULL;
     windows->frames_fd = NO_FILE;
@@ -130,8 +130,8 @@ void windows_free(struct windows *windows) {
     forget_frames(windows);
     close_file(windows->faults.fd);
     close_file(windows->pagemap.fd);
-    if (windows->scratch != NULL) munmap(windows->scratch, bytes_of(SCRATCH));
-    if (windows->zeros != NULL) munmap(windows->zeros - bytes_of(1), bytes_of(PART + 2));
+    if (windows->scratch != NULL) unmap_apart(windows->scratch, bytes_of(SCRATCH));
+    if (windows->zeros != NULL) unmap_apart(windows->zeros - bytes_of(1), bytes_of(PART + 2));
 #ifdef WINDOW_TRACE
     if (windows->trace != NULL) trace_close(windows->trace);
 #endif
@@ -278,6 +278,7 @@ void windows_count(struct windows *windows, struct windows_counts *counts) {
     lock_set(windows);
     *counts = windows->counts;
     counts->table_bytes = sizeof *windows;
+    counts->left_mapped = left_mapped();
     for (const struct window *window = windows->first; window != NULL; window = window->next) {
         size_t parts = parts_in(window);
         for (size_t i = 0; i < parts && !window->ended; i++) {

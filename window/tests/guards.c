@@ -3,6 +3,7 @@
  * that fail. Nobody waits for ever, no byte is lost, and what failed is done later. Prints "guards: ok" (status 0) or what isn't so.
  */
 #define _GNU_SOURCE
+#include "../kernel.h"
 #include "faults.h"
 #include "fixture.h"
 #include <errno.h>
@@ -249,6 +250,40 @@ static void policy_is_unknown(int cause) {
     fixture_free(&fixture);
 }
 
+/* Takes mappings until the process has as many as it may have. `at`: room for them. */
+static void take_mappings(uint8_t *at, size_t pages) {
+    for (size_t page = 1; page + 1 < pages && mprotect(at + page * PAGE, PAGE, PROT_READ) == 0; page += 2) {
+    }
+    while (mmap(NULL, PAGE, PROT_NONE, MAP_SHARED | MAP_ANONYMOUS, NO_FILE, 0) != MAP_FAILED) {
+    }
+}
+
+/* A part of the library's own memory can't be unmapped where the process has as many mappings as it may have: a look unmaps it later. */
+static void unmap_fails(void) {
+    enum { MOST = 1 << 18 };
+    const int kind = MAP_PRIVATE | MAP_ANONYMOUS | MAP_NORESERVE;
+    const struct windows_config config = {.pins = WINDOWS_PINS_NEVER};
+    struct fixture fixture = fixture_make(&config, PAGES);
+    uint8_t *own = map_apart(3 * PAGE, PROT_READ | PROT_WRITE, kind, NO_FILE), *middle = own + PAGE;
+    uint8_t *many = mmap(NULL, MOST * PAGE, PROT_NONE, kind, NO_FILE, 0);
+    unsigned char resident[3];
+    check(own != MAP_FAILED && many != MAP_FAILED, "memory");
+    memset(own, 1, 3 * PAGE);
+    if (mappings_limit() >= MOST) {
+        puts("left out: memory that can't be unmapped, since this system has so many mappings");
+    } else {
+        take_mappings(many, MOST);
+        unmap_apart(middle, PAGE);
+        check(counts_of(&fixture).left_mapped == 1, "what can't be unmapped is counted");
+        check(mincore(own, 3 * PAGE, resident) == 0 && (resident[1] & 1) == 0, "and has no memory");
+        munmap(many, MOST * PAGE);
+        look_often(&fixture, 1);
+        check(counts_of(&fixture).left_mapped == 0 && mincore(middle, PAGE, resident) != 0, "a look unmaps it");
+    }
+    unmap_apart(own, 3 * PAGE);
+    fixture_free(&fixture);
+}
+
 int main(void) {
     guard_fails();
     put_fails();
@@ -260,6 +295,7 @@ int main(void) {
     release_of_zeros_fails(true);
     populate_fails();
     punch_fails();
+    unmap_fails();
     policy_is_unknown(EFAULT);
     policy_is_unknown(ENOSYS);
     policy_is_unknown(EPERM);

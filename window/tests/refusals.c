@@ -570,6 +570,7 @@ static void finish(void) {
     for (struct range *range = ranges; range < ranges + RANGES; range++) end_window(range, WINDOW_TAKE_HOME);
     look_times(2);
     check(!is_troubled(), "looks come out well at the end");
+    check(left_mapped() == 0, "what the system refused to unmap is unmapped");
     check(!run.has_lender || run.lender.slots_left == 0, "no slot is left");
 }
 
@@ -675,6 +676,7 @@ static void do_run(int way, unsigned mode, const struct refusal *refusal) {
     memset(run.made, 0, sizeof run.made);
     for (const struct step *step = steps; step < steps + STEPS; step++) do_step(step);
     guest_rest();
+    if (run.windows == NULL) unmap_again(); /* (there were no looks that do it) */
     windows_free(run.windows);
     run.windows = NULL;
     if (run.has_lender) free_lender();
@@ -683,7 +685,7 @@ static void do_run(int way, unsigned mode, const struct refusal *refusal) {
     run.step = "after the end";
     unsigned before = check_count();
     size_t left = lines_in("/proc/self/maps") - mappings;
-    check(left <= 3 * calls_refused_of(CALL_UNMAP), "there are as many mappings as before, and what the system refused to unmap");
+    check(left == 0, "there are as many mappings as before");
     check(open_files() == files, "and as many open files");
     if (check_count() != before) say_run(stderr);
     runs++;
