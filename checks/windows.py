@@ -125,6 +125,8 @@ BODIES = {
     "forgets what can't be unmapped": Body("tasks.c", "    unmap_again();\n", "", ["guards"]),
     "keeps the memory of what can't be unmapped": Body("kernel.c", "madvise(at, bytes, MADV_DONTNEED); /*", "/*", ["guards"]),
     "takes a refused discard for done": Body("home.c", REFUSED_DISCARD, REFUSED_DISCARD.replace("NO_MAPPING", "OK"), ["refusals"]),
+    "leaves what was said of no window": Body("window.c", "if (result.status != WINDOW_OK && !meets) unprepare(window);", "", ["guards"]),
+    "speaks of another window's pages": Body("window.c", "    if (meets) return result_of(WINDOW_BAD_RANGE, EINVAL);\n", "", ["guards"]),
     "takes a policy that isn't known for none": Body("window.c", "if (facts->policy_cause != 0) return", "if (false) return", ["guards"]),
     "joins zeros that lie apart": Body("pages.c", ALONE, ALONE.replace("!joins_before", "is_over(&window->pages[first]) && !joins_before"), ["pages"]),
     "joins zeros that were written": Body("pages.c", "|| memchr(written, true, count) == NULL", "|| count > 0", ["guards"]),

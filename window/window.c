@@ -63,19 +63,62 @@ static struct window *make_tables(struct windows *windows, void *at, size_t page
     return NULL;
 }
 
-/* Says for a new window what its range needs. */
+/* Says for a new window what its range needs; what can't be put back comes last. */
 static struct window_result prepare(struct window *window, const struct range_facts *facts, unsigned flags) {
+    int cause = 0;
     window->found = window->advice = facts->advice;
-    int cause = begin_parts(window);
+    if ((flags & WINDOW_NO_CHILD) != 0) {
+        window->advice.dont_fork = true;
+        if (madvise(window->at, bytes_of(window->count), MADV_DONTFORK) < 0) cause = errno;
+    }
     if (cause == 0 && merged_kib() == 0) {
         cause = advice_say(window->at, window->count, MADV_UNMERGEABLE);
         window->ready = window->count;
     }
-    if (cause == 0 && (flags & WINDOW_NO_CHILD) != 0) {
-        window->advice.dont_fork = true;
-        if (madvise(window->at, bytes_of(window->count), MADV_DONTFORK) < 0) cause = errno;
-    }
+    if (cause == 0) cause = begin_parts(window);
     return cause == 0 ? result_of(WINDOW_OK, 0) : result_of(WINDOW_ADVICE, cause);
+}
+
+/* Puts back what was said of a range that becomes no window. What the system refuses the next look reports. */
+static void unprepare(struct window *window) {
+    int cause = advice_end(&window->found, window->at, window->count), refused = 0;
+    if (window->advice.dont_fork && !window->found.dont_fork) refused = advice_say(window->at, window->count, MADV_DOFORK);
+    if (cause == 0) cause = refused;
+    if (cause == 0) return;
+    lock_set(window->windows);
+    window->windows->advice_cause = cause;
+    unlock_set(window->windows);
+}
+
+/* Takes a new window into its set. With the lock. */
+static struct window_result enter(struct window *window) {
+    struct windows *windows = window->windows;
+    struct window_result result = find_numbers(windows, window);
+    if (result.status != WINDOW_OK) return result;
+    window->next = windows->first;
+    windows->first = window;
+    windows->counts.windows++;
+    windows->counts.pages += window->count;
+    windows->counts.mappings += pageshare_window_mappings_new(&window->parts->is, parts_in(window), window->lead, window->count);
+    count_parts(window, true);
+    return result;
+}
+
+/* Makes a window of what was read of its range. Of a page that is another window's nothing is said, and nothing put back. */
+static struct window_result begin(struct window *window, const struct range_facts *facts, unsigned flags) {
+    struct windows *windows = window->windows;
+    lock_set(windows);
+    bool meets = meets_other(windows, window->at, window->count);
+    unlock_set(windows);
+    if (meets) return result_of(WINDOW_BAD_RANGE, EINVAL);
+    struct window_result result = prepare(window, facts, flags);
+    lock_set(windows);
+    meets = meets_other(windows, window->at, window->count); /* (it may have been made meanwhile) */
+    if (meets) result = result_of(WINDOW_BAD_RANGE, EINVAL);
+    else if (result.status == WINDOW_OK) result = enter(window);
+    unlock_set(windows);
+    if (result.status != WINDOW_OK && !meets) unprepare(window);
+    return result;
 }
 
 struct window_result window_make(struct window **made, struct windows *windows, void *at, size_t bytes, unsigned flags) {
@@ -85,23 +128,9 @@ struct window_result window_make(struct window **made, struct windows *windows, 
     if (result.status != WINDOW_OK) return result;
     struct window *window = make_tables(windows, at, bytes / WINDOW_PAGE_BYTES);
     if (window == NULL) return result_of(WINDOW_NO_MEMORY, ENOMEM);
-    result = prepare(window, &facts, flags);
-    lock_set(windows);
-    bool meets = result.status == WINDOW_OK && meets_other(windows, window->at, window->count);
-    if (meets) result = result_of(WINDOW_BAD_RANGE, EINVAL);
-    if (result.status == WINDOW_OK) result = find_numbers(windows, window);
-    if (result.status == WINDOW_OK) {
-        window->next = windows->first;
-        windows->first = window;
-        windows->counts.windows++;
-        windows->counts.pages += window->count;
-        windows->counts.mappings +=
-            pageshare_window_mappings_new(&window->parts->is, parts_in(window), window->lead, window->count);
-        count_parts(window, true);
-        *made = window;
-    }
-    unlock_set(windows);
-    if (*made == NULL) free_window(window);
+    result = begin(window, &facts, flags);
+    if (result.status == WINDOW_OK) *made = window;
+    else free_window(window);
     return result;
 }
 

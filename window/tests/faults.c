@@ -69,6 +69,10 @@ int __wrap_ioctl(int fd, unsigned long request, ...) {
 
 int __wrap_madvise(void *at, size_t bytes, int advice) {
     bool is_in = (uintptr_t)at >= planned.window && (uintptr_t)at < planned.window_end;
+    if (planned.advices > 0 && --planned.advices == 0) {
+        __real_madvise(at, bytes / 8192 * 4096, advice);
+        return refuse(ENOMEM);
+    }
     if (advice == MADV_POPULATE_WRITE && fails(&planned.populates)) return refuse(EINVAL);
     if (advice == MADV_POPULATE_READ && fails(&planned.reads)) return refuse(ENOMEM);
     if (advice == MADV_HUGEPAGE && fails(&planned.huge)) return refuse(ENOMEM);

@@ -209,8 +209,8 @@ static void write_to(uintptr_t at, size_t bytes) {
 }
 
 /*
- * Zeros are written as soon as they are mapped, before the same was said of them as of what is beside them. So the system doesn't join them with
- * that, and no such mapping is left out of the count.
+ * Zeros are written as soon as they are mapped, before the same was said of them as of what is beside them. So the system
+ * doesn't join them with that, and no such mapping is left out of the count.
  */
 static void write_comes_first(bool never_move, bool are_given_up) {
     enum { FIRST = 20, COUNT = 8 };
@@ -232,7 +232,7 @@ static void write_comes_first(bool never_move, bool are_given_up) {
     fixture_free(&fixture);
 }
 
-/* The memory policy of a range can't be read: it is no window, unless there is no such call for this process, and so no policy. */
+/* The memory policy of a range can't be read: it is no window, unless there is no such call for this process. */
 static void policy_is_unknown(int cause) {
     const struct windows_config config = {.pins = WINDOWS_PINS_NEVER};
     struct fixture fixture = fixture_make(&config, PAGES);
@@ -246,6 +246,54 @@ static void policy_is_unknown(int cause) {
         check(result.status == WINDOW_ADVICE && result.cause == cause && window == NULL, "an unknown policy is refused");
     if (is_none) must(result, "window_make");
     if (window == NULL) window = window_over(&fixture, at, PAGES);
+    must(window_free(window, WINDOW_DROP), "window_free");
+    fixture_free(&fixture);
+}
+
+/* What the system says of the mappings of some pages, to be freed. */
+static char *said_of(const uint8_t *at, size_t pages) {
+    char line[512], *all = NULL;
+    uintptr_t begin, end = 0, from = 0;
+    size_t length = 0;
+    FILE *file = fopen("/proc/self/smaps", "r"), *to = open_memstream(&all, &length);
+    while (file != NULL && to != NULL && fgets(line, sizeof line, file) != NULL) {
+        if (sscanf(line, "%lx-%lx ", &begin, &end) == 2) from = begin;
+        bool is_in = end > (uintptr_t)at && from < (uintptr_t)at + pages * PAGE;
+        if (is_in && strncmp(line, "VmFlags:", 8) == 0) fputs(line, to);
+    }
+    if (file != NULL) fclose(file);
+    if (to != NULL) fclose(to);
+    return all;
+}
+
+/* A range becomes no window, since one thing can't be said of it: the others are put back. */
+static void make_fails(void) {
+    enum { MANY = 3 * PART + 40, TIMES = 10 };
+    const struct windows_config config = {.pins = WINDOWS_PINS_NEVER, .tuning = {.huge_from = 64}};
+    struct fixture fixture = fixture_make(&config, PAGES);
+    uint8_t *at = memory(MANY);
+    int times = 0;
+    struct window *window = NULL;
+    madvise(at, MANY * PAGE, MADV_HUGEPAGE);
+    madvise(at, MANY * PAGE, MADV_MERGEABLE);
+    for (; times < TIMES && window == NULL; times++) {
+        char *before = said_of(at, MANY);
+        planned = (struct planned){.advices = times + 1};
+        struct window_result result = window_make(&window, fixture.windows, at, MANY * PAGE, WINDOW_NO_CHILD);
+        planned = (struct planned){0};
+        char *then = said_of(at, MANY);
+        check(window != NULL || (result.status == WINDOW_ADVICE && result.cause == ENOMEM), "window_make says so");
+        check(before != NULL && then != NULL && (strcmp(before, then) == 0) == (window == NULL), "what was said is put back");
+        free(before), free(then);
+    }
+    check(times > 3 && window != NULL, "each thing that is said is refused once");
+    char *before = said_of(at, MANY);
+    struct window *none;
+    struct window_result result = window_make(&none, fixture.windows, at + PART * PAGE, 10 * PAGE, WINDOW_NO_CHILD);
+    char *then = said_of(at, MANY);
+    check(result.status == WINDOW_BAD_RANGE && none == NULL, "pages of a window become no other one");
+    check(before != NULL && then != NULL && strcmp(before, then) == 0, "and nothing is said of them");
+    free(before), free(then);
     must(window_free(window, WINDOW_DROP), "window_free");
     fixture_free(&fixture);
 }
@@ -296,6 +344,7 @@ int main(void) {
     populate_fails();
     punch_fails();
     unmap_fails();
+    make_fails();
     policy_is_unknown(EFAULT);
     policy_is_unknown(ENOSYS);
     policy_is_unknown(EPERM);

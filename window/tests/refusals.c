@@ -376,8 +376,23 @@ static void attach(void) {
     if (!run.has_lender) free_lender();
 }
 
+/* What was said of a range, but for MADV_NOHUGEPAGE, which no advice takes back. */
+static struct advice advice_on(const struct range *range) {
+    struct range_facts facts = {.is_private = false};
+    calls_count(false);
+    check(range_read(&facts, range->at, range->pages) == 0 && facts.is_private, "a range is read");
+    calls_count(true);
+    facts.advice.no_huge = facts.advice.huge = false;
+    return facts.advice;
+}
+
 static void make_window(struct range *range, unsigned flags) {
-    came(window_make(&range->window, run.windows, range->at, range->pages * PAGE, flags), "window_make");
+    const struct advice before = advice_on(range);
+    const unsigned refused = calls_refused();
+    bool is_made = came(window_make(&range->window, run.windows, range->at, range->pages * PAGE, flags), "window_make");
+    if (is_made || calls_refused() != refused + 1) return;
+    const struct advice then = advice_on(range);
+    check(then.dont_fork == before.dont_fork && then.mergeable == before.mergeable, "what was said of no window is put back");
 }
 
 static void begin(void) {
