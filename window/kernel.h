@@ -78,6 +78,7 @@ struct range_facts {
     bool is_private; /* private anonymous memory, for reading and writing, without a gap */
     bool is_uniform; /* all of it has the same advice */
     bool is_locked;  /* a part of it is */
+    size_t mappings; /* of the system, that it meets */
     struct advice advice;
     int policy_cause; /* the errno with which the system didn't tell a memory policy of it, or 0 */
 };

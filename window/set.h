@@ -88,6 +88,7 @@ struct window {
     struct advice found;                    /* what was said of the range before it was a window */
     struct advice advice;
     size_t ready;    /* its pages before this one are left alone by KSM */
+    size_t seams;    /* between mappings that it consisted of when it was made: they count as mappings as long as it is one */
     bool keeps_huge; /* the system may back parts of it by huge pages */
     bool ends;       /* nothing is lent of it any more */
     bool ended;      /* the range is the caller's again; only slots are left to release */

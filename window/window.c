@@ -67,6 +67,7 @@ static struct window *make_tables(struct windows *windows, void *at, size_t page
 static struct window_result prepare(struct window *window, const struct range_facts *facts, unsigned flags) {
     int cause = 0;
     window->found = window->advice = facts->advice;
+    window->seams = facts->mappings - 1;
     if ((flags & WINDOW_NO_CHILD) != 0) {
         window->advice.dont_fork = true;
         if (madvise(window->at, bytes_of(window->count), MADV_DONTFORK) < 0) cause = errno;
@@ -99,7 +100,8 @@ static struct window_result enter(struct window *window) {
     windows->first = window;
     windows->counts.windows++;
     windows->counts.pages += window->count;
-    windows->counts.mappings += pageshare_window_mappings_new(&window->parts->is, parts_in(window), window->lead, window->count);
+    windows->counts.mappings +=
+        window->seams + pageshare_window_mappings_new(&window->parts->is, parts_in(window), window->lead, window->count);
     count_parts(window, true);
     return result;
 }
@@ -164,7 +166,7 @@ struct window_result window_free(struct window *window, enum window_end end) {
     lock_set(windows);
     windows->counts.windows--;
     windows->counts.pages -= window->count;
-    windows->counts.mappings -= mappings_of(window, 0, window->count);
+    windows->counts.mappings -= mappings_of(window, 0, window->count) + window->seams;
     count_parts(window, false);
     end_advice(window, 0, window->count);
     window->ended = window->ends = true; /* (the looking thread may free it from now on) */

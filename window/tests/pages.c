@@ -408,6 +408,22 @@ static void mappings_of_zeros(void) {
     fixture_free(&fixture);
 }
 
+/* Nor where a window consists of several mappings when it is made, which the system doesn't join. */
+static void mappings_from_the_beginning(void) {
+    struct fixture fixture = fixture_make(&never_pinned, PAGES);
+    uint8_t *at = memory(PAGES);
+    madvise(at, PAGES / 2 * PAGE, MADV_DONTDUMP);
+    for (size_t page = 0; page < PAGES; page++) memset(at + page * PAGE, (int)page + 1, PAGE);
+    madvise(at, PAGES / 2 * PAGE, MADV_DODUMP);
+    size_t before = counts_of(&fixture).mappings;
+    struct window *window = window_over(&fixture, at, PAGES);
+    check(mappings_in(at, PAGES) == 2 && counts_of(&fixture).mappings == before + 2,
+          "as many are counted as a window begins with");
+    must(window_free(window, WINDOW_DROP), "window_free");
+    check(counts_of(&fixture).mappings == before, "and none when it has ended");
+    fixture_free(&fixture);
+}
+
 /* Another userfaultfd has a part of the window: its pages aren't held, the others are. */
 static void second_userfaultfd(void) {
     struct fixture fixture = fixture_make(&never_pinned, PAGES);
@@ -786,6 +802,7 @@ int main(void) {
     mappings();
     mappings_one_by_one();
     mappings_of_zeros();
+    mappings_from_the_beginning();
     beliefs();
     places();
     clues();
