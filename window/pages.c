@@ -227,6 +227,7 @@ int make_scratch(struct windows *windows) {
     if (at == MAP_FAILED) return errno;
     windows->scratch = at;
     windows->scratch_used = 0;
+    windows->has_scratch = false;
     int cause = advice_begin(at, SCRATCH);
     if (cause != 0) return cause;
     /* (a page that a child has, too, can't be moved back; and the kernel moves pages only from where there was one) */
@@ -234,7 +235,9 @@ int make_scratch(struct windows *windows) {
     *at = 1;
     if (madvise(at, bytes_of(SCRATCH), MADV_DONTNEED) < 0) return errno;
     /* (pages are only moved to what is watched. Were it for missing pages, mlockall would wait here for ever.) */
-    return windows->faults.moves ? faults_watch(&windows->faults, at, SCRATCH, FAULTS_OF_WRITES) : 0;
+    if (windows->faults.moves) cause = faults_watch(&windows->faults, at, SCRATCH, FAULTS_OF_WRITES);
+    windows->has_scratch = cause == 0;
+    return cause;
 }
 
 int clear_scratch(struct windows *windows) {

@@ -116,6 +116,7 @@ struct windows {
     struct faults faults;
     struct pagemap pagemap;
     uint8_t *scratch; /* place for SCRATCH pages that are held, or were */
+    bool has_scratch; /* pages can be moved there */
     uint8_t *zeros;   /* PART pages that nobody touches, and no child has; NULL if there are none */
     size_t scratch_used;
     struct stuck stuck[PART];

@@ -146,6 +146,10 @@ static bool begin(struct look *look) {
     lock_for_look(windows);
     look->next = windows->first;
     int cause = free_stuck(windows);
+    /* (an earlier look could not make it anew; of memory that is locked it can't be made) */
+    bool lacks_scratch = cause == 0 && !windows->has_scratch && !windows->is_locked;
+    int refused = lacks_scratch ? make_scratch(windows) : 0;
+    if (refused != 0) note_failure(windows, WINDOW_NO_MAPPING, refused);
     windows->counts.looks++;
     if (windows->counts.looks % LIMIT_EACH == 0) follow_limit(windows);
     windows->counts.pause = windows->counts.looks <= windows->crowded_until ? WINDOWS_CROWDED : WINDOWS_LENDING;

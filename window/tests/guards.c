@@ -232,6 +232,23 @@ static void write_comes_first(bool never_move, bool are_given_up) {
     fixture_free(&fixture);
 }
 
+/* The place for pages that are held can't be made anew, as it is when memory was locked: it is made by a later look. */
+static void scratch_fails(void) {
+    const struct windows_config config = {.pins = WINDOWS_PINS_NEVER};
+    struct fixture fixture = fixture_make(&config, PAGES);
+    uint8_t *at = memory(PAGES), *locked = memory(1);
+    struct window *window = window_over(&fixture, at, PAGES);
+    fill(at, PAGES, 1);
+    check(mlock(locked, PAGE) == 0, "memory elsewhere is locked");
+    planned = (struct planned){.advices = 2};
+    struct window_result result = look(fixture.windows);
+    check(result.status == WINDOW_NO_MAPPING && result.cause == ENOMEM && planned.advices == 0, "a look says so");
+    check(look_until(&fixture, PAGES) == PAGES, "later pages are lent");
+    munlock(locked, PAGE);
+    must(window_free(window, WINDOW_DROP), "window_free");
+    fixture_free(&fixture);
+}
+
 /* The memory policy of a range can't be read: it is no window, unless there is no such call for this process. */
 static void policy_is_unknown(int cause) {
     const struct windows_config config = {.pins = WINDOWS_PINS_NEVER};
@@ -345,6 +362,7 @@ int main(void) {
     punch_fails();
     unmap_fails();
     make_fails();
+    scratch_fails();
     policy_is_unknown(EFAULT);
     policy_is_unknown(ENOSYS);
     policy_is_unknown(EPERM);
