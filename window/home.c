@@ -141,6 +141,8 @@ static int begin_home(struct home *home) {
     if (home->at == MAP_FAILED) return errno;
     int cause = advice_begin(home->at, home->count);
     if (cause == 0) cause = advice_set(&window->advice, home->at, home->count, MEMORY_SMALL);
+    /* (the kernel's KSM lifts a guard) */
+    if (cause == 0) cause = advice_say(address_of(window, home->first), home->count, MADV_UNMERGEABLE);
     if (cause == 0) {
         cause = faults_watch(&window->windows->faults, address_of(window, home->first), home->count, FAULTS_OF_WRITES);
         if (cause != 0) let_waiters_go(window, home->first, home->count); /* (of some pages the watch may have begun) */

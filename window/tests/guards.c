@@ -8,6 +8,7 @@
 #include "fixture.h"
 #include <errno.h>
 #include <pthread.h>
+#include <sys/prctl.h>
 #include <time.h>
 
 enum { PAGES = 64 };
@@ -232,6 +233,52 @@ static void write_comes_first(bool never_move, bool are_given_up) {
     fixture_free(&fixture);
 }
 
+/* What the system says of the mappings of some pages, to be freed. */
+static char *said_of(const uint8_t *at, size_t pages) {
+    char line[512], *all = NULL;
+    uintptr_t begin, end = 0, from = 0;
+    size_t length = 0;
+    FILE *file = fopen("/proc/self/smaps", "r"), *to = open_memstream(&all, &length);
+    while (file != NULL && to != NULL && fgets(line, sizeof line, file) != NULL) {
+        if (sscanf(line, "%lx-%lx ", &begin, &end) == 2) from = begin;
+        bool is_in = end > (uintptr_t)at && from < (uintptr_t)at + pages * PAGE;
+        if (is_in && strncmp(line, "VmFlags:", 8) == 0) fputs(line, to);
+    }
+    if (file != NULL) fclose(file);
+    if (to != NULL) fclose(to);
+    return all;
+}
+
+static unsigned merges;
+
+static void find_merges(uintptr_t at, size_t bytes) {
+    char *said = said_of((const uint8_t *)at, bytes / PAGE);
+    merges += said == NULL || strstr(said, " mg") != NULL ? 1 : 0;
+    free(said);
+}
+
+/* KSM may merge all memory of the process, frames and copies over them, too: it leaves alone what is guarded. */
+static void ksm_is_kept_off(void) {
+    enum { ALL_MERGES = 67 /* PR_SET_MEMORY_MERGE, Linux 6.4 */ };
+    const struct windows_config config = {.pins = WINDOWS_PINS_NEVER, .never_move = true};
+    if (prctl(ALL_MERGES, 1, 0, 0, 0) != 0) {
+        puts("left out: a process of which KSM may merge all, since this system has no such thing");
+        return;
+    }
+    struct fixture fixture = fixture_make(&config, PAGES);
+    uint8_t *at = memory(PAGES);
+    struct window *window = window_over(&fixture, at, PAGES);
+    fill(at, PAGES, 1);
+    planned = (struct planned){.watches = find_merges, .window = (uintptr_t)at, .window_end = (uintptr_t)at + PAGES * PAGE};
+    check(look_until(&fixture, PAGES) == PAGES && merges == 0, "KSM leaves alone what is compared");
+    must(window_cut(window, 0, PAGES, NULL), "window_cut");
+    check(merges == 0, "and what is brought home");
+    planned = (struct planned){0};
+    prctl(ALL_MERGES, 0, 0, 0, 0);
+    must(window_free(window, WINDOW_DROP), "window_free");
+    fixture_free(&fixture);
+}
+
 /* The place for pages that are held can't be made anew, as it is when memory was locked: it is made by a later look. */
 static void scratch_fails(void) {
     const struct windows_config config = {.pins = WINDOWS_PINS_NEVER};
@@ -265,22 +312,6 @@ static void policy_is_unknown(int cause) {
     if (window == NULL) window = window_over(&fixture, at, PAGES);
     must(window_free(window, WINDOW_DROP), "window_free");
     fixture_free(&fixture);
-}
-
-/* What the system says of the mappings of some pages, to be freed. */
-static char *said_of(const uint8_t *at, size_t pages) {
-    char line[512], *all = NULL;
-    uintptr_t begin, end = 0, from = 0;
-    size_t length = 0;
-    FILE *file = fopen("/proc/self/smaps", "r"), *to = open_memstream(&all, &length);
-    while (file != NULL && to != NULL && fgets(line, sizeof line, file) != NULL) {
-        if (sscanf(line, "%lx-%lx ", &begin, &end) == 2) from = begin;
-        bool is_in = end > (uintptr_t)at && from < (uintptr_t)at + pages * PAGE;
-        if (is_in && strncmp(line, "VmFlags:", 8) == 0) fputs(line, to);
-    }
-    if (file != NULL) fclose(file);
-    if (to != NULL) fclose(to);
-    return all;
 }
 
 /* A range becomes no window, since one thing can't be said of it: the others are put back. */
@@ -363,6 +394,7 @@ int main(void) {
     unmap_fails();
     make_fails();
     scratch_fails();
+    ksm_is_kept_off();
     policy_is_unknown(EFAULT);
     policy_is_unknown(ENOSYS);
     policy_is_unknown(EPERM);
