@@ -74,12 +74,13 @@ static bool begin_hold(struct hold *hold) {
     bool is_over_frame = is_over(page_of(hold, 0));
     hold->moves = windows->faults.moves && !is_over_frame;
     if (!hold->moves && !is_over_frame && may_pin(windows)) return false;
+    int cause = 0;
     if (!hold->moves) {
-        /* (the kernel's KSM lifts a guard; and what is left of a huge page takes all its memory until it is split) */
-        madvise(at, bytes_of(hold->count), MADV_UNMERGEABLE);
+        cause = advice_say(at, hold->count, MADV_UNMERGEABLE); /* (the kernel's KSM lifts a guard) */
+        /* (and what is left of a huge page takes all its memory until it is split) */
         if (!is_over_frame) madvise(at, bytes_of(hold->count), MADV_COLD);
     }
-    int cause = hold->moves && windows->scratch_used + hold->count > SCRATCH ? clear_scratch(windows) : 0;
+    if (hold->moves && windows->scratch_used + hold->count > SCRATCH) cause = clear_scratch(windows);
     bool is_asked = cause == 0;
     if (is_asked) cause = faults_watch(&windows->faults, at, hold->count, hold->moves ? FAULTS_OF_MISSING : FAULTS_OF_WRITES);
     if (cause != 0) {

@@ -92,6 +92,7 @@ static void make_ready(struct window *window, size_t first, size_t count, size_t
         if (!is_here(window, first + done)) continue;
         int cause = advice_say(address_of(window, first + done), run, MADV_UNMERGEABLE);
         if (cause != 0) window->windows->advice_cause = cause;
+        if (cause != 0) return; /* (a later look says it again) */
     }
     window->ready = first + count;
     --*left;

@@ -249,6 +249,24 @@ static char *said_of(const uint8_t *at, size_t pages) {
     return all;
 }
 
+/* KSM can't be kept off pages that are to be guarded: they aren't lent before it can. */
+static void ksm_stays(void) {
+    const struct windows_config config = {.pins = WINDOWS_PINS_NEVER, .never_move = true};
+    struct fixture fixture = fixture_make(&config, PAGES);
+    uint8_t *at = memory(PAGES);
+    struct window *window = window_over(&fixture, at, PAGES);
+    struct window_result result = {0};
+    fill(at, PAGES, 1);
+    planned = (struct planned){.unmergeables = 1000, .window = (uintptr_t)at, .window_end = (uintptr_t)at + PAGES * PAGE};
+    for (int i = 0; i < 20 && result.status != WINDOW_NO_MAPPING; i++) result = look(fixture.windows);
+    check(result.status == WINDOW_NO_MAPPING && result.cause == ENOMEM, "a look says that KSM can't be kept off");
+    check(planned.unmergeables < 1000 && counts_of(&fixture).lent == 0, "and nothing is lent");
+    planned = (struct planned){0};
+    check(look_until(&fixture, PAGES) == PAGES, "but later");
+    must(window_free(window, WINDOW_DROP), "window_free");
+    fixture_free(&fixture);
+}
+
 static unsigned merges;
 
 static void find_merges(uintptr_t at, size_t bytes) {
@@ -394,6 +412,7 @@ int main(void) {
     unmap_fails();
     make_fails();
     scratch_fails();
+    ksm_stays();
     ksm_is_kept_off();
     policy_is_unknown(EFAULT);
     policy_is_unknown(ENOSYS);
