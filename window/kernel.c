@@ -436,13 +436,14 @@ int mapping_put(void *at, size_t pages, int protection, int file, size_t file_pa
     return cause;
 }
 
-size_t locked_kib(void) {
+int locked_kib(size_t *kib) {
     struct lines lines;
-    size_t kib = 0;
-    if (lines_open(&lines, "/proc/self/status") != 0) return 0;
-    for (const char *line; (line = lines_next(&lines)) != NULL && sscanf(line, "VmLck: %zu", &kib) != 1;) kib = 0;
+    *kib = 0;
+    int cause = lines_open(&lines, "/proc/self/status");
+    if (cause != 0) return cause;
+    for (const char *line; (line = lines_next(&lines)) != NULL && sscanf(line, "VmLck: %zu", kib) != 1;) *kib = 0;
     lines_close(&lines);
-    return kib;
+    return lines.cause;
 }
 
 size_t merged_kib(void) { return bytes_of(number_in("/proc/self/ksm_merging_pages", 0)) / 1024; }

@@ -146,8 +146,8 @@ void *table_make(size_t count, size_t bytes_each);
 /* `table` may be NULL. */
 void table_free(void *table, size_t count, size_t bytes_each);
 
-/* KiB of this process that are locked. */
-size_t locked_kib(void);
+/* Reads how many KiB of this process are locked. */
+int locked_kib(size_t *kib);
 /* KiB of this process that the kernel's KSM has merged, rounded up; 0 if the system doesn't show them. */
 size_t merged_kib(void);
 /* The system's limit of a process's mappings. */

@@ -89,11 +89,12 @@ static bool has_page_between(void *set, const uint8_t *begin, const uint8_t *end
  */
 static void look_for_locks(struct windows *windows) {
     enum { TIMES = 200 };
-    size_t kib = locked_kib();
-    uint64_t begun = clock_now_ns();
-    if (kib == windows->locked_kib || (kib > 0 && begun < windows->locks_after_ns)) return;
+    size_t kib = 0;
     bool is_locked = false;
-    int refused = kib > 0 ? locked_find(has_page_between, windows, &is_locked) : 0;
+    int refused = locked_kib(&kib);
+    uint64_t begun = clock_now_ns();
+    if (refused == 0 && (kib == windows->locked_kib || (kib > 0 && begun < windows->locks_after_ns))) return;
+    if (refused == 0 && kib > 0) refused = locked_find(has_page_between, windows, &is_locked);
     if (refused != 0) { /* (the next time it tries again) */
         note_failure(windows, WINDOW_NO_PAGEMAP, refused);
         return;

@@ -9,6 +9,7 @@
 #include <fcntl.h>
 #include <linux/userfaultfd.h>
 #include <sys/ioctl.h>
+#include <sys/resource.h>
 #include <sys/syscall.h>
 #include <sys/wait.h>
 
@@ -267,6 +268,38 @@ static void locked(void) {
         check(windows_make(&windows, &never_pinned).status == WINDOW_LOCKED && windows == NULL, "nor are there new sets");
         munlockall();
         check(look_until(&fixture, PAGES) == PAGES, "when nothing is locked all is lent again");
+    }
+    must(window_free(window, WINDOW_DROP), "window_free");
+    fixture_free(&fixture);
+}
+
+/* So many files may be open from now on. Returns how many might be. */
+static rlim_t limit_files(rlim_t most) {
+    struct rlimit files;
+    check(getrlimit(RLIMIT_NOFILE, &files) == 0, "a limit of open files");
+    rlim_t before = files.rlim_cur;
+    files.rlim_cur = most;
+    check(setrlimit(RLIMIT_NOFILE, &files) == 0, "another limit of open files");
+    return before;
+}
+
+/* Where the system doesn't tell whether memory is locked, what was known of it counts still. */
+static void locked_unseen(void) {
+    struct fixture fixture = fixture_make(&never_pinned, PAGES);
+    uint8_t *at = memory(PAGES);
+    struct window *window = window_over(&fixture, at, PAGES);
+    fill(at, PAGES, 1);
+    if (mlock(at, PAGE) != 0 || look(fixture.windows).status != WINDOW_LOCKED) {
+        puts("left out: memory whose lock isn't seen, which this user may not lock, or the sanitizer");
+    } else {
+        rlim_t files = limit_files(0);
+        struct window_result result = look(fixture.windows);
+        look_often(&fixture, 10);
+        limit_files(files);
+        check(result.status == WINDOW_NO_PAGEMAP && result.cause == EMFILE, "a look says that it can't read that");
+        check(counts_of(&fixture).lent == 0 && counts_of(&fixture).pause == WINDOWS_LOCKED, "locked memory isn't lent");
+        munlock(at, PAGE);
+        check(look_until(&fixture, PAGES) == PAGES, "when it isn't locked it is lent");
     }
     must(window_free(window, WINDOW_DROP), "window_free");
     fixture_free(&fixture);
@@ -796,6 +829,7 @@ int main(void) {
     advice();
     children();
     locked();
+    locked_unseen();
     huge(false);
     huge(true);
     ends();
