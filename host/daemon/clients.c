@@ -356,10 +356,14 @@ static bool is_fault(struct domain *domain, const struct client *client, uint32_
     return true;
 }
 
-/* Serves one packet of a client, which lends `count` pages or does something else. Returns false if the connection is to end. */
-static bool serve_packet(struct domain *domain, struct client *client, uint8_t *bytes, size_t length, uint32_t count) {
+/*
+ * Serves one packet of a client, which lends `count` pages, of which the first `most` may get frames, or does something else. Returns false
+ * if the connection is to end.
+ */
+static bool serve_packet(struct domain *domain, struct client *client, uint8_t *bytes, size_t length, uint32_t count,
+                         uint32_t most) {
     struct serving *with = domain->serving;
-    uint32_t served = count ? within_quota(domain, client, count) : 0;
+    uint32_t served = most ? within_quota(domain, client, most) : 0;
     if (served < count) memcpy(bytes + offsetof(struct pageshare_host_lend, count), &served, sizeof served);
     if (served) memcpy(with->pages, client->buffer, (size_t)served * PAGE); /* the client may write to its buffer at any time */
     struct pageshare_host_served got =
@@ -383,23 +387,24 @@ static void listen_to(struct domain *domain, struct client *client, bool to_it) 
 
 /*
  * Takes one packet of a client. Returns false if the connection is to end. A lend may take any frame that is free, so it waits while
- * memory of free frames is given back (frames.h). Then nothing more is read of this client, and others are served. A hello whose session
- * the client may not take up is cut short: it asks for a new one.
+ * memory of free frames is given back (frames.h). Then nothing more is read of this client, and others are served. Where the system refuses
+ * to give it back then, no page is lent. A hello whose session the client may not take up is cut short: it asks for a new one.
  */
 static bool take_packet(struct domain *domain, struct client *client, uint8_t *bytes, size_t length) {
     uint8_t name[PAGESHARE_HOST_NAME_BYTES];
     struct pageshare_host_packet packet = pageshare_host_read(bytes, length, name);
     if (packet.names && !may_take_up(domain, client, name)) length = offsetof(struct pageshare_host_hello, name);
     uint32_t count = client->buffer && packet.kind == PAGESHARE_HOST_LEND ? packet.count : 0;
-    if (count == 0) return serve_packet(domain, client, bytes, length, 0);
+    if (count == 0) return serve_packet(domain, client, bytes, length, 0, 0);
     client->waiting_pages = 0;
-    if (domain->is_lend_waiting || !frames_begin_lend(&domain->frames)) {
+    enum frames_lend may = domain->is_lend_waiting ? LEND_WAITS : frames_begin_lend(&domain->frames);
+    if (may == LEND_WAITS) {
         domain->is_lend_waiting = true; /* (and no other lend tries for the lock meanwhile: that takes time) */
         client->waiting_pages = count;
         listen_to(domain, client, false);
         return true;
     }
-    bool good = serve_packet(domain, client, bytes, length, count);
+    bool good = serve_packet(domain, client, bytes, length, count, may == LEND_ANY ? count : 0);
     frames_end_lend(&domain->frames);
     return good;
 }

@@ -31,9 +31,10 @@ struct frames {
      * So a frame whose bit is clear under the lock stays free, and nobody else touches it, until the lock is given back.
      */
     pthread_mutex_t lending;
-    atomic_bool is_wanted; /* a lend waits for the lock: the thread that gives memory back calls frames_free_again */
-    int free_again;        /* an eventfd, which is readable then */
-    int needed;            /* one for that thread: a lend waits until no frame is listed */
+    atomic_bool is_refused; /* while a lend waited the system refused to give memory back: the lend gets nothing */
+    atomic_bool is_wanted;  /* a lend waits for the lock: the thread that gives memory back calls frames_free_again */
+    int free_again;         /* an eventfd, which is readable then */
+    int needed;             /* one for that thread: a lend waits until no frame is listed */
 };
 
 #define FRAMES_NONE                                                                                                              \
@@ -43,12 +44,18 @@ struct frames {
 bool frames_make(struct frames *frames, uint32_t count);
 void frames_free(struct frames *frames);
 
+/* What a call of the library may lend. */
+enum frames_lend {
+    LEND_WAITS,   /* it has to wait until `free_again` is readable: memory is being given back, or is to be */
+    LEND_NOTHING, /* nothing: it has waited, and the system refused to give memory of free frames back */
+    LEND_ANY      /* any free frame: none of them has memory that was another page's */
+};
+
 /*
- * Before a call of the library that may lend. Returns false if memory is being given back, or is to be: then the call has to wait until
- * `free_again` is readable. A device of a client may be reading the memory of a frame that became free, so another page's bytes must not be
- * written to it.
+ * Before a call of the library that may lend. A device of a client may be reading the memory of a frame that became free, so another page's
+ * bytes must not be written to it. frames_end_lend follows unless the call has to wait.
  */
-bool frames_begin_lend(struct frames *frames);
+enum frames_lend frames_begin_lend(struct frames *frames);
 /* A slot has frame `frame` now. Between frames_begin_lend and frames_end_lend. */
 void frames_lent(struct frames *frames, uint32_t frame);
 void frames_end_lend(struct frames *frames);

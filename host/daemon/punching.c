@@ -38,49 +38,59 @@ static uint32_t next_with(_Atomic uint64_t *bits, bool is_set, uint32_t first, u
 
 static uint32_t smaller(uint32_t one, uint32_t other) { return one < other ? one : other; }
 
-/* Punches the frames from `first` up to `end` out of the file. A private copy that lies over one of them stays. Where the system refuses,
- * they keep their memory until they are lent again, or until it is looked for. */
-static void punch(struct punching *punching, uint32_t first, uint32_t end) {
+/* Punches the frames from `first` up to `end` out of the file. A private copy that lies over one of them stays. Returns false if the system
+ * refuses: then they may have their memory still. */
+static bool punch(struct punching *punching, uint32_t first, uint32_t end) {
     int how = FALLOC_FL_PUNCH_HOLE | FALLOC_FL_KEEP_SIZE;
     while (fallocate(punching->frames->file, how, (off_t)first * PAGE, (off_t)(end - first) * PAGE) != 0) {
         if (errno == EINTR) continue;
-        seldom_trouble(&punching->trouble, "giving frames' memory back");
-        return;
+        return seldom_trouble(&punching->trouble, "giving frames' memory back, without which nothing is lent");
     }
+    return true;
 }
 
+/* What came of a run of free frames. */
+enum run { RUN_NONE, RUN_REFUSED, RUN_DONE };
+
 /*
- * Gives back one run of free frames, which begins with the first listed one from next_listed on. Frames among them that aren't listed
- * have no memory, or should have none. Returns false if none is listed from there on.
+ * Gives back one run of free frames, which begins with the first listed one from next_listed on, if one is listed there. Frames among them
+ * that aren't listed have no memory, or should have none. If the system refuses they stay listed: none of them is lent before it doesn't.
  *
  * The lock is held from the look at `in_use` until the memory is given back. So each frame of the run is one that the library says is
  * free, and no lend takes it meanwhile.
  */
-static bool punch_run(struct punching *punching) {
+static enum run punch_run(struct punching *punching) {
     struct frames *frames = punching->frames;
     uint32_t first = next_with(frames->listed, true, punching->next_listed, frames->count);
+    bool is_refused = false;
     punching->next_listed = first;
-    if (first == frames->count) return false;
+    if (first == frames->count) return RUN_NONE;
     pthread_mutex_lock(&frames->lending);
     frames_unlist(frames, first, first + 1); /* before the look: if it is in use, it is listed again when it becomes free */
     uint32_t end = next_with(frames->in_use, true, first, smaller(frames->count, first + RUN_MOST));
     if (end > first) {
         frames_unlist(frames, first, end);
-        punch(punching, first, end);
+        is_refused = !punch(punching, first, end);
+        if (is_refused) frames_list(frames, first, end);
     }
     pthread_mutex_unlock(&frames->lending);
     punching->next_listed = end > first ? end : first + 1;
-    return true;
+    return is_refused ? RUN_REFUSED : RUN_DONE;
 }
 
-/* Gives back runs until a turn's time is over and no lend waits, or nothing is listed any more. */
-static void punch_some(struct punching *punching) {
+/* Gives back runs until a turn's time is over and no lend waits, or nothing is listed any more, or the system refuses. Returns whether it did. */
+static bool punch_some(struct punching *punching) {
     struct frames *frames = punching->frames;
     uint64_t begin = now_ns();
-    while (!atomic_load(&punching->must_end) && atomic_load(&frames->waiting) > 0 &&
-           (atomic_load(&frames->is_wanted) || now_ns() - begin < turn_ns))
-        if (!punch_run(punching)) punching->next_listed = 0;
-    if (atomic_load(&frames->waiting) == 0) frames_free_again(frames);
+    enum run run = RUN_DONE;
+    while (run != RUN_REFUSED && !atomic_load(&punching->must_end) && atomic_load(&frames->waiting) > 0 &&
+           (atomic_load(&frames->is_wanted) || now_ns() - begin < turn_ns)) {
+        run = punch_run(punching);
+        if (run == RUN_NONE) punching->next_listed = 0;
+    }
+    if (run == RUN_REFUSED && atomic_load(&frames->is_wanted)) atomic_store(&frames->is_refused, true);
+    if (run == RUN_REFUSED || atomic_load(&frames->waiting) == 0) frames_free_again(frames);
+    return run == RUN_REFUSED;
 }
 
 /* The first byte from `at` on that has memory; the file's end if none has. */
@@ -115,7 +125,7 @@ static int do_turn(struct punching *punching) {
     uint64_t begin = now_ns();
     bool is_spare = has_spare(punching->frames);
     if (is_spare) look_for_memory(punching);
-    punch_some(punching);
+    if (punch_some(punching)) return IDLE_MS;
     uint64_t pause_ms = (now_ns() - begin) * (PART - 1) / 1000000 + 1;
     bool is_done = !is_spare && atomic_load(&punching->frames->waiting) == 0;
     if (is_done && pause_ms < IDLE_MS) return IDLE_MS;

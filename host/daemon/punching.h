@@ -4,7 +4,7 @@
  *
  * - Frames that became free are listed (frames_freed) and given back in runs, within a twentieth of the time, by the clock. But
  *   no pause is longer than a second. A lend waits until none is listed, since a device may be reading the memory of one for a page that showed
- *   it. While one waits there is no pause.
+ *   it. While one waits there is no pause. If the system refuses to give a frame's memory back, nothing is lent until it does.
  * - Free frames get memory when a client reads them. They are looked for when the file has more memory than frames that are in use or
  *   listed, some at a time.
  */
