@@ -210,14 +210,16 @@ int map_pages(struct window *window, size_t first, size_t count, uint32_t frame,
     if (cause != 0)
         cause = mapping_put(at, count, protection, is_file ? window->windows->frames_fd : NO_FILE, is_file ? frame : 0);
     if (cause != 0) return cause;
-    note_memory(window, first, count, frame, is_alone);
-    if (!is_file && !has_left) say_again(window, first, count, false);
+    /* (what the system refuses to say of zeros keeps it from joining them with what is beside them) */
+    bool is_said = is_file || has_left || say_again(window, first, count, false);
+    note_memory(window, first, count, frame, is_alone || !is_said);
     return 0;
 }
 
-void say_again(struct window *window, size_t first, size_t count, bool is_file) {
+bool say_again(struct window *window, size_t first, size_t count, bool is_file) {
     int cause = advice_set(&window->advice, address_of(window, first), count, is_file ? MEMORY_OF_FRAMES : MEMORY_SMALL);
     if (cause != 0) window->windows->advice_cause = cause;
+    return cause == 0;
 }
 
 int make_scratch(struct windows *windows) {

@@ -76,6 +76,7 @@ int __wrap_madvise(void *at, size_t bytes, int advice) {
     if (advice == MADV_POPULATE_WRITE && fails(&planned.populates)) return refuse(EINVAL);
     if (advice == MADV_POPULATE_READ && fails(&planned.reads)) return refuse(ENOMEM);
     if (advice == MADV_HUGEPAGE && fails(&planned.huge)) return refuse(ENOMEM);
+    if (advice == MADV_DONTDUMP && is_in && fails(&planned.dumps)) return refuse(ENOMEM);
     if (advice == MADV_UNMERGEABLE && is_in && fails(&planned.unmergeables)) return refuse(ENOMEM);
     if (advice == MADV_NOHUGEPAGE && is_in && fails(&planned.small)) return refuse(ENOMEM);
     return __real_madvise(at, bytes, advice);

@@ -17,6 +17,7 @@ struct planned {
     int small;                    /* MADV_NOHUGEPAGE of a part of the window fails with ENOMEM */
     int advices;                  /* the advice of this number fails with ENOMEM, said of half of the pages; 0: none */
     int unmergeables;             /* MADV_UNMERGEABLE of a part of the window fails with ENOMEM */
+    int dumps;                    /* MADV_DONTDUMP of a part of the window fails with ENOMEM */
     int punches;                  /* fallocate fails with EINTR */
     int policies, policies_cause; /* a memory policy can't be read, with this errno */
     uintptr_t window, window_end; /* where pages can't be put */

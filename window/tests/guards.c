@@ -233,6 +233,25 @@ static void write_comes_first(bool never_move, bool are_given_up) {
     fixture_free(&fixture);
 }
 
+/* What was said of a window can't be said of zeros in it: they are a mapping by themselves, and none is left out of the count. */
+static void zeros_are_unlike(void) {
+    enum { FIRST = 20, COUNT = 8 };
+    const struct windows_config config = {.pins = WINDOWS_PINS_NEVER};
+    struct fixture fixture = fixture_make(&config, PAGES);
+    uint8_t *at = memory(PAGES);
+    check(madvise(at, PAGES * PAGE, MADV_DONTDUMP) == 0, "memory that isn't dumped");
+    struct window *window = window_over(&fixture, at, PAGES);
+    fill(at, PAGES, PAGES);
+    memset(at + FIRST * PAGE, 100, COUNT * PAGE);
+    check(look_until(&fixture, COUNT) == COUNT, "some pages are lent");
+    planned = (struct planned){.dumps = 1, .window = (uintptr_t)at, .window_end = (uintptr_t)at + PAGES * PAGE};
+    must(window_discard(window, FIRST, COUNT), "window_discard");
+    check(planned.dumps == 0 && look(fixture.windows).status == WINDOW_ADVICE, "a look says what couldn't be said");
+    check(counts_of(&fixture).mappings >= mappings_in(at, PAGES), "such zeros count as a mapping");
+    must(window_free(window, WINDOW_DROP), "window_free");
+    fixture_free(&fixture);
+}
+
 /* What the system says of the mappings of some pages, to be freed. */
 static char *said_of(const uint8_t *at, size_t pages) {
     char line[512], *all = NULL;
@@ -412,6 +431,7 @@ int main(void) {
     unmap_fails();
     make_fails();
     scratch_fails();
+    zeros_are_unlike();
     ksm_stays();
     ksm_is_kept_off();
     policy_is_unknown(EFAULT);

@@ -321,13 +321,6 @@ static void check_mapping(const struct mapping *mapping, const char *flags) {
 /* So many mappings may be left out of the count, and some for each refused call: copies over frames in a row may be several. */
 enum { ASTRAY = 2, ASTRAY_EACH = 4 };
 
-/* Whether something couldn't be said of memory. Then many pages there may be mappings by themselves, as later ones come. */
-static bool is_unlike(void) {
-    unsigned unsaid = 0;
-    for (enum call call = CALL_DONTFORK; call <= CALL_SET_POLICY; call++) unsaid += calls_refused_of(call);
-    return unsaid > 0;
-}
-
 static void check_mappings(void) {
     char line[512];
     struct mapping mapping = {.begin = 0};
@@ -347,7 +340,6 @@ static void check_mappings(void) {
     if (file != NULL) fclose(file);
     windows_count(run.windows, &counts);
     size_t counted = counts.mappings + ASTRAY + ASTRAY_EACH * calls_refused();
-    if (is_unlike()) return;
     if (counted < found) fprintf(stderr, "%zu mappings are counted, and there are %zu\n", counts.mappings, found);
     check(counted >= found, "no mapping is left out of the count");
 }
