@@ -130,8 +130,8 @@ int mapping_put(void *at, size_t pages, int protection, int file, size_t file_pa
  */
 void *map_apart(size_t bytes, int protection, int flags, int file);
 /*
- * Unmaps memory of the library itself. The system may refuse that where the process has as many mappings as it may have: then the memory is
- * given back, and unmap_again unmaps the rest later.
+ * Unmaps memory of the library itself. The system may refuse that where the process has as many mappings as it may have: then
+ * the memory is given back, and unmap_again unmaps the rest later.
  */
 void unmap_apart(void *at, size_t bytes);
 /* Tries again to unmap what the system refused to unmap. Not with a lock. */

@@ -174,14 +174,17 @@ static const uint8_t *source_of(const struct window *window, uint32_t frame, int
     return windows->frames_are_given ? windows->frames_at + bytes_of(frame) : NULL;
 }
 
-/* Whether the system may join zeros with what is beside them: memory of the window's own, of which was said what is said of them. */
+/*
+ * Whether the system may join zeros with what is beside them: memory of the window's own, of which was said what is said of
+ * them.
+ */
 static bool may_join(const struct window *window, size_t page, bool is_whole) {
     return !is_over(&window->pages[page]) && !is_out(&window->pages[page]) && part_of(window, page)->is.whole == is_whole;
 }
 
 /*
- * Whether zeros that are put in the place of pages will be a mapping by themselves: nothing is beside them with which the system could join
- * them. Once they are written it joins them with nothing any more.
+ * Whether zeros that are put in the place of pages will be a mapping by themselves: nothing is beside them with which the
+ * system could join them. Once they are written it joins them with nothing any more.
  */
 static bool are_alone(const struct window *window, size_t first, size_t behind) {
     const bool is_whole = part_of(window, first)->is.whole;

@@ -270,16 +270,19 @@ int clear_scratch(struct windows *windows);
 void note_moved(struct window *window, size_t first, size_t count);
 
 /*
- * Zeros were mapped in the place of these pages, all has been said of them, and nobody waits for them. If one of them was written before, the
- * system may not have joined them with what is beside them: then they count as a mapping by themselves. With the lock.
+ * Zeros were mapped in the place of these pages, all has been said of them, and nobody waits for them. If one of them was
+ * written before, the system may not have joined them with what is beside them: then they count as a mapping by themselves.
+ * With the lock.
  */
 void note_apart(struct window *window, size_t first, size_t count);
 
 /* Maps frames in a row in place of pages, or zeros, with this protection. Returns 0 or an errno, and then nothing has changed. */
 int map_pages(struct window *window, size_t first, size_t count, uint32_t frame, int protection);
 
-/* Says of pages that were mapped anew what was said of the window; frames are among them, or only memory of their own. Returns false if the
- * system refuses, which the next look reports. With the lock. */
+/*
+ * Says of pages that were mapped anew what was said of the window; frames are among them, or only memory of their own. Returns
+ * false if the system refuses, which the next look reports. With the lock.
+ */
 bool say_again(struct window *window, size_t first, size_t count, bool is_file);
 
 /* Ends the watch over pages, and wakes threads that wait. Returns 0, or an errno: then the pages are among the stuck ones. With the lock. */

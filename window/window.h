@@ -174,11 +174,12 @@ enum {
     WINDOW_NO_CHILD = 1 /* no child of a fork needs the range, so MADV_DONTFORK is said for it */
 };
 /*
- * Makes a range of private anonymous memory a window, of whole pages, with what it contains. Its advice is set again for frames that
- * are mapped: MADV_DONTDUMP, DONTFORK, NOHUGEPAGE and a memory policy (mbind). MADV_NOHUGEPAGE is said for it, but for parts that stay
- * whole (struct windows_tuning), and MADV_UNMERGEABLE, since the kernel's KSM would merge pages that are held; window_free puts both back.
- * Where the status isn't WINDOW_OK what was said of the range is put back, but MADV_NOHUGEPAGE if nothing was said of huge pages there.
- * Nothing is lent of a range that a child would have (no MADV_DONTFORK): a child would go on showing frames that are released.
+ * Makes a range of private anonymous memory a window, of whole pages, with what it contains. Its advice is set again for frames
+ * that are mapped: MADV_DONTDUMP, DONTFORK, NOHUGEPAGE and a memory policy (mbind). MADV_NOHUGEPAGE is said for it, but for
+ * parts that stay whole (struct windows_tuning), and MADV_UNMERGEABLE, since the kernel's KSM would merge pages that are held;
+ * window_free puts both back. Where the status isn't WINDOW_OK what was said of the range is put back, but MADV_NOHUGEPAGE if
+ * nothing was said of huge pages there. Nothing is lent of a range that a child would have (no MADV_DONTFORK): a child would go
+ * on showing frames that are released.
  */
 struct window_result window_make(struct window **made, struct windows *windows, void *at, size_t bytes, unsigned flags);
 

@@ -357,8 +357,8 @@ static bool is_fault(struct domain *domain, const struct client *client, uint32_
 }
 
 /*
- * Serves one packet of a client, which lends `count` pages, of which the first `most` may get frames, or does something else. Returns false
- * if the connection is to end.
+ * Serves one packet of a client, which lends `count` pages, of which the first `most` may get frames, or does something else.
+ * Returns false if the connection is to end.
  */
 static bool serve_packet(struct domain *domain, struct client *client, uint8_t *bytes, size_t length, uint32_t count,
                          uint32_t most) {
@@ -386,9 +386,10 @@ static void listen_to(struct domain *domain, struct client *client, bool to_it) 
 }
 
 /*
- * Takes one packet of a client. Returns false if the connection is to end. A lend may take any frame that is free, so it waits while
- * memory of free frames is given back (frames.h). Then nothing more is read of this client, and others are served. Where the system refuses
- * to give it back then, no page is lent. A hello whose session the client may not take up is cut short: it asks for a new one.
+ * Takes one packet of a client. Returns false if the connection is to end. A lend may take any frame that is free, so it waits
+ * while memory of free frames is given back (frames.h). Then nothing more is read of this client, and others are served. Where
+ * the system refuses to give it back then, no page is lent. A hello whose session the client may not take up is cut short: it
+ * asks for a new one.
  */
 static bool take_packet(struct domain *domain, struct client *client, uint8_t *bytes, size_t length) {
     uint8_t name[PAGESHARE_HOST_NAME_BYTES];

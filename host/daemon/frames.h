@@ -52,8 +52,8 @@ enum frames_lend {
 };
 
 /*
- * Before a call of the library that may lend. A device of a client may be reading the memory of a frame that became free, so another page's
- * bytes must not be written to it. frames_end_lend follows unless the call has to wait.
+ * Before a call of the library that may lend. A device of a client may be reading the memory of a frame that became free, so
+ * another page's bytes must not be written to it. frames_end_lend follows unless the call has to wait.
  */
 enum frames_lend frames_begin_lend(struct frames *frames);
 /* A slot has frame `frame` now. Between frames_begin_lend and frames_end_lend. */

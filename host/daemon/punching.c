@@ -38,8 +38,10 @@ static uint32_t next_with(_Atomic uint64_t *bits, bool is_set, uint32_t first, u
 
 static uint32_t smaller(uint32_t one, uint32_t other) { return one < other ? one : other; }
 
-/* Punches the frames from `first` up to `end` out of the file. A private copy that lies over one of them stays. Returns false if the system
- * refuses: then they may have their memory still. */
+/*
+ * Punches the frames from `first` up to `end` out of the file. A private copy that lies over one of them stays. Returns false
+ * if the system refuses: then they may have their memory still.
+ */
 static bool punch(struct punching *punching, uint32_t first, uint32_t end) {
     int how = FALLOC_FL_PUNCH_HOLE | FALLOC_FL_KEEP_SIZE;
     while (fallocate(punching->frames->file, how, (off_t)first * PAGE, (off_t)(end - first) * PAGE) != 0) {
@@ -53,11 +55,12 @@ static bool punch(struct punching *punching, uint32_t first, uint32_t end) {
 enum run { RUN_NONE, RUN_REFUSED, RUN_DONE };
 
 /*
- * Gives back one run of free frames, which begins with the first listed one from next_listed on, if one is listed there. Frames among them
- * that aren't listed have no memory, or should have none. If the system refuses they stay listed: none of them is lent before it doesn't.
+ * Gives back one run of free frames, which begins with the first listed one from next_listed on, if one is listed there. Frames
+ * among them that aren't listed have no memory, or should have none. If the system refuses they stay listed: none of them is
+ * lent before it doesn't.
  *
- * The lock is held from the look at `in_use` until the memory is given back. So each frame of the run is one that the library says is
- * free, and no lend takes it meanwhile.
+ * The lock is held from the look at `in_use` until the memory is given back. So each frame of the run is one that the library
+ * says is free, and no lend takes it meanwhile.
  */
 static enum run punch_run(struct punching *punching) {
     struct frames *frames = punching->frames;
@@ -78,7 +81,10 @@ static enum run punch_run(struct punching *punching) {
     return is_refused ? RUN_REFUSED : RUN_DONE;
 }
 
-/* Gives back runs until a turn's time is over and no lend waits, or nothing is listed any more, or the system refuses. Returns whether it did. */
+/*
+ * Gives back runs until a turn's time is over and no lend waits, or nothing is listed any more, or the system refuses. Returns
+ * whether it did.
+ */
 static bool punch_some(struct punching *punching) {
     struct frames *frames = punching->frames;
     uint64_t begin = now_ns();

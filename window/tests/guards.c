@@ -233,7 +233,9 @@ static void write_comes_first(bool never_move, bool are_given_up) {
     fixture_free(&fixture);
 }
 
-/* What was said of a window can't be said of zeros in it: they are a mapping by themselves, and none is left out of the count. */
+/*
+ * What was said of a window can't be said of zeros in it: they are a mapping by themselves, and none is left out of the count.
+ */
 static void zeros_are_unlike(void) {
     enum { FIRST = 20, COUNT = 8 };
     const struct windows_config config = {.pins = WINDOWS_PINS_NEVER};
@@ -391,7 +393,10 @@ static void take_mappings(uint8_t *at, size_t pages) {
     }
 }
 
-/* A part of the library's own memory can't be unmapped where the process has as many mappings as it may have: a look unmaps it later. */
+/*
+ * A part of the library's own memory can't be unmapped where the process has as many mappings as it may have: a look unmaps it
+ * later.
+ */
 static void unmap_fails(void) {
     enum { MOST = 1 << 18 };
     const int kind = MAP_PRIVATE | MAP_ANONYMOUS | MAP_NORESERVE;
