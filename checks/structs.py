@@ -38,7 +38,7 @@ STRUCTS = {
     "WindowPartLook": "pageshare_window_part_look", "OfferedRange": "pageshare_window_range", "Piece": "pageshare_window_piece",
     "OfferedBounds": "pageshare_window_range_bounds", "Transfer": "pageshare_window_transfer", "FindOutcome": "pageshare_window_find_outcome",
     "WindowLook": "pageshare_window_look", "LookSteps": "pageshare_window_steps", "PartReturn": "pageshare_window_return",
-    "WindowTask": "pageshare_window_task", "LookTasks": "pageshare_window_tasks", "TaskOutcome": "pageshare_window_outcome",
+    "WindowTask": "pageshare_window_task", "WindowRowOrder": "pageshare_window_row_order", "LookTasks": "pageshare_window_tasks", "TaskOutcome": "pageshare_window_outcome",
     "Taken": "pageshare_window_taken", "LookFinds": "pageshare_window_finds", "LookTimes": "pageshare_window_times",
 }
 # A handle has a pointer and a flag; what is in it is private, and so are its names.

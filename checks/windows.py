@@ -73,8 +73,11 @@ REFUSED = "else pageshare_window_refused("
 LEAVES = "(struct pageshare_window_facts){.leaves = true}"
 WITHDRAWN = "if (order != PAGESHARE_WINDOW_RELEASE) pageshare_window_withdraw(&window->pages[number]);"
 WATCHED = "is_begun ? PAGESHARE_WINDOW_TAKEN_WATCHED : PAGESHARE_WINDOW_NOT_TAKEN"
-PUT = "\n        if (cause == 0 && remapped)"
 ALONE = "return !joins_before && (behind == window->count"
+NOT_PUT = "hold->stuck_cause = cause;\n            return (struct came){.done = done, .refused = 1};"
+NOT_MAPPED = "note_failure(windows, WINDOW_NO_MAPPING, cause);\n        return (struct came){.refused = todo->count};"
+NOT_ENDED = "hold->stuck_cause = cause;\n    return (struct came){.refused = todo->count};"
+ENDED = "if (cause == 0) return (struct came){.done = todo->count};"
 COMPARED = "is_equal = is_frame ? are_equal(page, windows->frames_at + bytes_of(frame)) : is_zero(page);"
 REFUSED_DISCARD = "        return result_of(WINDOW_NO_MAPPING, errno);\n    if (is_over_frame"
 # In place of a call's name: its arguments are looked at, and the call is left out.
@@ -116,11 +119,11 @@ BODIES = {
                                                "return &window->counts[page * 0];", ["parts"]),
     "forgets slots to release": Body("set.h", "belief_of(page) <= PAGESHARE_WINDOW_UNRELEASED;",
                                      "belief_of(page) <= PAGESHARE_WINDOW_HOMING;", ["pages"]),
-    "never says that a watch ended": Body("lend.c", "    note_step(hold, i, is_done);", "", ["guards"]),
+    "never says that a watch ended": Body("lend.c", ENDED, ENDED.replace(".done", ".refused"), ["guards"]),
     "takes what is watched for what was refused": Body("lend.c", WATCHED, "PAGESHARE_WINDOW_NOT_TAKEN", ["guards"]),
     "takes what is aside for guarded": Body("lend.c", "hold->moves ? PAGESHARE_WINDOW_TAKEN_ASIDE :", "false ? 0 :", ["parts"]),
-    "counts what can't be put back as put back": Body("lend.c", f"cause == 0);{PUT}", f"true);{PUT}", ["guards"]),
-    "counts what can't be mapped as mapped": Body("lend.c", "note_step(hold, place, cause == 0);", "note_step(hold, place, true);", ["guards"]),
+    "counts what can't be put back as put back": Body("lend.c", NOT_PUT, NOT_PUT.replace("done, .refused = 1", "done + 1"), ["guards"]),
+    "counts what can't be mapped as mapped": Body("lend.c", NOT_MAPPED, NOT_MAPPED.replace(".refused", ".done"), ["guards"]),
     "keeps memory of what stays": Body("home.c", "if (cause != 0 || home->stays[i]) unmap_apart(", "if (home->stays[i]) unmap_apart(", ["refusals"]),
     "forgets what can't be unmapped": Body("tasks.c", "    unmap_again();\n", "", ["guards"]),
     "keeps the memory of what can't be unmapped": Body("kernel.c", "madvise(at, bytes, MADV_DONTNEED); /*", "/*", ["guards"]),
@@ -137,9 +140,9 @@ BODIES = {
     "joins zeros of which too little was said": Body("pages.c", "is_alone || !is_said", "is_alone || (!is_said && false)", ["guards"]),
     "joins zeros that were written": Body("pages.c", "|| memchr(written, true, count) == NULL", "|| count > 0", ["guards"]),
     "joins mappings that lie apart": Body("pages.c", "frame, is_alone || !is_said);", "frame, !is_said);", ["pages"]),
-    "forgets what is stuck": Body("lend.c", "        add_stuck(windows, hold->window,", "        if (false) add_stuck(windows, hold->window,", ["guards"]),
-    "keeps the order of what is stuck": Body("lend.c", "pageshare_window_withdraw(page_of(hold, i));", ";", ["guards"]),
-    "counts what stays stuck as let go": Body("pages.c", "stuck->place, cause == 0);", "stuck->place, true);", ["guards"]),
+    "forgets what is stuck": Body("lend.c", "!= 0) add_stuck(window,", "!= 0 && false) add_stuck(window,", ["guards"]),
+    "goes on with nothing that is stuck": Body("lend.c", "pageshare_window_row_again(stuck.byte);", "stuck.byte;", ["guards"]),
+    "counts what stays stuck as let go": Body("lend.c", NOT_ENDED, NOT_ENDED.replace(".refused", ".done"), ["guards"]),
     "attends to nothing": Body("tasks.c", "windows->attend == NULL || ", "windows->attend == NULL || true || ", ["tasks"]),
     "goes on when a look is to end": Body("tasks.c", "return !look->is_cut_short;", "return true;", ["tasks"]),
     "counts no processor time": Body("tasks.c", "return windows->has_budget ?", "return false ?", ["tasks"]),

@@ -19,31 +19,24 @@ struct hold {
     bool moves;        /* they are taken out of their place; otherwise writes are guarded */
     size_t scratch;    /* where they are then, in the scratch area */
     bool any_file;     /* a frame was mapped */
+    bool any_remapped; /* other memory than the scratch area's is at a place since */
+    int stuck_cause;   /* what the system refused to let pages go with, or 0 */
     bool held[HOLD_MOST];
-    bool zeros[HOLD_MOST];     /* zeros were mapped */
-    uint8_t places[HOLD_MOST]; /* where the memory of each is: the library writes it */
+    uint8_t row[HOLD_MOST]; /* of each page, where its memory is, and whether it is stuck: the library writes it */
+    bool zeros[HOLD_MOST];  /* zeros were mapped */
 };
 
 static page_entry *page_of(const struct hold *hold, size_t i) { return &hold->window->pages[hold->first + i]; }
 
-static struct pageshare_window_counts *counts_of(const struct hold *hold, size_t i) {
-    return part_counts(hold->window, hold->first + i);
+static uint8_t *place_of(const struct hold *hold, size_t i) { return address_of(hold->window, hold->first + i); }
+
+static uint8_t *aside_of(const struct hold *hold, size_t i) {
+    return hold->window->windows->scratch + bytes_of(hold->scratch + i);
 }
 
-/* What is to be done with a page next: enum pageshare_window_hold_step. */
-static unsigned step_of(const struct hold *hold, size_t i) {
-    const struct pageshare_window_facts facts = facts_of(hold->window, hold->first + i);
-    return pageshare_window_hold_step(page_of(hold, i), counts_of(hold, i), &facts, hold->places[i]);
-}
-
-/* Whether that was done. */
-static void note_step(struct hold *hold, size_t i, bool is_done) {
-    hold->places[i] = pageshare_window_hold_done(page_of(hold, i), counts_of(hold, i), hold->places[i], is_done);
-}
-
-static uint8_t *place_of(const struct hold *hold, size_t i) {
-    if (hold->moves) return hold->window->windows->scratch + bytes_of(hold->scratch + i);
-    return address_of(hold->window, hold->first + i);
+/* The memory of a page that is held. */
+static const uint8_t *memory_of(const struct hold *hold, size_t i) {
+    return hold->row[i] == PAGESHARE_WINDOW_PLACE_ASIDE ? aside_of(hold, i) : place_of(hold, i);
 }
 
 static uint32_t number_of(const struct hold *hold, size_t i) { return hold->window->base + (uint32_t)(hold->first + i); }
@@ -91,7 +84,7 @@ static bool begin_hold(struct hold *hold) {
     if (hold->moves) {
         hold->scratch = windows->scratch_used;
         windows->scratch_used += hold->count;
-        faults_move(&windows->faults, place_of(hold, 0), at, hold->count, hold->held);
+        faults_move(&windows->faults, aside_of(hold, 0), at, hold->count, hold->held);
     } else {
         guard(hold);
     }
@@ -100,35 +93,46 @@ static bool begin_hold(struct hold *hold) {
 
 /* The pages are held that can be. (Writes to one that isn't may wait all the same, until the watch ends.) */
 static void take(struct hold *hold) {
+    struct window *window = hold->window;
+    struct trace *trace = window->windows->trace;
+    uint8_t takings[HOLD_MOST];
     bool is_begun = begin_hold(hold);
     for (size_t i = 0; i < hold->count; i++) {
         unsigned held = hold->moves ? PAGESHARE_WINDOW_TAKEN_ASIDE : PAGESHARE_WINDOW_TAKEN_GUARDED;
         unsigned taking = hold->held[i] ? held : is_begun ? PAGESHARE_WINDOW_TAKEN_WATCHED : PAGESHARE_WINDOW_NOT_TAKEN;
-        hold->places[i] = pageshare_window_begin_hold(page_of(hold, i), counts_of(hold, i), (uint8_t)taking);
+        takings[i] = (uint8_t)taking;
         hold->left += hold->held[i] ? 1 : 0;
-        hold->window->windows->counts.pinned += hold->held[i] ? 0 : 1;
+        window->windows->counts.pinned += hold->held[i] ? 0 : 1;
+    }
+    pageshare_window_begin_row(window->pages, window->count, window->counts, parts_in(window), window->lead, hold->first,
+                               hold->row, hold->count, takings, hold->count);
+    for (size_t i = 0; i < hold->count; i++) {
+        if (!hold->held[i]) continue;
+        trace_content(trace, number_of(hold, i), memory_of(hold, i));
+        trace_guard(trace, number_of(hold, i));
     }
 }
 
-/* Compares a page that nobody can write. */
-static void compare_one(struct hold *hold, size_t i) {
-    struct windows *windows = hold->window->windows;
-    const uint8_t *page = place_of(hold, i);
-    uint32_t frame = page_of(hold, i)->frame;
-    unsigned step = step_of(hold, i);
-    bool is_frame = step == PAGESHARE_WINDOW_HOLD_COMPARE;
-    bool is_compared = is_frame || step == PAGESHARE_WINDOW_HOLD_COMPARE_ZEROS, is_equal = false;
-    if (is_compared) is_equal = is_frame ? are_equal(page, windows->frames_at + bytes_of(frame)) : is_zero(page);
-    trace_content(windows->trace, number_of(hold, i), page);
-    trace_guard(windows->trace, number_of(hold, i));
-    if (is_equal && is_frame) trace_lend(windows->trace, number_of(hold, i), frame);
-    if (is_compared) note_step(hold, i, is_equal);
-    windows->counts.changed += is_equal ? 0 : 1;
-}
+/* What came of an order: with so many of its pages it was carried out, and with so many behind them it was refused. */
+struct came {
+    size_t done, refused;
+};
+typedef struct came hold_do(struct hold *hold, const struct pageshare_window_row_order *todo);
 
-static void compare(struct hold *hold) {
-    for (size_t i = 0; i < hold->count; i++)
-        if (hold->held[i]) compare_one(hold, i);
+/* Compares pages that nobody can write, up to the first one that differs. */
+static struct came compare(struct hold *hold, const struct pageshare_window_row_order *todo) {
+    struct windows *windows = hold->window->windows;
+    bool is_frame = todo->step == PAGESHARE_WINDOW_HOLD_COMPARE;
+    for (size_t done = 0; done < todo->count; done++) {
+        size_t i = todo->first + done;
+        const uint8_t *page = memory_of(hold, i);
+        uint32_t frame = page_of(hold, i)->frame;
+        bool is_equal = is_frame ? are_equal(page, windows->frames_at + bytes_of(frame)) : is_zero(page);
+        windows->counts.changed += is_equal ? 0 : 1;
+        if (!is_equal) return (struct came){.done = done, .refused = 1};
+        if (is_frame) trace_lend(windows->trace, number_of(hold, i), frame);
+    }
+    return (struct came){.done = todo->count};
 }
 
 /* (each of these pages is asked about again at one of so many looks) */
@@ -155,62 +159,50 @@ static void note_held(struct hold *hold, size_t count) {
 }
 
 /* Maps frames in a row, or zeros, and lets the threads go on that wait for them. */
-static void map_run(struct hold *hold, size_t i, size_t count, bool is_frame) {
+static struct came map(struct hold *hold, const struct pageshare_window_row_order *todo) {
     struct windows *windows = hold->window->windows;
-    uint32_t target = is_frame ? page_of(hold, i)->frame : ZEROS;
-    int cause = map_pages(hold->window, hold->first + i, count, target, PROT_READ | PROT_WRITE);
+    bool is_frame = todo->step == PAGESHARE_WINDOW_HOLD_MAP;
+    uint32_t target = is_frame ? page_of(hold, todo->first)->frame : ZEROS;
+    trace_dawdle();
+    int cause = map_pages(hold->window, hold->first + todo->first, todo->count, target, PROT_READ | PROT_WRITE);
     if (cause != 0) {
-        note_crowded(windows, count);
+        note_crowded(windows, todo->count);
         note_failure(windows, WINDOW_NO_MAPPING, cause);
+        return (struct came){.refused = todo->count};
     }
-    for (size_t place = i; place < i + count; place++) {
-        note_step(hold, place, cause == 0);
-        if (cause == 0 && is_frame) trace_map(windows->trace, number_of(hold, place));
-    }
-    if (cause != 0) return;
+    for (size_t i = todo->first; i < todo->first + todo->count && is_frame; i++) trace_map(windows->trace, number_of(hold, i));
     hold->any_file = hold->any_file || is_frame;
-    memset(hold->zeros + i, !is_frame, count);
-    windows->counts.lends += is_frame ? count : 0;
+    memset(hold->zeros + todo->first, !is_frame, todo->count);
+    windows->counts.lends += is_frame ? todo->count : 0;
     /* (if nobody is woken here the end of the watch does it; a page that was taken out is given back only then) */
-    if (faults_wake(&windows->faults, address_of(hold->window, hold->first + i), count) == 0) note_held(hold, count);
+    if (faults_wake(&windows->faults, place_of(hold, todo->first), todo->count) == 0) note_held(hold, todo->count);
+    return (struct came){.done = todo->count};
 }
 
-/* Shows what is to be shown. */
-static void map(struct hold *hold) {
-    unsigned steps[HOLD_MOST];
-    for (size_t i = 0; i < hold->count; i++) steps[i] = step_of(hold, i);
-    for (size_t i = 0, count = 1; i < hold->count; i += count, count = 1) {
-        if (steps[i] != PAGESHARE_WINDOW_HOLD_MAP && steps[i] != PAGESHARE_WINDOW_HOLD_GIVE_BACK) continue;
-        size_t row = pageshare_window_row(page_of(hold, i), hold->count - i);
-        count = row > 0 ? row : 1;
-        map_run(hold, i, count, steps[i] == PAGESHARE_WINDOW_HOLD_MAP);
+/* Puts back what was taken out, up to the first page that the system refuses to put back. */
+static struct came put_back(struct hold *hold, const struct pageshare_window_row_order *todo) {
+    struct faults *faults = &hold->window->windows->faults;
+    for (size_t done = 0; done < todo->count; done++) {
+        size_t i = todo->first + done;
+        bool remapped = false;
+        int cause = faults_put(faults, place_of(hold, i), aside_of(hold, i), &remapped);
+        if (cause != 0) {
+            hold->stuck_cause = cause;
+            return (struct came){.done = done, .refused = 1};
+        }
+        if (remapped) note_moved(hold->window, hold->first + i, 1);
+        hold->any_remapped = hold->any_remapped || remapped;
     }
-}
-
-/* Puts back what was taken out and isn't shown. Returns whether other memory than the scratch area's is at its place since. */
-static bool put_back(struct hold *hold) {
-    struct windows *windows = hold->window->windows;
-    bool any_remapped = false, remapped = false;
-    for (size_t i = 0; i < hold->count; i++) {
-        if (step_of(hold, i) != PAGESHARE_WINDOW_HOLD_PUT_BACK) continue;
-        int cause = faults_put(&windows->faults, address_of(hold->window, hold->first + i), place_of(hold, i), &remapped);
-        note_step(hold, i, cause == 0);
-        if (cause == 0 && remapped) note_moved(hold->window, hold->first + i, 1);
-        any_remapped = any_remapped || (cause == 0 && remapped);
-        if (cause == 0) continue;
-        note_failure(windows, WINDOW_STUCK, cause);
-        add_stuck(windows, hold->window, hold->first + i, hold->places[i], hold->scratch + i);
-    }
-    return any_remapped;
+    return (struct came){.done = todo->count};
 }
 
 /* Notes that nobody waits for a page any longer, unless the system refused that. */
 static void note_end(struct hold *hold, size_t i, bool is_done) {
     struct windows *windows = hold->window->windows;
-    unsigned belief = belief_of(page_of(hold, i));
-    bool is_given = belief == PAGESHARE_WINDOW_EQUAL_ZEROS || hold->places[i] == PAGESHARE_WINDOW_PLACE_REPLACED;
-    note_step(hold, i, is_done);
-    if (belief == PAGESHARE_WINDOW_EQUAL_ZEROS) {
+    const page_entry *page = page_of(hold, i);
+    bool is_zeros = belief_of(page) == PAGESHARE_WINDOW_EQUAL_ZEROS;
+    bool is_given = is_zeros || is_lent(page);
+    if (is_zeros) {
         note_zero(hold->window, hold->first + i, true);
         windows->counts.zeros++;
         if (is_done) trace_discard(windows->trace, number_of(hold, i));
@@ -218,28 +210,48 @@ static void note_end(struct hold *hold, size_t i, bool is_done) {
     if (hold->held[i] && !is_given && is_done) trace_unguard(windows->trace, number_of(hold, i));
 }
 
-/* Lets the threads go on that wait for pages, but for those that could not be put back: their place must not be touched. */
-static void end_watch(struct hold *hold) {
-    for (size_t i = 0, count = 1; i < hold->count; i += count, count = 1) {
-        if (step_of(hold, i) != PAGESHARE_WINDOW_HOLD_END_WATCH) continue;
-        while (i + count < hold->count && step_of(hold, i + count) == PAGESHARE_WINDOW_HOLD_END_WATCH) count++;
-        int cause = let_waiters_go(hold->window, hold->first + i, count);
-        if (cause != 0) note_failure(hold->window->windows, WINDOW_STUCK, cause);
-        for (size_t place = i; place < i + count; place++) note_end(hold, place, cause == 0);
-    }
-    /* (what is stuck is ordered again by a later look) */
-    for (size_t i = 0; i < hold->count; i++)
-        if (hold->places[i] == PAGESHARE_WINDOW_PLACE_ASIDE) pageshare_window_withdraw(page_of(hold, i));
+/* Lets the threads go on that wait for pages. */
+static struct came end_watch(struct hold *hold, const struct pageshare_window_row_order *todo) {
+    int cause = faults_end_watch(&hold->window->windows->faults, place_of(hold, todo->first), todo->count);
+    for (size_t i = todo->first; i < todo->first + todo->count; i++) note_end(hold, i, cause == 0);
+    if (cause == 0) return (struct came){.done = todo->count};
+    hold->stuck_cause = cause;
+    return (struct came){.refused = todo->count};
 }
 
-/* Lets all go that isn't shown. What is stuck is let go later. */
-static void let_go(struct hold *hold) {
-    struct windows *windows = hold->window->windows;
-    bool any_remapped = put_back(hold);
-    end_watch(hold);
-    if (windows->stuck_count > 0 || !any_remapped) return;
-    int cause = make_scratch(windows);
-    if (cause != 0) note_failure(windows, WINDOW_NO_MAPPING, cause);
+/* Carries out the orders of a row, one after another. What the system refuses to let go is kept for a later look. */
+static void carry_out(struct hold *hold) {
+    static hold_do *const does[] = {
+        [PAGESHARE_WINDOW_HOLD_COMPARE] = compare,   [PAGESHARE_WINDOW_HOLD_COMPARE_ZEROS] = compare,
+        [PAGESHARE_WINDOW_HOLD_MAP] = map,           [PAGESHARE_WINDOW_HOLD_GIVE_BACK] = map,
+        [PAGESHARE_WINDOW_HOLD_PUT_BACK] = put_back, [PAGESHARE_WINDOW_HOLD_END_WATCH] = end_watch,
+    };
+    struct window *window = hold->window;
+    struct pageshare_window_row_order todo;
+    while ((todo = next_of_row(window, hold->first, hold->row, hold->count)).step != PAGESHARE_WINDOW_HOLD_OVER) {
+        const struct came came = does[todo.step](hold, &todo);
+        pageshare_window_row_done(window->pages, window->count, window->counts, parts_in(window), window->lead, hold->first,
+                                  hold->row, hold->count, &todo, came.done, came.refused);
+    }
+    for (size_t i = 0; i < hold->count; i++)
+        if ((hold->row[i] & PAGESHARE_WINDOW_STUCK) != 0) add_stuck(window, hold->first + i, hold->row[i], hold->scratch + i);
+}
+
+int free_stuck(struct windows *windows) {
+    size_t count = windows->stuck_count;
+    int cause = 0;
+    bool any_remapped = false;
+    windows->stuck_count = 0;
+    for (size_t i = 0; i < count; i++) {
+        const struct stuck stuck = windows->stuck[i];
+        struct hold hold = {.window = stuck.window, .first = stuck.page, .count = 1, .scratch = stuck.scratch, .held = {true}};
+        hold.row[0] = pageshare_window_row_again(stuck.byte);
+        carry_out(&hold);
+        cause = hold.stuck_cause != 0 ? hold.stuck_cause : cause;
+        any_remapped = any_remapped || hold.any_remapped;
+    }
+    if (windows->stuck_count > 0) return cause;
+    return any_remapped ? make_scratch(windows) : clear_scratch(windows);
 }
 
 /* No child of a fork may have frames that were mapped: it would go on showing them when they are released. */
@@ -266,13 +278,14 @@ static void settle(struct hold *hold) {
     struct windows *windows = hold->window->windows;
     uint64_t spent = clock_spent_ns();
     take(hold);
-    compare(hold);
-    trace_dawdle();
-    map(hold);
-    let_go(hold);
+    carry_out(hold);
+    if (hold->stuck_cause != 0) note_failure(windows, WINDOW_STUCK, hold->stuck_cause);
+    int cause = hold->any_remapped && windows->stuck_count == 0 ? make_scratch(windows) : 0;
+    if (cause != 0) note_failure(windows, WINDOW_NO_MAPPING, cause);
     note_zeros(hold);
     note_held(hold, hold->left);
-    for (size_t i = 0; i < hold->count; i++) pageshare_window_held(page_of(hold, i), counts_of(hold, i), hold->held[i]);
+    for (size_t i = 0; i < hold->count; i++)
+        pageshare_window_held(page_of(hold, i), part_counts(hold->window, hold->first + i), hold->held[i]);
     if (hold->any_file) say_again(hold->window, hold->first, hold->count, true);
     if (hold->any_file) keep_from_children(hold);
     windows->counts.map_ns += clock_spent_ns() - spent;

@@ -115,6 +115,15 @@ bool are_movable(const struct window *window, size_t first, size_t count) {
                                         window->windows->transfers, TRANSFERS_MOST, first, count);
 }
 
+struct pageshare_window_row_order next_of_row(struct window *window, size_t first, const uint8_t *row, size_t count) {
+    const struct pageshare_window_table_facts table = table_of(window);
+    struct pageshare_window_row_order order;
+    pageshare_window_next_of_row(window->pages, window->count, window->counts, parts_in(window), window->lead, &table,
+                                 pins_of(window), pins_in(window), window->windows->transfers, TRANSFERS_MOST, first, row, count,
+                                 &order);
+    return order;
+}
+
 void hear_written(struct window *window, size_t number) {
     pageshare_window_written(&window->pages[number], part_counts(window, number));
 }
@@ -252,56 +261,16 @@ int clear_scratch(struct windows *windows) {
     return 0;
 }
 
-void add_stuck(struct windows *windows, struct window *window, size_t page, uint8_t place, size_t scratch) {
+void add_stuck(struct window *window, size_t page, uint8_t byte, size_t scratch) {
+    struct windows *windows = window->windows;
     windows->stuck[windows->stuck_count++] =
-        (struct stuck){.window = window, .page = (uint32_t)page, .place = place, .scratch = (uint32_t)scratch};
+        (struct stuck){.window = window, .page = (uint32_t)page, .byte = byte, .scratch = (uint32_t)scratch};
 }
 
 int let_waiters_go(struct window *window, size_t first, size_t count) {
     struct windows *windows = window->windows;
     int cause = faults_end_watch(&windows->faults, address_of(window, first), count);
     for (size_t page = first; page < first + count && cause != 0 && windows->stuck_count < PART; page++)
-        add_stuck(windows, window, page, PAGESHARE_WINDOW_PLACE_GUARDED, 0);
+        add_stuck(window, page, PAGESHARE_WINDOW_PLACE_GUARDED, 0);
     return cause;
-}
-
-static unsigned step_of_stuck(const struct stuck *stuck) {
-    const struct pageshare_window_facts facts = facts_of(stuck->window, stuck->page);
-    page_entry *page = &stuck->window->pages[stuck->page];
-    return pageshare_window_hold_step(page, part_counts(stuck->window, stuck->page), &facts, stuck->place);
-}
-
-/* Does the next step with a page that is stuck. Returns 0, or the errno of what the system refuses still. */
-static int step_stuck(struct windows *windows, struct stuck *stuck, unsigned step, bool *any_remapped) {
-    struct window *window = stuck->window;
-    uint8_t *at = address_of(window, stuck->page);
-    bool remapped = false;
-    int cause = EBUSY;
-    if (step == PAGESHARE_WINDOW_HOLD_PUT_BACK)
-        cause = faults_put(&windows->faults, at, windows->scratch + bytes_of(stuck->scratch), &remapped);
-    else if (step == PAGESHARE_WINDOW_HOLD_END_WATCH) cause = faults_end_watch(&windows->faults, at, 1);
-    else return cause;
-    stuck->place =
-        pageshare_window_hold_done(&window->pages[stuck->page], part_counts(window, stuck->page), stuck->place, cause == 0);
-    if (cause == 0 && remapped) note_moved(window, stuck->page, 1);
-    *any_remapped = *any_remapped || (cause == 0 && remapped);
-    return cause;
-}
-
-int free_stuck(struct windows *windows) {
-    size_t left = 0;
-    int cause = 0;
-    bool any_remapped = false;
-    for (size_t i = 0; i < windows->stuck_count; i++) {
-        struct stuck stuck = windows->stuck[i];
-        int refused = 0;
-        for (unsigned step; refused == 0 && (step = step_of_stuck(&stuck)) != PAGESHARE_WINDOW_HOLD_OVER;)
-            refused = step_stuck(windows, &stuck, step, &any_remapped);
-        if (refused == 0) trace_unguard(windows->trace, stuck.window->base + stuck.page);
-        else windows->stuck[left++] = stuck;
-        cause = refused != 0 ? refused : cause;
-    }
-    windows->stuck_count = left;
-    if (left > 0) return cause;
-    return any_remapped ? make_scratch(windows) : clear_scratch(windows);
 }

@@ -18,6 +18,13 @@
  *     pageshare_window_begin(&budget, 2, 25, now, used);            2 percent of one processor, 25 while there is a credit
  *     uint64_t wait = pageshare_window_settle(&budget, now, used);  how long the thread sleeps before it asks again; 0: it may work
  *
+ * Held pages in a row, each with a byte of `row`:
+ *
+ *     pageshare_window_begin_row(pages, 4096, parts, 8, 0, 512, row, 16, takings, 16);
+ *     while (pageshare_window_next_of_row(pages, 4096, parts, 8, 0, &table, pins, 0, transfers, 128, 512, row, 16, &order),
+ *            order.step != PAGESHARE_WINDOW_HOLD_OVER)
+ *         pageshare_window_row_done(pages, 4096, parts, 8, 0, 512, row, 16, &order, done, refused);  once the order was carried out
+ *
  * A look, of tasks that are carried out one after another:
  *
  *     static struct pageshare_window_tasks tasks;
@@ -300,44 +307,6 @@ bool pageshare_window_refused(struct pageshare_window_page *page, struct pagesha
 bool pageshare_window_lent(struct pageshare_window_page *page, struct pageshare_window_counts *part, uint32_t slot,
                            uint32_t frame);
 
-/* What came of an attempt to hold a page. */
-enum pageshare_window_taking {
-    PAGESHARE_WINDOW_NOT_TAKEN = 0,     /* nothing was done */
-    PAGESHARE_WINDOW_TAKEN_WATCHED = 1, /* it isn't held, but writes to it may wait */
-    PAGESHARE_WINDOW_TAKEN_GUARDED = 2, /* it is at its place, and writes to it wait */
-    PAGESHARE_WINDOW_TAKEN_ASIDE = 3    /* its memory was moved aside; reads and writes at its place wait */
-};
-
-/* Where the memory of a page is while the page is held. The library alone writes it. */
-enum pageshare_window_held_place {
-    PAGESHARE_WINDOW_PLACE_FREE = 0,    /* at its place, and nobody waits */
-    PAGESHARE_WINDOW_PLACE_GUARDED = 1, /* at its place, and writes to it may wait */
-    PAGESHARE_WINDOW_PLACE_ASIDE = 2,   /* aside; nothing is at its place, and reads and writes there wait */
-    PAGESHARE_WINDOW_PLACE_REPLACED = 3 /* what it equals took its place; threads that came before may wait */
-};
-
-/* What is done next with a page that is held. */
-enum pageshare_window_hold_step {
-    PAGESHARE_WINDOW_HOLD_OVER = 0,          /* nothing is left to do */
-    PAGESHARE_WINDOW_HOLD_COMPARE = 1,       /* its memory is compared with its frame */
-    PAGESHARE_WINDOW_HOLD_COMPARE_ZEROS = 2, /* with zeros */
-    PAGESHARE_WINDOW_HOLD_MAP = 3,           /* its frame is mapped at its place */
-    PAGESHARE_WINDOW_HOLD_GIVE_BACK = 4,     /* zeros are mapped there */
-    PAGESHARE_WINDOW_HOLD_PUT_BACK = 5,      /* its memory is moved back to its place */
-    PAGESHARE_WINDOW_HOLD_END_WATCH = 6      /* nobody waits for it any longer; where nothing is at its place, zeros are then */
-};
-
-/*
- * A hold of a page. begin_hold takes what came of the attempt, enum pageshare_window_taking, and returns where its memory is, enum
- * pageshare_window_held_place. hold_step returns what is done next with a page whose memory is there, enum pageshare_window_hold_step. hold_done
- * takes whether that was done, or was refused and has changed nothing, and returns where the memory is then.
- */
-uint8_t pageshare_window_begin_hold(struct pageshare_window_page *page, struct pageshare_window_counts *part, uint8_t taking);
-uint8_t pageshare_window_hold_step(struct pageshare_window_page *page, struct pageshare_window_counts *part,
-                                   const struct pageshare_window_facts *facts, uint8_t place);
-uint8_t pageshare_window_hold_done(struct pageshare_window_page *page, struct pageshare_window_counts *part, uint8_t place,
-                                   bool is_done);
-
 /* A copy over the page's frame was found, or it has memory of its own. Returns false, and changes nothing, while an order is open that
  * touches the page. */
 bool pageshare_window_written(struct pageshare_window_page *page, struct pageshare_window_counts *part);
@@ -359,13 +328,10 @@ void pageshare_window_see(struct pageshare_window_page *page, struct pageshare_w
 /*
  * How many of these pages, from the first one on,
  *   are over frames or not, and have left the window or not, as the first is and has;
- *   are the window's (a frame lies under them still, or they haven't left it), or aren't, as the first;
- *   can be mapped or given back by one call: their orders to map are open, and their frames are in a row; or their orders to give memory back
- *   are open. 0 if neither is so of the first.
+ *   are the window's (a frame lies under them still, or they haven't left it), or aren't, as the first.
  */
 size_t pageshare_window_alike(const struct pageshare_window_page *pages, size_t count);
 size_t pageshare_window_here(const struct pageshare_window_page *pages, size_t count);
-size_t pageshare_window_row(const struct pageshare_window_page *pages, size_t count);
 /* How many of them come before the first one whose slot is to be released, and of which no order is open. */
 size_t pageshare_window_before_release(const struct pageshare_window_page *pages, size_t count);
 
@@ -428,6 +394,65 @@ bool pageshare_window_leave(struct pageshare_window_page *pages, size_t pages_co
 /* Their lender is gone, and no slot of theirs counts any more. What they show stays. */
 bool pageshare_window_detach(struct pageshare_window_page *pages, size_t pages_count, struct pageshare_window_counts *parts,
                              size_t parts_count, size_t lead, size_t first, size_t count);
+
+/* What came of an attempt to hold a page. */
+enum pageshare_window_taking {
+    PAGESHARE_WINDOW_NOT_TAKEN = 0,     /* nothing was done */
+    PAGESHARE_WINDOW_TAKEN_WATCHED = 1, /* it isn't held, but writes to it may wait */
+    PAGESHARE_WINDOW_TAKEN_GUARDED = 2, /* it is at its place, and writes to it wait */
+    PAGESHARE_WINDOW_TAKEN_ASIDE = 3    /* its memory was moved aside; reads and writes at its place wait */
+};
+
+/* The byte of a page that is held: where its memory is, and whether the page is stuck. The library alone writes it. */
+enum pageshare_window_held_place {
+    PAGESHARE_WINDOW_PLACE_FREE = 0,     /* at its place, and nobody waits */
+    PAGESHARE_WINDOW_PLACE_GUARDED = 1,  /* at its place, and writes to it may wait */
+    PAGESHARE_WINDOW_PLACE_ASIDE = 2,    /* aside; nothing is at its place, and reads and writes there wait */
+    PAGESHARE_WINDOW_PLACE_REPLACED = 3, /* what it equals took its place; threads that came before may wait */
+    PAGESHARE_WINDOW_STUCK = 4 /* besides: the system refused to put it back or to end its watch, and it has no order any more */
+};
+
+/* What is done next with pages that are held. */
+enum pageshare_window_hold_step {
+    PAGESHARE_WINDOW_HOLD_OVER = 0,          /* nothing is left to do */
+    PAGESHARE_WINDOW_HOLD_COMPARE = 1,       /* its memory is compared with its frame */
+    PAGESHARE_WINDOW_HOLD_COMPARE_ZEROS = 2, /* with zeros */
+    PAGESHARE_WINDOW_HOLD_MAP = 3,           /* its frame is mapped at its place */
+    PAGESHARE_WINDOW_HOLD_GIVE_BACK = 4,     /* zeros are mapped there */
+    PAGESHARE_WINDOW_HOLD_PUT_BACK = 5,      /* its memory is moved back to its place */
+    PAGESHARE_WINDOW_HOLD_END_WATCH = 6      /* nobody waits for it any longer; where nothing is at its place, zeros are then */
+};
+
+/* What is done next with so many pages in a row: enum pageshare_window_hold_step. */
+struct pageshare_window_row_order {
+    size_t first; /* counted from the first page that is held */
+    size_t count;
+    uint8_t step;
+};
+
+/*
+ * Holds pages in a row, from the page `first` of a table on. `row` has a byte of each, enum pageshare_window_held_place.
+ *
+ * begin_row takes what came of the attempt to hold each of them, enum pageshare_window_taking. next_of_row finds what is done next: all are compared
+ * before anything is mapped, all is mapped before anything is put back, and watches end last. Frames that are to be mapped are in a row.
+ * row_done takes with how many of the order's pages that was done, and with how many behind these it was refused and has changed nothing; the
+ * others weren't tried, and are ordered again. begin_row and row_done return false, and change nothing, if the pages aren't all there, or if the
+ * table has more pages than its parts. Then the row is over.
+ *
+ * row_again returns the byte of a page with which a row of its own begins: it isn't stuck any more.
+ */
+bool pageshare_window_begin_row(struct pageshare_window_page *pages, size_t pages_count, struct pageshare_window_counts *parts,
+                                size_t parts_count, size_t lead, size_t first, uint8_t *row, size_t row_count,
+                                const uint8_t *takings, size_t takings_count);
+void pageshare_window_next_of_row(struct pageshare_window_page *pages, size_t pages_count, struct pageshare_window_counts *parts,
+                                  size_t parts_count, size_t lead, const struct pageshare_window_table_facts *table,
+                                  const uint16_t *pins, size_t pins_count, const struct pageshare_window_transfer *transfers,
+                                  size_t places, size_t first, const uint8_t *row, size_t row_count,
+                                  struct pageshare_window_row_order *order);
+bool pageshare_window_row_done(struct pageshare_window_page *pages, size_t pages_count, struct pageshare_window_counts *parts,
+                               size_t parts_count, size_t lead, size_t first, uint8_t *row, size_t row_count,
+                               const struct pageshare_window_row_order *order, size_t done, size_t refused);
+uint8_t pageshare_window_row_again(uint8_t byte);
 
 /* What is to be done with a part of a window: the pages that one huge page could hold. */
 enum pageshare_window_part_order {

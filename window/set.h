@@ -94,12 +94,12 @@ struct window {
     bool ended;      /* the range is the caller's again; only slots are left to release */
 };
 
-/* A page that was held and could not be let go. `place`: where its memory is, which the library writes; `scratch`: where in the scratch area it
- * is aside. */
+/* A page that was held and could not be let go. `byte`: that of a row, which the library writes; `scratch`: where in the scratch area it is
+ * aside. */
 struct stuck {
     struct window *window;
     uint32_t page, scratch;
-    uint8_t place;
+    uint8_t byte;
 };
 
 /* For how long the looking thread has had its processor. All is processor time of the thread. */
@@ -247,6 +247,8 @@ bool may_go_on(const struct window *window, size_t first, size_t count, struct p
 bool may_give_up(const struct window *window, size_t first, size_t count);
 /* Whether their memory may be exchanged for other memory: none is held, and nothing keeps one from being lent. */
 bool are_movable(const struct window *window, size_t first, size_t count);
+/* What is done next with held pages in a row, of which `row` has a byte each. */
+struct pageshare_window_row_order next_of_row(struct window *window, size_t first, const uint8_t *row, size_t count);
 /* A page was written to, or got memory of its own, by another's call. */
 void hear_written(struct window *window, size_t page);
 /* Pages were given back as zeros, or have memory again. */
@@ -289,7 +291,7 @@ bool say_again(struct window *window, size_t first, size_t count, bool is_file);
 int let_waiters_go(struct window *window, size_t first, size_t count);
 
 /* Keeps a page that could not be let go for a later look. With the lock. */
-void add_stuck(struct windows *windows, struct window *window, size_t page, uint8_t place, size_t scratch);
+void add_stuck(struct window *window, size_t page, uint8_t byte, size_t scratch);
 
 /* Puts pages back that a look could not. Returns 0, or an errno while some are left. With the lock. */
 int free_stuck(struct windows *windows);

@@ -1,3 +1,3 @@
-mod Courses
+pub mod Courses
 pub mod Kept
-mod Left
+pub mod Left

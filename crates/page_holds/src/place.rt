@@ -100,8 +100,8 @@ impl HeldPlace {
         }
     }
 
-    // Returns what is done next with a page there of which this is believed.
-    pub(crate) fn step(self, belief: Belief) -> HoldStep
+    /// Returns what is done next with a page whose memory is there, and of which this is believed.
+    pub fn step(self, belief: Belief) -> HoldStep
         ensures { result ≡ step_of belief self }
     {
         match belief {

@@ -1,24 +1,9 @@
--- The numbers of what a hold of a page is about.
+-- The numbers of what a row of held pages is about.
 use Rattle.std.specs.Prelude.{ℕ, ◌==◌, if◌then◌else◌}
-use Rattle.page_holds.specs.declared.place.HeldPlace.{HeldPlace}
-use Rattle.page_holds.specs.declared.place.HeldPlace.TheVariants.{Free, Guarded, Aside, Replaced}
+use Rattle.hold_rows.specs.declared.run.RowOrder.{RowOrder}
 use Rattle.page_holds.specs.declared.place.HoldStep.{HoldStep}
 use Rattle.page_holds.specs.declared.place.HoldStep.TheVariants.{Over, Compare, CompareZeros, Map, GiveBack, PutBack, EndWatch}
-use Rattle.page_holds.specs.declared.place.Taking.{Taking}
-
--- what came of an attempt to hold a page, by its number; nothing was done by any other
-abbrev pub taking_by : ℕ → Taking
-taking_by number = if number == 1 then Taking.Watched else (if number == 2 then Taking.Guarded else (if number == 3 then Taking.Aside else Taking.Refused))
-
--- where the page's memory is, by its number; at its place by any other
-abbrev pub place_by : ℕ → HeldPlace
-place_by number = if number == 1 then HeldPlace.Guarded else (if number == 2 then HeldPlace.Aside else (if number == 3 then HeldPlace.Replaced else HeldPlace.Free))
-
-abbrev pub place_number : HeldPlace → ℕ
-place_number Free = 0
-place_number Guarded = 1
-place_number Aside = 2
-place_number Replaced = 3
+use Rattle.pageshare_window_c.specs.declared.holds.WindowRowOrder.{WindowRowOrder}
 
 abbrev pub step_number : HoldStep → ℕ
 step_number Over = 0
@@ -28,3 +13,12 @@ step_number Map = 3
 step_number GiveBack = 4
 step_number PutBack = 5
 step_number EndWatch = 6
+
+-- what is done next, by its number; nothing by any other
+abbrev pub step_by : ℕ → HoldStep
+step_by number =
+    if number == 1 then Compare else (if number == 2 then CompareZeros else (if number == 3 then Map else (if number == 4 then GiveBack else (if number == 5 then PutBack else (if number == 6 then EndWatch else Over)))))
+
+-- an order, by its numbers
+abbrev pub order_by : WindowRowOrder → RowOrder
+order_by order = record { step = step_by order.step; first = order.first; count = order.count }

@@ -1,50 +1,25 @@
-//! What is done next with a page that is held, and where its memory is meanwhile.
-ghost use Rattle.std.specs.Prelude.{◌≡◌, true, false};
-ghost use Rattle.page_holds.specs.Steps.{Took, asks_for, outcome_for, place_after, place_of, step_of};
-ghost use Rattle.page_lender.specs.Decisions.{waiting};
-ghost use Rattle.pageshare_window_c.specs.Holds.{place_by, place_number, step_number, taking_by};
-ghost use Rattle.window_lender.specs.Calls.{IsOrdered, order_due};
-ghost use Rattle.window_pages.specs.Bytes.{belief_of, known_of};
-ghost use Rattle.window_pages.specs.Changed.{Lends};
-ghost use Rattle.window_pages.specs.Known.{bars_of, lender_of};
+//! What is done next with pages that are held in a row.
+ghost use Rattle.std.specs.Prelude.{◌≡◌, ◌%◌};
+ghost use Rattle.hold_rows.specs.Orders.{OrdersNext};
+ghost use Rattle.hold_rows.specs.Rows.{RowBegins, RowCameOut};
+ghost use Rattle.pageshare_window_c.specs.Holds.{order_by, step_number};
 
-use page_holds::{HeldPlace, HoldStep, Taking, begin, done, step};
-use window_pages::{PartCounts, WindowFacts, WindowPage};
+use hold_rows::{RowOrder, again, begin, next};
+use page_holds::HoldStep;
+use page_pins::Transfer;
+use window_pages::{PartCounts, WindowPage};
+use window_tables::TableFacts;
 
-// Returns what came of an attempt to hold a page, by its number.
-fn taking_by(number: u8) -> Taking
-    ensures { result ≡ taking_by number }
-{
-    match number {
-        1 => Taking::Watched,
-        2 => Taking::Guarded,
-        3 => Taking::Aside,
-        _ => Taking::Refused,
-    }
-}
-
-// Returns where a page's memory is, by its number.
-fn place_by(number: u8) -> HeldPlace
-    ensures { result ≡ place_by number }
-{
-    match number {
-        1 => HeldPlace::Guarded,
-        2 => HeldPlace::Aside,
-        3 => HeldPlace::Replaced,
-        _ => HeldPlace::Free,
-    }
-}
-
-// Returns the number of where a page's memory is.
-fn place_number(place: HeldPlace) -> u8
-    ensures { result ≡ place_number place }
-{
-    match place {
-        HeldPlace::Free => 0,
-        HeldPlace::Guarded => 1,
-        HeldPlace::Aside => 2,
-        HeldPlace::Replaced => 3,
-    }
+/// What is done next with pages of a row.
+#[repr(C)]
+#[derive(Clone, Copy)]
+pub struct WindowRowOrder {
+    /// The first of the pages, counted from the row's first one.
+    pub first: usize,
+    /// How many pages in a row they are.
+    pub count: usize,
+    /// The number of what is done.
+    pub step: u8,
 }
 
 // Returns the number of what is done next.
@@ -62,48 +37,81 @@ fn step_number(step: HoldStep) -> u8
     }
 }
 
-/// Takes what came of the attempt to hold a page whose order that was: 0 nothing was done, 1 writes to it may wait, 2 they wait, 3 its memory
-/// was moved aside. Returns where its memory is: 0 at its place, and nobody waits; 1 there, and writes may wait; 2 aside; 3 what it equals took its
-/// place.
-#[unsafe(no_mangle)]
-pub extern "C" fn pageshare_window_begin_hold(
-    page: &mut WindowPage,
-    part: &mut PartCounts,
-    taking: u8,
-) -> u8
-    ensures place { result ≡ place_number (place_of (taking_by taking)) }
-    ensures page { Took (asks_for (belief_of page.old) (taking_by taking)) page.old page.new part.old part.new }
+// Returns an order's numbers.
+fn order_numbers(order: RowOrder) -> WindowRowOrder
+    ensures order { order_by result ≡ order }
+    ensures step { result.step ≡ step_number order.step }
 {
-    place_number(begin(page, part, taking_by(taking)))
+    WindowRowOrder {
+        first: order.first,
+        count: order.count,
+        step: step_number(order.step),
+    }
 }
 
-/// Returns what is done next with a page whose memory is there: 0 nothing, 1 it is compared with its frame, 2 with zeros, 3 the frame is mapped,
-/// 4 zeros are, 5 its memory is moved back to its place, 6 nobody waits for it any longer. If writes to it may wait, that is its order from then on.
+/// Takes what came of the attempt to hold each page of a row, which begins with the page `first` of the table: 0 nothing was done, 1 writes to it
+/// may wait, 2 they wait, 3 its memory was moved aside. Writes a byte of each page to `row`: where its memory is. That is 0 at its place, and
+/// nobody waits; 1 there, and writes may wait; 2 aside; 3 what it equals took its place. Returns false, and changes nothing, if these pages
+/// aren't all there, if the table has more pages than its parts, or if there are more or fewer attempts than bytes.
 #[unsafe(no_mangle)]
-pub extern "C" fn pageshare_window_hold_step(
-    page: &mut WindowPage,
-    part: &mut PartCounts,
-    facts: &WindowFacts,
-    place: u8,
-) -> u8
-    ensures step { result ≡ step_number (step_of (belief_of page.new) (place_by place)) }
-    ensures order { waiting (belief_of page.old) ≡ true → Lends (IsOrdered (order_due (lender_of facts.now (known_of page.old)))) (bars_of facts.now (known_of page.old)) page.old page.new part.old part.new }
-    ensures page { waiting (belief_of page.old) ≡ false → page.new ≡ page.old }
-    ensures part { waiting (belief_of page.old) ≡ false → part.new ≡ part.old }
+pub extern "C" fn pageshare_window_begin_row(
+    pages: &mut [WindowPage],
+    parts: &mut [PartCounts],
+    lead: usize,
+    first: usize,
+    row: &mut [u8],
+    takings: &[u8],
+) -> bool
+    ensures { RowBegins lead first takings.now result pages.old pages.new parts.old parts.new row.old row.new }
 {
-    step_number(step(page, part, facts, place_by(place)))
+    begin(pages, parts, lead, first, row, takings)
 }
 
-/// Takes whether the page's next step was done, where its memory was there, and returns where it is then.
+/// Finds what is done next with pages of a row: 0 nothing, 1 they are compared with their frames, 2 with zeros, 3 frames in a row are mapped, 4 zeros
+/// are, 5 memory is moved back to its place, 6 nobody waits for them any longer. If writes to a page may wait, that is its order from then on. 4 is
+/// added to the byte of a page that is stuck: it has no order any more.
 #[unsafe(no_mangle)]
-pub extern "C" fn pageshare_window_hold_done(
-    page: &mut WindowPage,
-    part: &mut PartCounts,
-    place: u8,
-    is_done: bool,
-) -> u8
-    ensures place { result ≡ place_number (place_after (step_of (belief_of page.old) (place_by place)) (place_by place) is_done) }
-    ensures page { Took (outcome_for (step_of (belief_of page.old) (place_by place)) (belief_of page.old) is_done) page.old page.new part.old part.new }
+pub extern "C" fn pageshare_window_next_of_row(
+    pages: &mut [WindowPage],
+    parts: &mut [PartCounts],
+    lead: usize,
+    table: &TableFacts,
+    pins: &[u16],
+    transfers: &[Transfer],
+    first: usize,
+    row: &[u8],
+    order: &mut WindowRowOrder,
+)
+    ensures row { OrdersNext table.now pins.now transfers.now lead first row.now (order_by order.new) pages.old pages.new parts.old parts.new }
+    ensures step { order.new.step ≡ step_number (order_by order.new).step }
 {
-    place_number(done(page, part, place_by(place), is_done))
+    let next = next(pages, parts, lead, table, pins, transfers, first, row);
+    *order = order_numbers(next);
+}
+
+/// Takes what came of an order of a row: with the first `done` of its pages the step was done, and with `refused` pages behind these it wasn't. The
+/// others weren't tried, and are ordered again. Returns false, and changes nothing, if the row has no such pages, if the row's pages aren't all
+/// there, or if the table has more pages than its parts.
+#[unsafe(no_mangle)]
+pub extern "C" fn pageshare_window_row_done(
+    pages: &mut [WindowPage],
+    parts: &mut [PartCounts],
+    lead: usize,
+    first: usize,
+    row: &mut [u8],
+    order: &WindowRowOrder,
+    done: usize,
+    refused: usize,
+) -> bool
+    ensures { RowCameOut lead first order.now.first done refused result pages.old pages.new parts.old parts.new row.old row.new }
+{
+    hold_rows::done(pages, parts, lead, first, row, order.first, done, refused)
+}
+
+/// Returns the byte of a page with which a row of its own begins: it isn't stuck, and its memory is where it was.
+#[unsafe(no_mangle)]
+pub extern "C" fn pageshare_window_row_again(byte: u8) -> u8
+    ensures { result ≡ byte % 4 }
+{
+    again(byte)
 }

@@ -17,7 +17,7 @@ ghost use Rattle.page_lender.specs.declared.order.Notice.TheVariants as Notice;
 ghost use Rattle.page_lender.specs.declared.order.Outcome.TheVariants as Outcome;
 ghost use Rattle.window_lender.specs.Calls.{IsChosen, IsHeard, IsOrdered, is_free, order_due};
 ghost use Rattle.window_lender.specs.Huge.{order_of, part_then};
-ghost use Rattle.window_pages.specs.Runs.{is_here_as, keeps_slot, lies_as, row_of};
+ghost use Rattle.window_pages.specs.Runs.{is_here_as, keeps_slot, lies_as};
 ghost use Rattle.pageshare_window_c.specs.Budgets.{ledger_of, rates};
 ghost use Rattle.window_pages.specs.Bytes.{known_of, notes_of};
 ghost use Rattle.window_pages.specs.Changed.{Becomes, Lends, given_back, lender_with, no_past};
@@ -46,7 +46,8 @@ pub use budget::{CREDIT_NS, OWED_NS, SAVED_NS, WindowBudget};
 use budget::{budget_of, config_by, put};
 pub use finds::{pageshare_window_begin_find, pageshare_window_find_done};
 pub use holds::{
-    pageshare_window_begin_hold, pageshare_window_hold_done, pageshare_window_hold_step,
+    WindowRowOrder, pageshare_window_begin_row, pageshare_window_next_of_row,
+    pageshare_window_row_again, pageshare_window_row_done,
 };
 pub use laws::{limits_law, tasks_law};
 pub use look_steps::{LookSteps, PartReturn};
@@ -63,8 +64,8 @@ pub use mappings::{
     pageshare_window_mappings_at, pageshare_window_mappings_more, pageshare_window_mappings_new,
 };
 pub use numbers::pageshare_window_find_numbers;
-use offered_ranges::{add, is_part_left, next as next_piece, take_out};
 pub use offered_ranges::{OfferedBounds, OfferedRange, Piece};
+use offered_ranges::{add, is_part_left, next as next_piece, take_out};
 use order::number_of;
 pub use page_finds::FindOutcome;
 use page_lender::{Notice, Outcome};
@@ -93,7 +94,7 @@ pub use times::{
 pub use window_numbers::Taken;
 pub use window_pages::{PartCounts, WindowFacts, WindowPage};
 use window_pages::{
-    alike, before_release, choose, forget, give_back, hear, here, is_free, next, row, see, stays,
+    alike, before_release, choose, forget, give_back, hear, here, is_free, next, see, stays,
     stop_past, take, withdraw,
 };
 pub use window_tables::{TableFacts, WindowPart};
@@ -376,15 +377,6 @@ pub extern "C" fn pageshare_window_here(pages: &[WindowPage]) -> usize
     ensures { result ≡ option_map_or (λ first. prefix_len (is_here_as first) pages.now) (slice_get pages.now 0) 0 }
 {
     here(pages)
-}
-
-/// Returns how many pages from the first on can be mapped, or given back, by one call: their orders to map are open, and their frames are
-/// in a row; or their orders to give memory back are open. 0 if neither is so of the first page.
-#[unsafe(no_mangle)]
-pub extern "C" fn pageshare_window_row(pages: &[WindowPage]) -> usize
-    ensures { result ≡ row_of pages.now }
-{
-    row(pages)
 }
 
 /// Returns how many pages come before the first one whose slot is to be released, and of which no order is open.

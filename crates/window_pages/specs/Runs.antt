@@ -1,5 +1,5 @@
 -- How far what is so of the first of some pages goes on.
-use Rattle.std.specs.Prelude.{ℕ, ◌+◌, Bool, true, false, not, ◌&&◌, ◌||◌, ◌==◌, if◌then◌else◌, List, [], ◌∷◌}
+use Rattle.std.specs.Prelude.{ℕ, ◌+◌, Bool, true, false, not, ◌&&◌, ◌||◌, ◌==◌}
 use Rattle.page_lender.specs.declared.belief.Belief.{Belief}
 use Rattle.page_lender.specs.declared.belief.Belief.TheVariants.{Private, Chosen, Copied, Unanswered, Loaned, Held, Equal, LettingGo, Shown, Homing, Leaving, Unreleased, Zeros, HeldZeros, EqualZeros, PuttingBack}
 use Rattle.window_pages.specs.Bytes.{belief_of, known_of}
@@ -82,44 +82,6 @@ goes_with HeldZeros b = false
 goes_with EqualZeros b = is_zeros b
 goes_with PuttingBack b = false
 
--- it was found equal to a frame, or to be zeros
-abbrev pub leads_on : Belief → Bool
-leads_on Private = false
-leads_on Chosen = false
-leads_on Copied = false
-leads_on Unanswered = false
-leads_on (Loaned slot n) = false
-leads_on (Held slot n) = false
-leads_on (Equal slot n) = true
-leads_on (LettingGo slot) = false
-leads_on (Shown slot n) = false
-leads_on (Homing slot n in_place) = false
-leads_on (Leaving slot) = false
-leads_on (Unreleased slot) = false
-leads_on Zeros = false
-leads_on HeldZeros = false
-leads_on EqualZeros = true
-leads_on PuttingBack = false
-
--- an order is open that begins a row
-abbrev pub begins_row : WindowPage → Bool
-begins_row x = (known_of x).ordered && leads_on (belief_of x)
-
 -- the order of the second page goes on with that of the first: frames in a row are to be mapped, or memory is to be given back
 abbrev pub goes_on : WindowPage → WindowPage → Bool
 goes_on x y = (known_of y).ordered && goes_with (belief_of x) (belief_of y)
-
--- how many pages behind one go on, each with the one before it
-abbrev pub row_behind : WindowPage → List WindowPage → ℕ
-row_behind x [] = 0
-row_behind x (y ∷ ys) = if goes_on x y then 1 + row_behind y ys else 0
-
--- the pages from the first on that do
-abbrev pub row_length : List WindowPage → ℕ
-row_length [] = 0
-row_length (x ∷ xs) = 1 + row_behind x xs
-
--- the row that begins with the first of these pages, if one does
-abbrev pub row_of : List WindowPage → ℕ
-row_of [] = 0
-row_of (x ∷ xs) = if begins_row x then row_length (x ∷ xs) else 0

@@ -1,9 +1,9 @@
 //! Runs of pages: how far what is so of the first of them goes on.
-ghost use Rattle.std.specs.Prelude.{◌≡◌, ◌<◌, ◌+◌, length, slice_get};
+ghost use Rattle.std.specs.Prelude.{◌≡◌, ◌+◌, slice_get};
 ghost use Rattle.std.specs.List.{prefix_len};
 ghost use Rattle.std.specs.Option.{option_map_or};
 ghost use Rattle.window_pages.specs.Bytes.{belief_of, known_of};
-ghost use Rattle.window_pages.specs.Runs.{begins_row, goes_on, goes_with, is_frame, is_here, is_here_as, is_zeros, keeps_slot, leads_on, lies_as, row_length, row_of, same};
+ghost use Rattle.window_pages.specs.Runs.{goes_on, goes_with, is_frame, is_here, is_here_as, is_zeros, keeps_slot, lies_as, same};
 
 use crate::WindowPage;
 use page_lender::Belief;
@@ -63,30 +63,6 @@ fn is_zeros(belief: Belief) -> bool
     }
 }
 
-// Returns whether a page was found equal to a frame, or to be zeros.
-fn leads_on(belief: Belief) -> bool
-    ensures { result ≡ leads_on belief }
-{
-    match belief {
-        Belief::Private => false,
-        Belief::Chosen => false,
-        Belief::Copied => false,
-        Belief::Unanswered => false,
-        Belief::Loaned(_, _) => false,
-        Belief::Held(_, _) => false,
-        Belief::Equal(_, _) => true,
-        Belief::LettingGo(_) => false,
-        Belief::Shown(_, _) => false,
-        Belief::Homing(_, _, _) => false,
-        Belief::Leaving(_) => false,
-        Belief::Unreleased(_) => false,
-        Belief::Zeros => false,
-        Belief::HeldZeros => false,
-        Belief::EqualZeros => true,
-        Belief::PuttingBack => false,
-    }
-}
-
 // Returns whether one page goes on with what the page before it begins.
 fn goes_with(one: Belief, other: Belief) -> bool
     ensures { result ≡ goes_with one other }
@@ -112,16 +88,9 @@ fn goes_with(one: Belief, other: Belief) -> bool
 }
 
 impl WindowPage {
-    // Returns whether an order is open that begins a row.
-    fn begins_row(&self) -> bool
-        ensures { result ≡ begins_row self.now }
-    {
-        let known = self.known();
-        known.ordered && leads_on(known.belief)
-    }
-
-    // Returns whether the page's order goes on with that of the page before it.
-    fn goes_on(&self, before: &WindowPage) -> bool
+    /// Returns whether the page's order goes on with that of the page before it: frames in a row are to be mapped, or memory of both is to be given
+    /// back. One call of the system can do that.
+    pub fn goes_on(&self, before: &WindowPage) -> bool
         ensures { result ≡ goes_on before.now self.now }
     {
         let known = self.known();
@@ -218,37 +187,4 @@ pub fn before_release(pages: &[WindowPage]) -> usize
         }
     }
     pages.len()
-}
-
-// Returns how many pages from the first on go on, each with the one before it.
-#[tactic(auto, using(crate::proofs::Rows::row_yes, crate::proofs::Rows::row_no, crate::proofs::Rows::row_end))]
-fn row_from(pages: &[WindowPage]) -> usize
-    requires { 0 < length pages.now }
-    ensures { result ≡ row_length pages.now }
-{
-    let last = pages.len() - 1;
-    for place in 0..last {
-        let is_so = pages[place + 1].goes_on(&pages[place]);
-        if !is_so {
-            return place + 1;
-        }
-    }
-    pages.len()
-}
-
-/// Returns how many pages from the first on can be mapped, or given back, by one call: their orders to map are open, and their frames are
-/// in a row; or their orders to give memory back are open. 0 if neither is so of the first page.
-pub fn row(pages: &[WindowPage]) -> usize
-    ensures { result ≡ row_of pages.now }
-{
-    match pages.first() {
-        None => 0,
-        Some(first) => {
-            if first.begins_row() {
-                row_from(pages)
-            } else {
-                0
-            }
-        }
-    }
 }

@@ -1,6 +1,6 @@
 mod Behind
-mod Counts
+pub mod Counts
 mod Differences
 mod NewTables
-mod Places
+pub mod Places
 mod Sums

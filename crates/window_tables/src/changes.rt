@@ -81,8 +81,8 @@ fn has_parts(pages: &[WindowPage], parts: &[PartCounts], lead: usize) -> bool
     lead < PART && (pages.len() + lead).div_ceil(PART) <= parts.len()
 }
 
-// Returns whether what becomes of so many pages from one on can be noted.
-fn can_note(
+/// Returns whether what becomes of `count` pages from `first` on can be noted: they are all there, and each page of the table has a part.
+pub fn can_note(
     pages: &[WindowPage],
     parts: &[PartCounts],
     lead: usize,

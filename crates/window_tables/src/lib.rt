@@ -9,7 +9,7 @@ mod mappings;
 mod parts;
 
 pub use ask::{are_movable, may_give_up, may_go_on};
-pub use changes::{Change, note};
+pub use changes::{Change, can_note, note};
 pub use facts::{TableFacts, facts_of};
 pub use laws::{mappings_law, table_law};
 pub use mappings::{mappings_at, mappings_more, mappings_new};

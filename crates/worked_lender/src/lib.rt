@@ -2,7 +2,7 @@
 //! are split, the budget of their thread, its looks, their tasks and when they begin, the mappings that windows take, the ranges that become windows,
 //! the pages that a device may hold, and the numbers of new windows. It is by the public calls of `page_lender`, `window_lender`,
 //! `window_pages`, `window_events`, `work_budget`, `idle_pages`, `look_steps`, `look_tasks`, `look_times`, `mapping_room`, `offered_ranges`, `page_pins`,
-//! `page_finds`, `page_holds`, `window_tables` and `window_numbers`. This crate has only tests.
+//! `page_finds`, `page_holds`, `hold_rows`, `window_tables` and `window_numbers`. This crate has only tests.
 #![tactic(auto)]
 
 #[cfg(test)]
@@ -37,6 +37,8 @@ mod pins;
 mod ranges;
 #[cfg(test)]
 mod rooms;
+#[cfg(test)]
+mod rows;
 #[cfg(test)]
 mod steps;
 #[cfg(test)]

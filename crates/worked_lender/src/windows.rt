@@ -15,7 +15,7 @@ use window_events::{Event, Mappings};
 use window_lender::PartOrder;
 use window_pages::{
     PartCounts, WindowFacts, WindowPage, choose, cover, detach, give_back, give_up, hear,
-    is_movable, may_go_on, next, row, take, uncover, withdraw,
+    is_movable, may_go_on, next, take, uncover, withdraw,
 };
 
 /// The number of the table's first page. Page 0 has another lender.
@@ -176,11 +176,24 @@ fn go_on_with<A: Allocator>(
     finish(rt, table, mappings, place);
 }
 
+/// Returns how many pages one call can map or give back from a place on, each of which has its order.
+fn row_from(pages: &[WindowPage; 4], from: usize) -> usize {
+    if from >= 4 || !pages[from].known().ordered {
+        return 1;
+    }
+    for place in from + 1..4 {
+        if !pages[place].goes_on(&pages[place - 1]) {
+            return place - from;
+        }
+    }
+    4 - from
+}
+
 /// Goes on with the pages from one place on. Those that one call can map or give back are done by one.
 fn go_on_with_all<A: Allocator>(rt: &impl Abort, table: &mut Table, mappings: &mut Mappings<A>) {
     let from = first_place(&mut table.numbers);
     holds(rt, from < 4);
-    let count = row(&table.pages[from..]);
+    let count = row_from(&table.pages, from);
     if count > 1 {
         finish_row(rt, table, mappings, from, count);
         return;

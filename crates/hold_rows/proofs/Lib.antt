@@ -1,0 +1,4 @@
+mod Courses
+mod Ends
+mod Rows
+mod Runs
