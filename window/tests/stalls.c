@@ -9,7 +9,7 @@
 #include <pthread.h>
 #include <time.h>
 
-enum { MANY = 131072, FEW = 4096, PARTS = 64, MOST_US = 1000, LARGE = 1 << 22, CALLS = 16 };
+enum { MANY = 131072, FEW = 4096, PARTS = 64, MOST_US = 1000, LARGE = 1 << 22, MOST_PART = 4, TRIES = 8 };
 
 static uint8_t *few;
 static atomic_bool stop;
@@ -71,33 +71,46 @@ static void measure(struct matter *matter, const char *name) {
     check(waits[PARTS / 2] <= MOST_US, "a write waits for at most 1 ms");
 }
 
-static atomic_uint calls;
+static atomic_ulong longest_call_us;
 
 static void *call_on(void *opaque) {
     bool is_its;
     while (!atomic_load(&stop)) {
+        uint64_t begun = clock_us();
         window_run(opaque, 0, 1, &is_its);
-        atomic_fetch_add(&calls, 1);
+        uint64_t took = clock_us() - begun;
+        if (took > atomic_load(&longest_call_us)) atomic_store(&longest_call_us, took);
     }
     return NULL;
 }
 
-/* A monitor's calls don't wait until all of a large guest's pages have lost their lender. */
+/* Whether no call waited for most of the time in which the windows lost their lender. */
+static bool goes_on(struct windows *windows) {
+    atomic_store(&longest_call_us, 0);
+    uint64_t begun = clock_us();
+    windows_detach(windows);
+    uint64_t took = clock_us() - begun;
+    usleep(1000);
+    return atomic_load(&longest_call_us) < took / MOST_PART;
+}
+
+/* A monitor's calls don't wait until all of a large guest's pages have lost their lender. (A busy computer may stop a thread as long.) */
 static void lose_lender(void) {
     const struct windows_config config = {.pins = WINDOWS_PINS_NEVER};
     struct fixture fixture = fixture_make(&config, FEW);
     struct window *window = window_over(&fixture, memory(LARGE), LARGE);
     pthread_t caller;
+    bool is_good = false;
     atomic_store(&stop, false);
     check(pthread_create(&caller, NULL, call_on, window) == 0, "a thread that calls");
-    while (atomic_load(&calls) == 0) usleep(100);
-    unsigned before = atomic_load(&calls);
-    windows_detach(fixture.windows);
-    check(atomic_load(&calls) - before >= CALLS, "calls go on while a lender goes");
+    for (int tries = 0; tries < TRIES && !is_good; tries++) {
+        is_good = goes_on(fixture.windows);
+        must(windows_attach(fixture.windows, lender_interface(fixture.lender)), "windows_attach");
+    }
+    check(is_good, "calls go on while a lender goes");
     atomic_store(&stop, true);
     pthread_join(caller, NULL);
     must(window_free(window, WINDOW_DROP), "window_free");
-    must(windows_attach(fixture.windows, lender_interface(fixture.lender)), "windows_attach");
     fixture_free(&fixture);
 }
 
