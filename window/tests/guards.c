@@ -37,6 +37,14 @@ static bool is_done_in_time(struct write *write) {
     return atomic_load(&write->is_done);
 }
 
+/* The write has to go on in time. Otherwise nothing ends here any more. */
+static void ends(struct write *write, const char *what) {
+    bool is_done = is_done_in_time(write);
+    check(is_done, what);
+    if (!is_done) exit(1);
+    pthread_join(write->thread, NULL);
+}
+
 /* The guard fails half-way: nobody waits, and the pages are lent by a later look. */
 static void guard_fails(void) {
     const struct windows_config config = {.pins = WINDOWS_PINS_NEVER, .never_move = true};
@@ -49,8 +57,7 @@ static void guard_fails(void) {
     look_often(&fixture, 8);
     check(planned.protects < 100 && counts_of(&fixture).lent == 0, "with no guard nothing is lent");
     start(&write, at);
-    check(is_done_in_time(&write), "a write doesn't wait for a guard that failed");
-    pthread_join(write.thread, NULL);
+    ends(&write, "a write doesn't wait for a guard that failed");
     planned.protects = 0;
     check(look_until(&fixture, PAGES - 1) == PAGES - 1, "later the other pages are lent");
     check(at[0] == 200 && at[1] == 1, "each reads as it was written");
@@ -94,8 +101,7 @@ static void put_fails(void) {
         check(window_discard(window, 6, 1).status == WINDOW_OK || planned.puts == 0, "a discard tries to put them back");
         planned.watches = NULL;
         for (int i = 0; i < 5; i++) result = look(fixture.windows);
-        check(is_done_in_time(&write), "a write goes on when they are put back");
-        pthread_join(write.thread, NULL);
+        ends(&write, "a write goes on when they are put back");
         check(at[5 * PAGE] == 200 && at[7 * PAGE + 100] != 1 && are_kept(at, 5, 6), "no byte of them is lost");
     }
     planned = (struct planned){0};
@@ -156,8 +162,7 @@ static void release_of_zeros_fails(bool never_move) {
     check(result.status == WINDOW_STUCK && result.cause == EINVAL, "the look reports so of zeros");
     start(&write, at + 5 * PAGE);
     look_often(&fixture, 1);
-    check(is_done_in_time(&write), "a write to zeros goes on");
-    pthread_join(write.thread, NULL);
+    ends(&write, "a write to zeros goes on");
     check(at[5 * PAGE] == 200 && at[5 * PAGE + 1] == 0 && at[6 * PAGE] == 0, "zeros stay, and what was written");
     check(counts_of(&fixture).zeros >= PAGES - 1 && counts_of(&fixture).lent == 0, "zeros are given back");
     must(window_free(window, WINDOW_DROP), "window_free");
