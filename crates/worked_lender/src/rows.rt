@@ -292,10 +292,12 @@ fn ask_plain(list: &mut [Plain; ROW]) {
 
 /// Returns the first page of which the step comes before all others.
 fn first_plain(list: &[Plain; ROW]) -> usize {
-    let mut first = 0;
+    let (mut first, mut least) = (0, rank(HoldStep::Over));
     for place in 0..ROW {
-        if rank(list[place].step) < rank(list[first].step) {
+        let its = rank(list[place].step);
+        if its < least {
             first = place;
+            least = its;
         }
     }
     first
