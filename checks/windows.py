@@ -121,7 +121,7 @@ BODIES = {
                                      "belief_of(page) <= PAGESHARE_WINDOW_HOMING;", ["pages"]),
     "never says that a watch ended": Body("lend.c", ENDED, ENDED.replace(".done", ".refused"), ["guards"]),
     "takes what is watched for what was refused": Body("lend.c", WATCHED, "PAGESHARE_WINDOW_NOT_TAKEN", ["guards"]),
-    "takes what is aside for guarded": Body("lend.c", "hold->moves ? PAGESHARE_WINDOW_TAKEN_ASIDE :", "false ? 0 :", ["parts"]),
+    "takes what is guarded for aside": Body("lend.c", "hold->moves ? PAGESHARE_WINDOW_TAKEN_ASIDE :", "true ? PAGESHARE_WINDOW_TAKEN_ASIDE :", ["pages"]),
     "counts what can't be put back as put back": Body("lend.c", NOT_PUT, NOT_PUT.replace("done, .refused = 1", "done + 1"), ["guards"]),
     "counts what can't be mapped as mapped": Body("lend.c", NOT_MAPPED, NOT_MAPPED.replace(".refused", ".done"), ["guards"]),
     "keeps memory of what stays": Body("home.c", "if (cause != 0 || home->stays[i]) unmap_apart(", "if (home->stays[i]) unmap_apart(", ["refusals"]),
