@@ -107,8 +107,6 @@ BODIES = {
     "notes no page that was unmapped": Body("home.c", "pageshare_window_unmap(", LEFT_OUT, ["leaves"]),
     "notes no page that has left": Body("home.c", "pageshare_window_leave(", LEFT_OUT, ["leaves"]),
     "notes no lender that is gone": Body("windows.c", "pageshare_window_detach(", LEFT_OUT, ["leaves"]),
-    "notes no write": Body("pages.c", "pageshare_window_written(", LEFT_OUT, ["pages"]),
-    "notes no write to a frame of the past": Body("pages.c", "pageshare_window_stop_past(", LEFT_OUT, ["leaves"]),
     "notes no zeros": Body("pages.c", "pageshare_window_give_back(", LEFT_OUT, ["parts"]),
     "notes zeros as frames": Body("pages.c", "    if (is_own)\n", "    if (is_own && is_moved)\n", ["pages"]),
     "takes no mappings away that frames replace": Body("pages.c", "    *mappings -= mappings_of(window, first, count);\n", "", ["pages"]),
