@@ -153,6 +153,7 @@ BODIES = {
     "goes to no window": Body("tasks.c", "look->next = windows->first;", "look->next = NULL;", ["tasks"]),
     "loses the loan of a page that has left": Body("lend.c", "if (is_named) pageshare", "if (is_named && !is_out(page)) pageshare", ["tasks"]),
     "keeps the order of a page that isn't held": Body("lend.c", "else pageshare_window_withdraw(page);", "", ["tasks"]),
+    "takes what stays guarded for free": Body("pages.c", "page, PAGESHARE_WINDOW_PLACE_GUARDED, 0);", "page, PAGESHARE_WINDOW_PLACE_FREE, 0);", ["guards"]),
     "takes what is stuck for free": Body("lend.c", "hold->row[i], hold->scratch + i", "PAGESHARE_WINDOW_PLACE_FREE, hold->scratch + i", ["guards"]),
 }
 

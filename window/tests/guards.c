@@ -169,6 +169,27 @@ static void release_of_zeros_fails(bool never_move) {
     fixture_free(&fixture);
 }
 
+/* Pages can't be brought home, and then their watch isn't ended: a write to one waits until a later look, and isn't lost. */
+static void release_of_home_fails(void) {
+    const struct windows_config config = {.pins = WINDOWS_PINS_NEVER};
+    struct fixture fixture = fixture_make(&config, PAGES);
+    uint8_t *at = memory(PAGES);
+    struct window *window = window_over(&fixture, at, PAGES);
+    struct write write;
+    fill(at, PAGES, 1);
+    check(look_until(&fixture, PAGES) == PAGES, "all pages are lent");
+    planned = (struct planned){.copies = 1, .releases = 1, .window = (uintptr_t)at, .window_end = (uintptr_t)at + PAGES * PAGE};
+    struct window_result result = window_cut(window, 0, PAGES, NULL);
+    check(result.status == WINDOW_STUCK && result.cause == EINVAL, "a cut says that its pages are stuck");
+    planned = (struct planned){0};
+    start(&write, at + 5 * PAGE);
+    look_often(&fixture, 1);
+    ends(&write, "a write to a page over its frame goes on");
+    check(at[5 * PAGE] == 200 && at[5 * PAGE + 1] == 1 && at[6 * PAGE] == 1, "no byte over the frames is lost");
+    must(window_free(window, WINDOW_DROP), "window_free");
+    fixture_free(&fixture);
+}
+
 /* A page can't get memory: the call says so, once, and nothing has changed. */
 static void populate_fails(void) {
     const struct windows_config config = {.pins = WINDOWS_PINS_NEVER};
@@ -436,6 +457,7 @@ int main(void) {
     release_fails(true);
     release_of_zeros_fails(false);
     release_of_zeros_fails(true);
+    release_of_home_fails();
     populate_fails();
     punch_fails();
     unmap_fails();
