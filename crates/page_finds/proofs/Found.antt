@@ -12,7 +12,7 @@ use Rattle.window_pages.specs.Bytes.{known_of}
 use Rattle.window_pages.specs.Known.{bars_of, lender_of, shows_past}
 use Rattle.window_pages.specs.declared.page.KnownPage.{KnownPage}
 use Rattle.window_pages.specs.declared.page.WindowPage.{WindowPage}
-use Rattle.page_finds.specs.Laws.{EachLeavesFewer, FoundIsIdle, LaterFoundIsIdle, ReadsWhatItMay, is_found, reads_bytes, steps_left}
+use Rattle.page_finds.specs.Laws.{EachLeavesFewer, FoundIsIdle, LaterFoundIsIdle, LaterReadsWhatItMay, ReadsWhatItMay, is_found, reads_bytes, steps_left}
 use Rattle.page_finds.specs.Notes.{looks_of}
 use Rattle.page_finds.specs.Steps.{act_by, found_as, has_memory, is_met, is_present, may_read, shows_frame, seen_step, unseen_step, way_of}
 use Rattle.page_finds.specs.declared.step.FindStep.{FindStep}
@@ -100,6 +100,20 @@ nothing : (next : FindStep) → next ≡ Over → is_found next ≡ true → ⊥
 nothing next i e = absurd-found (sym (ap is_found i) ∙ e) where
   absurd-found : false ≡ true → ⊥
   absurd-found f = cc
+
+nothing_read : (next : FindStep) (b : Bool) → next ≡ Over → reads_bytes next ≡ true → b ≡ true
+nothing_read next b i e = absurd (no_bytes (sym (ap reads_bytes i) ∙ e)) where
+  no_bytes : false ≡ true → ⊥
+  no_bytes f = cc
+
+pub later_reads_what_it_may : LaterReadsWhatItMay
+later_reads_what_it_may Over sight outcome next old new part part_new came e = nothing_read next false came.step e
+later_reads_what_it_may FindCopy sight outcome next old new part part_new came e = nothing_read next false came.step e
+later_reads_what_it_may Glance sight outcome next old new part part_new came e = refl
+later_reads_what_it_may Read sight outcome next old new part part_new came e = refl
+later_reads_what_it_may Count sight outcome next old new part part_new came e = nothing_read next false came.step e
+later_reads_what_it_may Idle sight outcome next old new part part_new came e = nothing_read next false came.step e
+later_reads_what_it_may Zeros sight outcome next old new part part_new came e = nothing_read next false came.step e
 
 pub later_found_is_idle : LaterFoundIsIdle
 later_found_is_idle Over sight outcome next old new part part_new came e = absurd (nothing next came.step e)

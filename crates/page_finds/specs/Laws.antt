@@ -62,6 +62,12 @@ ReadsWhatItMay =
     (reads_bytes (first_step facts sight memory is_ready page) || is_found (first_step facts sight memory is_ready page)) ≡ true →
     IsReadable facts memory is_ready (known_of page)
 
+-- And a step after that reads bytes only where the one before it did.
+abbrev pub LaterReadsWhatItMay : Type 0
+LaterReadsWhatItMay =
+    (step : FindStep) (sight : Sight) (outcome : FindOutcome) (next : FindStep) (old new : WindowPage) (part part_new : PartCounts) →
+    Came step sight outcome next old new part part_new → reads_bytes next ≡ true → reads_bytes step ≡ true
+
 -- What is found at once is idle.
 abbrev pub FoundIsIdle : Type 0
 FoundIsIdle =

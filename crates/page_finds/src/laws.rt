@@ -1,10 +1,12 @@
 //! What every look at a page keeps to. The functions' bodies are empty: the contract is all there is.
-ghost use Rattle.page_finds.specs.Laws.{EachLeavesFewer, FoundIsIdle, LaterFoundIsIdle, ReadsWhatItMay};
+ghost use Rattle.page_finds.specs.Laws.{EachLeavesFewer, FoundIsIdle, LaterFoundIsIdle, LaterReadsWhatItMay, ReadsWhatItMay};
 
 /// A look reads bytes of a page, and finds something of it, only if the page is its window's and is there. Then nothing is lent of it, nothing
-/// keeps it from being lent, and the system leaves its memory alone.
+/// keeps it from being lent, and the system leaves its memory alone. That is so of its first step, and a later step reads bytes only after one that
+/// does.
 pub fn touch_law()
-    ensures { ReadsWhatItMay }
+    ensures first { ReadsWhatItMay }
+    ensures later { LaterReadsWhatItMay }
 {}
 
 /// A look finds something of a page only if the page is idle.
