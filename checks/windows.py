@@ -66,8 +66,8 @@ class Body(typing.NamedTuple):
     test: list[str]
 
 
-ZEROED = "map_pages(window, first, count, ZEROS, PROT_READ | PROT_WRITE) != 0"
-DROPPED = "madvise(address_of(window, first), bytes_of(count), MADV_DONTNEED) != 0"
+ZEROED = "map_pages(window, first, count, ZEROS, PROT_READ | PROT_WRITE) == 0"
+DROPPED = "madvise(address_of(window, first), bytes_of(count), MADV_DONTNEED) == 0"
 GUARDED = "return cause == 0 ? pagemap_are_guarded(&windows->pagemap, at, PART) : cause;"
 REFUSED = "else pageshare_window_refused("
 LEAVES = "(struct pageshare_window_facts){.leaves = true}"
@@ -78,8 +78,8 @@ NOT_PUT = "hold->stuck_cause = cause;\n            return (struct came){.done = 
 NOT_MAPPED = "note_failure(windows, WINDOW_NO_MAPPING, cause);\n        return (struct came){.refused = todo->count};"
 NOT_ENDED = "hold->stuck_cause = cause;\n    return (struct came){.refused = todo->count};"
 ENDED = "if (cause == 0) return (struct came){.done = todo->count};"
-COMPARED = "is_equal = is_frame ? are_equal(page, windows->frames_at + bytes_of(frame)) : is_zero(page);"
-REFUSED_DISCARD = "        return result_of(WINDOW_NO_MAPPING, errno);\n    if (is_over_frame"
+COMPARED = "is_equal = is_frame ? frames != NULL && are_equal(page, frames + bytes_of(frame)) : is_zero(page);"
+REFUSED_DISCARD = "        return result_of(WINDOW_NO_MAPPING, errno);\n    if (is_anew"
 # In place of a call's name: its arguments are looked at, and the call is left out.
 LEFT_OUT = "(void)("
 BODIES = {
@@ -96,13 +96,15 @@ BODIES = {
     "lends what a device has": Body("pages.c", "window->pins != NULL ? window->count : 0;", "0 * window->count;", ["parts"]),
     "lends copies that a device may have": Body("pages.c", ".may_pin = windows->pins != WINDOWS_PINS_NEVER,", ".may_pin = false,", ["leaves"]),
     "lends what is locked": Body("pages.c", ".locked = windows->is_locked,", ".locked = false,", ["pages"]),
+    "lends a frame that has its memory still": Body("lender/domain_lender.c", "bool may_lend = lender_trim(lender) == 0;", "bool may_lend = true;", ["guards"]),
+    "says a memory policy of frames": Body("advice.c", "== POLICY_DEFAULT || is_file ||", "== POLICY_DEFAULT ||", ["pages"]),
     "lends after the end": Body("pages.c", ".ends = window->ends,", ".ends = false,", ["leaves"]),
     "says of no page that it leaves": Body("home.c", LEAVES, "(struct pageshare_window_facts){.leaves = false}", ["leaves"]),
     "forgets why pages go home": Body("home.c", "facts = facts_with(window, page, why);", "facts = facts_of(window, page);", ["leaves"]),
     "moves copies that a device may have": Body("home.c", "&facts, own[i]);", "&facts, false);", ["pages"]),
-    "forgets transfers": Body("pages.c", ".there = windows->transfers_count,", ".there = 0,", ["leaves"]),
+    "forgets transfers": Body("pages.c", ".there = ROWS_MOST,", ".there = 0,", ["leaves"]),
     "forgets transfers that have no place": Body("pages.c", ".elsewhere = windows->transfers_elsewhere,", ".elsewhere = 0,", ["leaves"]),
-    "begins transfers of no byte": Body("windows.c", "begin, begin + bytes);", "begin, begin);", ["leaves"]),
+    "begins transfers of no byte": Body("transfers.c", "begin, begin + buffers[i].iov_len, &begun)", "begin, begin, &begun)", ["leaves"]),
     "notes no page that was given up": Body("home.c", "pageshare_window_give_up(", LEFT_OUT, ["pages"]),
     "notes no page that was unmapped": Body("home.c", "pageshare_window_unmap(", LEFT_OUT, ["leaves"]),
     "notes no page that has left": Body("home.c", "pageshare_window_leave(", LEFT_OUT, ["leaves"]),
@@ -125,6 +127,15 @@ BODIES = {
     "keeps memory of what stays": Body("home.c", "if (cause != 0 || home->stays[i]) unmap_apart(", "if (home->stays[i]) unmap_apart(", ["refusals"]),
     "forgets what can't be unmapped": Body("tasks.c", "    unmap_again();\n", "", ["guards"]),
     "keeps the memory of what can't be unmapped": Body("kernel.c", "madvise(at, bytes, MADV_DONTNEED); /*", "/*", ["guards"]),
+    "gives up without a mapping left": Body("home.c", "is_anew = is_anew && has_room_for_zeros(window, first, count);", "", ["pages"]),
+    "puts zeros without a mapping left": Body("pages.c", "after > before ? after - before : 0);", "0 * (after + before));", ["pages"]),
+    "takes reserved memory for another": Body("advice.c", ".is_reserved = has(flags, \" ac\")", ".is_reserved = false && has(flags, \" ac\")", ["pages"]),
+    "leaves holes in place of zeros": Body("lend.c", "if (!hold->missing[i] ||", "if (true ||", ["pages"]),
+    "shows what was given up": Body("lend.c", "is_done && !hold->given_up[i];", "is_done;", ["pages"]),
+    "brings home what was given up": Body("home.c", "if (!is_cleared(window, home->first + from + i) ||", "if (true ||", ["pages"]),
+    "keeps frames mapped after the end": Body("windows.c", "    if (at != NULL) unmap_apart(at, bytes);", "    (void)bytes;", ["leaves"]),
+    "reads all mappings for each discard": Body("home.c", "bool is_known = !window->has_cuts &&", "bool is_known = false &&", ["leaves"]),
+    "forgets transfers of a new window": Body("window.c", "if (!count_transfers(window)) return", "if (false) return", ["leaves"]),
     "takes a refused discard for done": Body("home.c", REFUSED_DISCARD, REFUSED_DISCARD.replace("NO_MAPPING", "OK"), ["refusals"]),
     "leaves what was said of no window": Body("window.c", "if (result.status != WINDOW_OK && !meets) unprepare(window);", "", ["guards"]),
     "speaks of another window's pages": Body("window.c", "    if (meets) return result_of(WINDOW_BAD_RANGE, EINVAL);\n", "", ["guards"]),

@@ -9,7 +9,7 @@
 #include <stdint.h>
 
 #define COUNTS_NAME "pageshare-counts"
-enum { COUNTS_VERSION = 1 };
+enum { COUNTS_VERSION = 2 };
 
 struct counts {
     uint64_t version;
@@ -17,6 +17,7 @@ struct counts {
     uint64_t mappings, mappings_most;              /* of the system, that windows take and may take */
     uint64_t parts_whole, parts_split, parts_huge; /* see HOST, Huge pages; huge: those of the whole ones that are a huge page */
     uint64_t round_ns;                             /* how long the last look took */
+    uint64_t is_filtered;                          /* 1 if the system shows the library each call that may let devices write */
 };
 
 #endif

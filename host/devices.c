@@ -2,10 +2,12 @@
 #include "devices.h"
 #include "lines.h"
 #include "trouble.h"
+#include <ctype.h>
 #include <fcntl.h>
 #include <linux/kvm.h>
 #include <linux/nvme_ioctl.h>
 #include <linux/vfio.h>
+#include <linux/vhost.h>
 #include <sched.h>
 #include <scsi/sg.h>
 #include <stdatomic.h>
@@ -23,12 +25,17 @@ static bool begins(const char *text, const char *with) { return strncmp(text, wi
 
 /* ---- paths ---- */
 
+/* Whether a path is a name with a number behind it, such as /dev/sg0. What follows the number may be anything. */
+static bool is_numbered(const char *path, const char *name) {
+    return begins(path, name) && isdigit((unsigned char)path[strlen(name)]);
+}
+
 /* Devices that write to all memory that they are given, and those of which it isn't known that they pin what they write to. */
 static bool writes_unnoticed(const char *path) {
-    static const char *const names[] = {"/dev/vfio/", "/dev/vhost-vdpa", "/dev/vhost-scsi", "/dev/sg",
-                                        "/dev/bsg/",  "/dev/ng",         "/dev/infiniband/"};
+    static const char *const names[] = {"/dev/vfio/", "/dev/vhost-vdpa", "/dev/vhost-scsi", "/dev/bsg/", "/dev/infiniband/"};
     for (size_t i = 0; i < sizeof names / sizeof names[0]; i++)
         if (begins(path, names[i])) return true;
+    if (is_numbered(path, "/dev/sg") || is_numbered(path, "/dev/ng")) return true; /* (not /dev/sgx_vepc) */
     if (strcmp(path, "/dev/iommu") == 0) return true;
     /* (a controller, such as /dev/nvme0; /dev/nvme0n1 is a disk) */
     return begins(path, "/dev/nvme") && !strchr(path + strlen("/dev/nvme"), 'n');
@@ -64,35 +71,47 @@ static enum devices of_processor(const struct kvm_cpuid2 *leaves) {
     return is_linux(6, 13) ? DEVICES_PIN_PAGES : DEVICES_WRITE_ALL;
 }
 
+/* By which a device is given memory to which it may write unnoticed. */
+static const uint32_t giving[] = {VFIO_IOMMU_MAP_DMA,   MAP_BY_IOMMUFD,    VHOST_VDPA_SET_STATUS, SG_IO,
+                                  NVME_IOCTL_SUBMIT_IO, NVME_IOCTL_IO_CMD, NVME_IOCTL_IO64_CMD};
+enum { GIVING = sizeof giving / sizeof *giving };
+
+size_t devices_requests(uint32_t requests[], size_t most) {
+    if (most < GIVING + 1) return 0;
+    memcpy(requests, giving, sizeof giving);
+    requests[GIVING] = KVM_SET_CPUID2;
+    return GIVING + 1;
+}
+
 enum devices devices_of_request(unsigned long request, const void *with) {
-    switch (request) {
-    case VFIO_IOMMU_MAP_DMA:
-    case MAP_BY_IOMMUFD:
-    case SG_IO:
-    case NVME_IOCTL_SUBMIT_IO:
-    case NVME_IOCTL_IO_CMD:
-    case NVME_IOCTL_IO64_CMD: return DEVICES_WRITE_ALL;
-    case KVM_SET_CPUID2: return of_processor(with);
-    default: return DEVICES_NONE;
-    }
+    for (size_t i = 0; i < GIVING; i++)
+        if ((uint32_t)request == giving[i]) return DEVICES_WRITE_ALL; /* (the system takes 32 bits of it) */
+    return (uint32_t)request == KVM_SET_CPUID2 ? of_processor(with) : DEVICES_NONE;
 }
 
 /* ---- descriptors ---- */
 
+/* Which of this process's descriptors are left out; NULL: none. */
+static bool (*is_left_out)(int descriptor);
+
+void devices_leave_out(bool (*are)(int descriptor)) { is_left_out = are; }
+
+enum { RINGS_MOST = 16 };
+
 /* What descriptors a process has, of those that matter. */
 struct seen {
-    int info;         /* its folder fdinfo */
-    bool is_worst;    /* one that writes unnoticed */
-    bool has_direct;  /* a file by O_DIRECT, of a file system that is known to pin pages */
-    bool has_ring;    /* an io_uring, which may read by O_DIRECT */
-    bool has_buffers; /* one with registered buffers */
+    bool is_self;          /* it is this process */
+    int info;              /* its folder fdinfo */
+    bool is_worst;         /* one that writes unnoticed */
+    bool has_direct;       /* a file by O_DIRECT, of a file system that is known to pin pages */
+    bool has_registered;   /* an io_uring with registered buffers, or with registered files, which may be by O_DIRECT */
+    size_t rings_count;    /* of io_urings, which may read by O_DIRECT */
+    int rings[RINGS_MOST]; /* the first of them */
 };
 
 /* Reads fdinfo/NAME. Returns false if it can't be read. */
-static bool read_fdinfo(const struct seen *seen, const char *name, char *text, size_t room) {
-    char path[32];
-    snprintf(path, sizeof path, "%.20s", name);
-    int file = (int)syscall(SYS_openat, seen->info, path, O_RDONLY | O_CLOEXEC, 0);
+static bool read_fdinfo(int folder, const char *name, char *text, size_t room) {
+    int file = (int)syscall(SYS_openat, folder, name, O_RDONLY | O_CLOEXEC, 0);
     if (file < 0) return false;
     ssize_t got = syscall(SYS_read, file, text, room - 1);
     syscall(SYS_close, file);
@@ -101,32 +120,52 @@ static bool read_fdinfo(const struct seen *seen, const char *name, char *text, s
     return true;
 }
 
-/* Whether an io_uring has registered buffers. While it is being used the kernel doesn't say: then it may have some. */
-static bool has_buffers(const struct seen *seen, const char *name) {
+/* Whether an io_uring has registered something. While it is being used the kernel doesn't say: then it may have. */
+static bool has_registered(int info, const char *name) {
     enum { TRIES = 20 };
     char text[4096];
     for (int i = 0; i < TRIES; i++) {
-        const char *at = read_fdinfo(seen, name, text, sizeof text) ? strstr(text, "UserBufs:") : NULL;
-        if (at) return strtoul(at + strlen("UserBufs:"), NULL, 10) != 0;
+        bool is_read = read_fdinfo(info, name, text, sizeof text);
+        const char *files = is_read ? strstr(text, "UserFiles:") : NULL, *buffers = is_read ? strstr(text, "UserBufs:") : NULL;
+        if (files && strtoul(files + strlen("UserFiles:"), NULL, 10) != 0) return true;
+        if (files && buffers) return strtoul(buffers + strlen("UserBufs:"), NULL, 10) != 0;
         sched_yield();
     }
     return true;
 }
 
+/* The flags with which a descriptor of this process was opened; 0 if it is closed by now. */
+static int flags_of(int descriptor) {
+    int flags = (int)syscall(SYS_fcntl, descriptor, F_GETFL);
+    return flags < 0 ? 0 : flags;
+}
+
 static bool is_direct(const struct seen *seen, const char *name) {
     char text[1024];
-    const char *at = read_fdinfo(seen, name, text, sizeof text) ? strstr(text, "flags:") : NULL;
+    if (seen->is_self) return flags_of(atoi(name)) & O_DIRECT; /* (takes a twentieth of the time) */
+    const char *at = read_fdinfo(seen->info, name, text, sizeof text) ? strstr(text, "flags:") : NULL;
     return at && (strtoul(at + strlen("flags:"), NULL, 8) & O_DIRECT) != 0;
 }
 
-/* Whether reads from a file by O_DIRECT are known to pin pages as UFFDIO_MOVE sees it: on disks and on these file systems, Linux 6.5. */
+/* Whether a descriptor of this process is of no kind that matters: most are, and a look at their names takes long. */
+static bool is_harmless(const char *name) {
+    struct stat file;
+    int descriptor = atoi(name);
+    if (fstat(descriptor, &file) != 0 || S_ISSOCK(file.st_mode) || S_ISFIFO(file.st_mode)) return true;
+    return (S_ISREG(file.st_mode) || S_ISDIR(file.st_mode)) && (flags_of(descriptor) & O_DIRECT) == 0;
+}
+
+/*
+ * Whether reads from a file by O_DIRECT are known to pin pages as UFFDIO_MOVE sees it: on disks and on these file systems, Linux 6.5. So
+ * they are of a file that is closed by now.
+ */
 static bool is_known_to_pin(int folder, const char *name) {
     static const unsigned long known[] = {0xef53 /* ext */, 0x58465342 /* xfs */, 0x9123683e /* btrfs */, 0xf2f52010 /* f2fs */,
                                           0x01021994 /* tmpfs, which copies */};
     struct stat file;
     struct statfs system;
     int found = (int)syscall(SYS_openat, folder, name, O_PATH | O_CLOEXEC, 0);
-    if (found < 0) return false;
+    if (found < 0) return errno == ENOENT;
     bool is_there = fstat(found, &file) == 0 && fstatfs(found, &system) == 0, is_known = is_there && S_ISBLK(file.st_mode);
     for (size_t i = 0; is_there && i < sizeof known / sizeof known[0]; i++)
         is_known = is_known || (unsigned long)system.f_type == known[i];
@@ -136,12 +175,14 @@ static bool is_known_to_pin(int folder, const char *name) {
 
 static void add(struct seen *seen, int folder, const char *name) {
     char target[64];
+    if (seen->is_self && is_harmless(name)) return;
     ssize_t got = readlinkat(folder, name, target, sizeof target - 1);
     if (got <= 0) return;
     target[got] = 0;
     if (strcmp(target, "anon_inode:[io_uring]") == 0) {
-        seen->has_ring = true;
-        seen->has_buffers = seen->has_buffers || has_buffers(seen, name);
+        if (seen->rings_count < RINGS_MOST) seen->rings[seen->rings_count] = atoi(name);
+        seen->rings_count++;
+        seen->has_registered = seen->has_registered || has_registered(seen->info, name);
     } else if (*target == '/') {
         seen->is_worst = seen->is_worst || writes_unnoticed(target);
         if (!is_direct(seen, name)) return;
@@ -184,32 +225,64 @@ static bool has_requests_mapped(const char *process) {
     return has || lines.cause != 0;
 }
 
-/* The mappings are read only if the system's number has changed, since that takes long if there are many. */
-static bool may_submit(void) {
+static atomic_bool submits;    /* it was said that the process does */
+static atomic_bool has_ring;   /* and that it may have an io_uring */
+static atomic_bool is_watched; /* of both it is always said */
+
+/*
+ * Whether the process may call io_submit. `reserved` is the system's number. Reading the mappings takes long where there are many, so it is
+ * done where the number has changed; and otherwise for a small part of the time, as long as none was found. Another process that ends a
+ * context hides one that is made meanwhile.
+ */
+static bool may_submit(long reserved) {
+    enum { TIMES = 200 };
     static atomic_long last;
     static atomic_bool found;
-    long now = reserved_requests();
-    if (now < 0) return true;
-    if (now == 0) return false;
-    if (now == atomic_load(&last)) return atomic_load(&found);
+    static atomic_ullong again_ns;
+    if (atomic_load(&submits) || atomic_load(&is_watched)) return atomic_load(&submits);
+    if (reserved <= 0) return reserved < 0;
+    uint64_t begun = now_ns();
+    bool is_same = reserved == atomic_load(&last), was_found = atomic_load(&found);
+    if (is_same && (was_found || begun < atomic_load(&again_ns))) return was_found;
     bool has = has_requests_mapped("self");
     atomic_store(&found, has);
-    atomic_store(&last, now);
+    atomic_store(&last, reserved);
+    atomic_store(&again_ns, begun + TIMES * (now_ns() - begun));
     return has;
 }
 
 /* ---- all descriptors ---- */
 
-/* What was seen last; and of what that is, so that nothing has to be looked at again if nothing can have changed. */
-static struct {
-    atomic_int devices;
-    atomic_bool has_ring; /* then what is registered with it may change at any time */
-    atomic_long count;    /* of descriptors; 0 if the system doesn't show it */
-    atomic_uint closes;
-} last;
+/* What was seen last; and of what that is, so that not all has to be looked at again if nothing can have changed. */
+struct kept {
+    enum devices devices;
+    struct seen seen;
+    long count;    /* of descriptors; 0 if the system doesn't show it */
+    long reserved; /* requests of io_submit, where there is a file by O_DIRECT */
+    unsigned closes;
+};
+static struct kept last;
+static atomic_flag last_is_used = ATOMIC_FLAG_INIT; /* by another thread, or by one that a signal's handler has interrupted */
 static atomic_uint closes;
 
+static bool use_last(void) { return !atomic_flag_test_and_set(&last_is_used); }
+
+static void end_use(void) { atomic_flag_clear(&last_is_used); }
+
 void devices_closed(void) { atomic_fetch_add(&closes, 1); }
+
+/* (what was seen last counts no more) */
+static void note(atomic_bool *what) {
+    if (!atomic_exchange(what, true)) devices_closed();
+}
+
+void devices_submit(void) { note(&submits); }
+void devices_make_ring(void) { note(&has_ring); }
+
+void devices_watch(void) {
+    if (has_requests_mapped("self")) devices_submit();
+    note(&is_watched);
+}
 
 /* How many descriptors there are (Linux 6.2), or 0. */
 static long descriptors_count(void) {
@@ -237,7 +310,8 @@ static bool add_all(struct seen *seen, int folder) {
         const struct entry *entry;
         for (long at = 0; at < got; at += entry->length) {
             entry = (const struct entry *)(const void *)(entries + at);
-            if (*entry->name != '.') add(seen, folder, entry->name);
+            if (*entry->name == '.' || (seen->is_self && is_left_out && is_left_out(atoi(entry->name)))) continue;
+            add(seen, folder, entry->name);
         }
     }
     return got == 0;
@@ -246,7 +320,7 @@ static bool add_all(struct seen *seen, int folder) {
 /* Looks at all descriptors of a process. Returns false if they can't be seen. */
 static bool see(struct seen *seen, const char *process) {
     int fds = open_of(process, "fd", O_DIRECTORY);
-    *seen = (struct seen){.info = open_of(process, "fdinfo", O_DIRECTORY)};
+    *seen = (struct seen){.is_self = strcmp(process, "self") == 0, .info = open_of(process, "fdinfo", O_DIRECTORY)};
     bool can_see = fds >= 0 && seen->info >= 0 && add_all(seen, fds);
     if (fds >= 0) syscall(SYS_close, fds);
     if (seen->info >= 0) syscall(SYS_close, seen->info);
@@ -256,21 +330,24 @@ static bool see(struct seen *seen, const char *process) {
 /* `can_submit`: the process may have called io_submit. */
 static enum devices worst_of(const struct seen *seen, bool can_submit) {
     if (seen->is_worst) return DEVICES_WRITE_ALL;
-    if (seen->has_buffers || (seen->has_direct && (seen->has_ring || can_submit))) return DEVICES_PIN_PAGES;
+    bool has_rings = seen->rings_count > 0 || (seen->is_self && atomic_load(&has_ring));
+    if (seen->has_registered || (seen->has_direct && (has_rings || can_submit))) return DEVICES_PIN_PAGES;
     return seen->has_direct ? DEVICES_READ : DEVICES_NONE;
 }
 
 enum devices devices_open(void) {
-    unsigned closed = atomic_load(&closes);
-    long count = descriptors_count();
-    struct seen seen;
-    enum devices devices = DEVICES_PIN_PAGES; /* (what can't be seen may be there) */
-    if (see(&seen, "self")) devices = worst_of(&seen, seen.has_direct && may_submit());
-    atomic_store(&last.devices, (int)devices);
-    atomic_store(&last.has_ring, seen.has_ring);
-    atomic_store(&last.closes, closed);
-    atomic_store(&last.count, count);
-    return devices;
+    struct kept now = {.devices = DEVICES_PIN_PAGES, /* (what can't be seen may be there) */
+                       .count = descriptors_count(),
+                       .closes = atomic_load(&closes)};
+    if (see(&now.seen, "self")) {
+        if (now.seen.has_direct && !atomic_load(&is_watched)) now.reserved = reserved_requests();
+        now.devices = worst_of(&now.seen, now.seen.has_direct && may_submit(now.reserved));
+    }
+    if (use_last()) {
+        last = now;
+        end_use();
+    }
+    return now.devices;
 }
 
 bool devices_of_process(unsigned long long process, enum devices *devices) {
@@ -282,8 +359,29 @@ bool devices_of_process(unsigned long long process, enum devices *devices) {
     return true;
 }
 
+/* Whether no descriptor was opened or closed, and no context made, since this was seen. */
+static bool are_same(const struct kept *kept) {
+    if (kept->count <= 0 || kept->count != descriptors_count() || kept->closes != atomic_load(&closes)) return false;
+    bool is_known = !kept->seen.has_direct || atomic_load(&is_watched) || atomic_load(&submits);
+    return is_known || kept->reserved == reserved_requests();
+}
+
+/* Whether nothing was registered with an io_uring: that may change at any time. */
+static bool are_rings_same(const struct seen *seen) {
+    char path[64];
+    if (atomic_load(&is_watched)) return true;
+    if (seen->rings_count > RINGS_MOST) return false;
+    for (size_t i = 0; i < seen->rings_count && !seen->has_registered; i++) {
+        snprintf(path, sizeof path, "/proc/self/fdinfo/%d", seen->rings[i]);
+        if (has_registered(AT_FDCWD, path)) return false;
+    }
+    return true;
+}
+
 enum devices devices_still_open(void) {
-    long count = descriptors_count();
-    bool is_same = count > 0 && count == atomic_load(&last.count) && atomic_load(&closes) == atomic_load(&last.closes);
-    return is_same && !atomic_load(&last.has_ring) ? (enum devices)atomic_load(&last.devices) : devices_open();
+    struct kept kept;
+    if (!use_last()) return devices_open();
+    kept = last;
+    end_use();
+    return are_same(&kept) && are_rings_same(&kept.seen) ? kept.devices : devices_open();
 }

@@ -6,6 +6,8 @@
 #define HOST_DEVICES_H
 
 #include <stdbool.h>
+#include <stddef.h>
+#include <stdint.h>
 
 enum devices {
     DEVICES_NONE,
@@ -18,12 +20,24 @@ enum devices {
 bool devices_may_be(const char *path, int flags);
 /* What an ioctl(2) asks for. `with` is what it is called with. */
 enum devices devices_of_request(unsigned long request, const void *with);
+/* Leaves descriptors of this process out of what is looked at: those that no call of the monitor uses. To be called before any look. */
+void devices_leave_out(bool (*are)(int descriptor));
+/* The requests for which that isn't nothing, as many as are returned. */
+size_t devices_requests(uint32_t requests[], size_t most);
 /* What the process's descriptors may do, also those that came by a socket. The worst of them. */
 enum devices devices_open(void);
 /* Looks at the descriptors of another process. Returns false if they can't be seen. */
 bool devices_of_process(unsigned long long process, enum devices *devices);
-/* As devices_open. It takes a microsecond or two if no descriptor was opened or closed since the last call of either. */
+/*
+ * As devices_open. It takes some microseconds if no descriptor was opened or closed since the last call of either, and some more for each
+ * io_uring. What a raw call of the system opened in the place of what another one closed is seen by devices_open alone.
+ */
 enum devices devices_still_open(void);
+/* Notes that the process may call io_submit from now on; and that it may have an io_uring, even if there is no descriptor of one. */
+void devices_submit(void);
+void devices_make_ring(void);
+/* From now on each call of io_setup and io_uring_setup is noted so before it is made, and what is registered with an io_uring isn't asked. */
+void devices_watch(void);
 /* Notes that a descriptor was closed. */
 void devices_closed(void);
 

@@ -13,57 +13,74 @@ static bool is_in(const struct window *window, size_t first, size_t count) {
 
 static size_t least(size_t a, size_t b) { return a < b ? a : b; }
 
-/* Clears pages for which the system has no mapping: they are zeros all the same, in memory of their own. */
+/* Clears pages for which there is no mapping: they are zeros all the same, in memory of their own. */
 static void clear(struct window *window, size_t first, size_t count) {
     for (size_t page = first; page < first + count; page++) {
         uint64_t *words = (uint64_t *)(void *)address_of(window, page);
         for (size_t i = 0; i < WORDS; i++) __atomic_store_n(words + i, 0, __ATOMIC_RELAXED);
     }
+    note_cleared(window, first, count, true);
 }
 
 /* Notes that pages were given up: they are zeros, and take no memory, unless they had to be cleared. */
-static void note_given_up(struct window *window, size_t first, size_t count, bool is_cleared) {
+static void note_given_up(struct window *window, size_t first, size_t count, bool are_cleared) {
     struct windows *windows = window->windows;
     pageshare_window_give_up(window->pages, window->count, window->counts, parts_in(window), window->lead, first, count);
     for (size_t page = first; page < first + count; page++) {
-        if (is_cleared) trace_copy(windows->trace, window->base + (uint32_t)page, address_of(window, page));
+        if (are_cleared) trace_copy(windows->trace, window->base + (uint32_t)page, address_of(window, page));
         else trace_discard(windows->trace, window->base + (uint32_t)page);
     }
     windows->counts.discarded += count;
 }
 
-/* Gives up pages in the window that are alike. With the lock. */
+/* Gives up pages in the window that are alike. Where they are in several mappings they are in one then. With the lock. */
 static struct window_result give_up(struct window *window, size_t first, size_t count) {
-    bool is_over_frame = is_over(&window->pages[first]), is_cleared = false;
-    if (!is_over_frame && madvise(address_of(window, first), bytes_of(count), MADV_DONTNEED) < 0)
+    bool is_over_frame = is_over(&window->pages[first]), is_anew = is_over_frame || mappings_of(window, first, count) > 2;
+    is_anew = is_anew && has_room_for_zeros(window, first, count);
+    if (is_anew) is_anew = map_pages(window, first, count, ZEROS, PROT_READ | PROT_WRITE) == 0;
+    bool are_cleared = is_over_frame && !is_anew;
+    if (!is_anew && !is_over_frame && madvise(address_of(window, first), bytes_of(count), MADV_DONTNEED) < 0)
         return result_of(WINDOW_NO_MAPPING, errno);
-    if (is_over_frame && map_pages(window, first, count, ZEROS, PROT_READ | PROT_WRITE) != 0) {
-        clear(window, first, count);
-        is_cleared = true;
-    }
-    if (is_over_frame && !is_cleared) note_apart(window, first, count);
-    note_given_up(window, first, count, is_cleared);
+    if (is_anew) note_apart(window, first, count);
+    if (are_cleared) clear(window, first, count);
+    note_given_up(window, first, count, are_cleared);
     return result_of(WINDOW_OK, 0);
 }
 
 /* Gives up pages in one mapping that have left the window, over frames. What the caller said of them since holds on. With the lock. */
 static struct window_result give_up_left(struct window *window, size_t first, const struct mapping_facts *facts) {
     if (facts->is_locked) return result_of(WINDOW_LOCKED, EINVAL); /* (as the system refuses it) */
-    int cause = map_pages(window, first, facts->pages, ZEROS, facts->protection);
-    bool is_cleared = cause != 0 && (facts->protection & PROT_WRITE) != 0;
-    if (cause != 0 && !is_cleared) return result_of(WINDOW_NO_MAPPING, cause);
-    if (is_cleared) clear(window, first, facts->pages);
+    /* (what can't be written takes a mapping in any case: a guest can't make it be so) */
+    bool may_clear = (facts->protection & PROT_WRITE) != 0;
+    bool has_room = !may_clear || has_room_for_zeros(window, first, facts->pages);
+    int cause = has_room ? map_pages(window, first, facts->pages, ZEROS, facts->protection) : ENOMEM;
+    bool are_cleared = cause != 0 && may_clear;
+    if (cause != 0 && !are_cleared) return result_of(WINDOW_NO_MAPPING, cause);
+    if (are_cleared) clear(window, first, facts->pages);
     else cause = advice_give(&facts->advice, &window->found, address_of(window, first), facts->pages);
-    if (!is_cleared && cause != 0) window->windows->advice_cause = cause;
-    note_given_up(window, first, facts->pages, is_cleared);
+    if (!are_cleared && cause != 0) window->windows->advice_cause = cause;
+    note_given_up(window, first, facts->pages, are_cleared);
     return result_of(WINDOW_OK, 0);
+}
+
+/*
+ * Finds in which mapping a page is that has left the window, and what was said of it: what was said of the window, if the caller can have
+ * said nothing of a part, and nothing is locked. Only else the process's mappings are read, which takes long if they are many.
+ */
+static int find_left(const struct window *window, size_t page, size_t most, struct mapping_facts *facts) {
+    size_t kib = 0;
+    const uint8_t *at = address_of(window, page);
+    bool is_known = !window->has_cuts && locked_kib(&kib) == 0 && kib == 0;
+    if (!is_known || mapping_ask(facts, at, most) != 0) return mapping_read(facts, at, most);
+    facts->advice = window->advice;
+    return 0;
 }
 
 static struct window_result give_up_all_left(struct window *window, size_t first, size_t count) {
     struct window_result result = result_of(WINDOW_OK, 0);
     struct mapping_facts facts = {.pages = 0};
     for (size_t done = 0; done < count && result.status == WINDOW_OK; done += facts.pages) {
-        int cause = mapping_read(&facts, address_of(window, first + done), count - done);
+        int cause = find_left(window, first + done, count - done, &facts);
         result = cause == 0 ? give_up_left(window, first + done, &facts) : result_of(WINDOW_NO_MAPPING, cause);
     }
     return result;
@@ -145,7 +162,8 @@ static int begin_home(struct home *home) {
     if (cause == 0) cause = advice_say(address_of(window, home->first), home->count, MADV_UNMERGEABLE);
     if (cause == 0) {
         cause = faults_watch(&window->windows->faults, address_of(window, home->first), home->count, FAULTS_OF_WRITES);
-        if (cause != 0) let_waiters_go(window, home->first, home->count); /* (of some pages the watch may have begun) */
+        if (cause != 0 && cause != EBUSY)
+            let_waiters_go(window, home->first, home->count); /* (of some pages the watch may have begun) */
     }
     if (cause != 0) unmap_apart(home->at, bytes_of(home->count));
     return cause;
@@ -171,7 +189,9 @@ static int find_staying(struct home *home) {
 static int bring(struct home *home, size_t from, size_t count) {
     struct window *window = home->window;
     uint8_t *to = address_of(window, home->first + from), *copies = home->at + bytes_of(from);
-    for (size_t i = 0; i < count; i++) copy_page(copies + bytes_of(i), to + bytes_of(i));
+    for (size_t i = 0; i < count; i++)
+        if (!is_cleared(window, home->first + from + i) || !is_zero(to + bytes_of(i)))
+            copy_page(copies + bytes_of(i), to + bytes_of(i));
     if (mremap(copies, bytes_of(count), bytes_of(count), MREMAP_MAYMOVE | MREMAP_FIXED, to) == MAP_FAILED) return errno;
     note_moved(window, home->first + from, count);
     for (size_t i = from; i < from + count; i++) {
@@ -300,6 +320,13 @@ static struct window_result cut_part(struct window *window, size_t first, size_t
 }
 
 struct window_result window_cut(struct window *window, size_t first, size_t count, size_t *kept) {
+    lock_set(window->windows);
+    window->has_cuts = true;
+    unlock_set(window->windows);
+    return window_leave(window, first, count, kept);
+}
+
+struct window_result window_leave(struct window *window, size_t first, size_t count, size_t *kept) {
     size_t found = 0;
     if (!is_in(window, first, count)) return result_of(WINDOW_BAD_RANGE, EINVAL);
     struct window_result result = for_parts(window, first, count, cut_part);

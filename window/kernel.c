@@ -120,8 +120,8 @@ int faults_watch(const struct faults *faults, void *at, size_t pages, enum fault
     struct uffdio_register watched = {.range = range_of(at, pages),
                                       .mode = of == FAULTS_OF_MISSING ? UFFDIO_REGISTER_MODE_MISSING : UFFDIO_REGISTER_MODE_WP};
     int cause = error_of(ioctl(faults->fd, UFFDIO_REGISTER, &watched));
-    /* (where the pages are in several mappings it may have begun with some) */
-    if (cause != 0) faults_end_watch(faults, at, pages);
+    /* (where the pages are in several mappings it may have begun with some; but not where another userfaultfd has one of them) */
+    if (cause != 0 && cause != EBUSY) faults_end_watch(faults, at, pages);
     return cause;
 }
 
@@ -421,12 +421,9 @@ int mapping_copy(void *at, const void *from, size_t pages) {
     return mremap(source, bytes, bytes, MREMAP_MAYMOVE | MREMAP_FIXED | MREMAP_DONTUNMAP, at) == MAP_FAILED ? errno : 0;
 }
 
-int mapping_put(void *at, size_t pages, int protection, int file, size_t file_page) {
-    const size_t bytes = bytes_of(pages);
+/* Maps something elsewhere, and moves it to its place. */
+static int put_from_aside(void *at, size_t bytes, int protection, int kind, int file, off_t from) {
     const bool is_file = file != NO_FILE;
-    const int kind = MAP_PRIVATE | MAP_NORESERVE | (is_file ? 0 : MAP_ANONYMOUS);
-    const off_t from = is_file ? (off_t)bytes_of(file_page) : 0;
-    if (!is_file && !is_limited()) return mmap(at, bytes, protection, kind | MAP_FIXED, file, from) == MAP_FAILED ? errno : 0;
     void *aside = map_apart_from(bytes, protection, kind, file, from);
     if (aside == MAP_FAILED) return errno;
     bool is_kept = !is_file || madvise(aside, bytes, MADV_DONTFORK) == 0;
@@ -434,6 +431,17 @@ int mapping_put(void *at, size_t pages, int protection, int file, size_t file_pa
     int cause = errno;
     unmap_apart(aside, bytes);
     return cause;
+}
+
+int mapping_put(void *at, size_t pages, int protection, int file, size_t file_page) {
+    return put_from_aside(at, bytes_of(pages), protection, MAP_PRIVATE | MAP_NORESERVE, file, (off_t)bytes_of(file_page));
+}
+
+int mapping_put_zeros(void *at, size_t pages, int protection, bool are_reserved) {
+    const size_t bytes = bytes_of(pages);
+    const int kind = MAP_PRIVATE | MAP_ANONYMOUS | (are_reserved ? 0 : MAP_NORESERVE);
+    if (is_limited()) return put_from_aside(at, bytes, protection, kind, NO_FILE, 0);
+    return mmap(at, bytes, protection, kind | MAP_FIXED, NO_FILE, 0) == MAP_FAILED ? errno : 0;
 }
 
 int locked_kib(size_t *kib) {

@@ -72,6 +72,8 @@ struct policy {
 /* What was said of a range of memory. */
 struct advice {
     bool dont_fork, wipe_on_fork, dont_dump, no_huge, huge, mergeable;
+    bool
+        is_reserved; /* the system counts it as memory that it has promised: it wasn't mapped by MAP_NORESERVE. It isn't said again */
     struct policy policy;
 };
 struct range_facts {
@@ -91,12 +93,14 @@ struct mapping_facts {
     bool is_locked;
     struct advice advice;
 };
-/* Reads in which mapping a page is, of `most` pages from there on. */
+/* Reads in which mapping a page is, of `most` pages from there on. That takes long where the process has many mappings. */
 int mapping_read(struct mapping_facts *facts, const void *at, size_t most);
+/* Asks the same, but for what was said of the mapping and whether it is locked. Returns an errno where the system has no such question. */
+int mapping_ask(struct mapping_facts *facts, const void *at, size_t most);
 
 /* What is mapped anew: frames, memory in pages of 4,096 bytes, or memory that may be huge pages. */
 enum memory { MEMORY_OF_FRAMES, MEMORY_SMALL, MEMORY_HUGE };
-/* Says of a range that was mapped anew what was said of the window. */
+/* Says of a range that was mapped anew what was said of the window; of frames no memory policy, which would be the file's. */
 int advice_set(const struct advice *advice, void *at, size_t pages, enum memory memory);
 /* Whether the system may back memory of which this was said by huge pages of PAGEMAP_MOST pages. */
 bool advice_allows_huge(const struct advice *advice);
@@ -119,10 +123,11 @@ int locked_find(bool (*is_it)(void *opaque, const uint8_t *begin, const uint8_t 
  */
 int mapping_copy(void *at, const void *from, size_t pages);
 /*
- * Puts pages of a file there, from its page `file_page` on, which no child of a fork ever has; or zeros if `file` is NO_FILE. Where it fails
- * nothing has changed.
+ * Puts pages of a file there, from its page `file_page` on, which no child of a fork ever has; or zeros, which the system counts as memory that
+ * it has promised, or not. Where it fails nothing has changed.
  */
 int mapping_put(void *at, size_t pages, int protection, int file, size_t file_page);
+int mapping_put_zeros(void *at, size_t pages, int protection, bool are_reserved);
 
 /*
  * Maps memory for the library itself, as mmap does, far from the places that the system chooses by itself. A process may leave a hole in a

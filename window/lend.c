@@ -22,8 +22,10 @@ struct hold {
     bool any_remapped; /* other memory than the scratch area's is at a place since */
     int stuck_cause;   /* what the system refused to let pages go with, or 0 */
     bool held[HOLD_MOST];
-    uint8_t row[HOLD_MOST]; /* of each page, where its memory is, and whether it is stuck: the library writes it */
-    bool zeros[HOLD_MOST];  /* zeros were mapped */
+    uint8_t row[HOLD_MOST];   /* of each page, where its memory is, and whether it is stuck: the library writes it */
+    bool zeros[HOLD_MOST];    /* zeros were mapped */
+    bool given_up[HOLD_MOST]; /* in place of a page that was cleared since it was given up */
+    bool missing[HOLD_MOST];  /* nobody waits for the page any more, and what was mapped there has no page yet */
 };
 
 static page_entry *page_of(const struct hold *hold, size_t i) { return &hold->window->pages[hold->first + i]; }
@@ -78,7 +80,8 @@ static bool begin_hold(struct hold *hold) {
     if (is_asked) cause = faults_watch(&windows->faults, at, hold->count, hold->moves ? FAULTS_OF_MISSING : FAULTS_OF_WRITES);
     if (cause != 0) {
         note_failure(windows, WINDOW_NO_MAPPING, cause);
-        return is_asked; /* (of some pages the watch may have begun) */
+        /* (of some pages the watch may have begun; not where another userfaultfd has one of them) */
+        return is_asked && cause != EBUSY;
     }
     hold->begun_ns = clock_now_ns();
     if (hold->moves) {
@@ -91,7 +94,7 @@ static bool begin_hold(struct hold *hold) {
     return true;
 }
 
-/* The pages are held that can be. (Writes to one that isn't may wait all the same, until the watch ends.) */
+/* Holds as many of the pages as the kernel allows. Writes to the others may still block until the watch ends. */
 static void take(struct hold *hold) {
     struct window *window = hold->window;
     struct trace *trace = window->windows->trace;
@@ -127,7 +130,8 @@ static struct came compare(struct hold *hold, const struct pageshare_window_row_
         size_t i = todo->first + done;
         const uint8_t *page = memory_of(hold, i);
         uint32_t frame = page_of(hold, i)->frame;
-        bool is_equal = is_frame ? are_equal(page, windows->frames_at + bytes_of(frame)) : is_zero(page);
+        const uint8_t *frames = windows->frames_at; /* (NULL if lending has ended since: then they aren't equal) */
+        bool is_equal = is_frame ? frames != NULL && are_equal(page, frames + bytes_of(frame)) : is_zero(page);
         windows->counts.changed += is_equal ? 0 : 1;
         if (!is_equal) return (struct came){.done = done, .refused = 1};
         if (is_frame) trace_lend(windows->trace, number_of(hold, i), frame);
@@ -163,11 +167,15 @@ static struct came map(struct hold *hold, const struct pageshare_window_row_orde
     struct windows *windows = hold->window->windows;
     bool is_frame = todo->step == PAGESHARE_WINDOW_HOLD_MAP;
     uint32_t target = is_frame ? page_of(hold, todo->first)->frame : ZEROS;
+    bool has_room = is_frame || has_room_for_zeros(hold->window, hold->first + todo->first, todo->count);
     trace_dawdle();
-    int cause = map_pages(hold->window, hold->first + todo->first, todo->count, target, PROT_READ | PROT_WRITE);
+    for (size_t i = todo->first; i < todo->first + todo->count; i++)
+        hold->given_up[i] = is_cleared(hold->window, hold->first + i);
+    int cause =
+        has_room ? map_pages(hold->window, hold->first + todo->first, todo->count, target, PROT_READ | PROT_WRITE) : ENOMEM;
     if (cause != 0) {
         note_crowded(windows, todo->count);
-        note_failure(windows, WINDOW_NO_MAPPING, cause);
+        if (has_room) note_failure(windows, WINDOW_NO_MAPPING, cause);
         return (struct came){.refused = todo->count};
     }
     for (size_t i = todo->first; i < todo->first + todo->count && is_frame; i++) trace_map(windows->trace, number_of(hold, i));
@@ -205,6 +213,7 @@ static void note_end(struct hold *hold, size_t i, bool is_done) {
     if (is_zeros) {
         note_zero(hold->window, hold->first + i, true);
         windows->counts.zeros++;
+        hold->missing[i] = is_done && !hold->given_up[i];
         if (is_done) trace_discard(windows->trace, number_of(hold, i));
     }
     if (hold->held[i] && !is_given && is_done) trace_unguard(windows->trace, number_of(hold, i));
@@ -217,6 +226,19 @@ static struct came end_watch(struct hold *hold, const struct pageshare_window_ro
     if (cause == 0) return (struct came){.done = todo->count};
     hold->stuck_cause = cause;
     return (struct came){.refused = todo->count};
+}
+
+/*
+ * Has the kernel's page of zeros be there in place of what was given back. The monitor may have the page as one that is there: where it
+ * watches for missing pages itself by now or later, as QEMU does for a postcopy, nobody would bring it another one. A page that the monitor
+ * gave up stays missing. Nobody waits for any of them.
+ */
+static void show_zeros(const struct hold *hold) {
+    for (size_t i = 0, count = 1; i < hold->count; i += count, count = 1) {
+        while (i + count < hold->count && hold->missing[i + count] == hold->missing[i]) count++;
+        if (!hold->missing[i] || madvise(place_of(hold, i), bytes_of(count), MADV_POPULATE_READ) == 0) continue;
+        for (size_t page = i; page < i + count; page++) (void)*(const volatile uint8_t *)place_of(hold, page);
+    }
 }
 
 /* Carries out the orders of a row, one after another. What the system refuses to let go is kept for a later look. */
@@ -247,6 +269,7 @@ int free_stuck(struct windows *windows) {
         struct hold hold = {.window = stuck.window, .first = stuck.page, .count = 1, .scratch = stuck.scratch, .held = {true}};
         hold.row[0] = pageshare_window_row_again(stuck.byte);
         carry_out(&hold);
+        show_zeros(&hold);
         cause = hold.stuck_cause != 0 ? hold.stuck_cause : cause;
         any_remapped = any_remapped || hold.any_remapped;
     }
@@ -284,6 +307,7 @@ static void settle(struct hold *hold) {
     if (cause != 0) note_failure(windows, WINDOW_NO_MAPPING, cause);
     note_zeros(hold);
     note_held(hold, hold->left);
+    show_zeros(hold);
     for (size_t i = 0; i < hold->count; i++)
         pageshare_window_held(page_of(hold, i), part_counts(hold->window, hold->first + i), hold->held[i]);
     if (hold->any_file) say_again(hold->window, hold->first, hold->count, true);
@@ -299,7 +323,7 @@ static bool seems_equal(const struct window *window, size_t number) {
     const struct windows *windows = window->windows;
     const page_entry *page = &window->pages[number];
     if (belief_of(page) == PAGESHARE_WINDOW_ZEROS) return is_zero(address_of(window, number));
-    return page->frame < windows->lender.frame_count &&
+    return page->frame < windows->lender.frame_count && windows->frames_at != NULL &&
            are_equal(address_of(window, number), windows->frames_at + bytes_of(page->frame));
 }
 
@@ -324,6 +348,14 @@ void begin_turn(struct turn *turn) {
 /* What a page is to become. */
 enum wish { TO_BE_SHOWN, TO_BE_GIVEN_BACK };
 
+/* Whether the system has a mapping for zeros in place of a page, if it needs one. Otherwise it is asked about again later. With the lock. */
+static bool may_give_back(struct window *window, size_t number) {
+    if (has_room_for_zeros(window, number, 1)) return true;
+    note_crowded(window->windows, 1);
+    pageshare_window_asked_last(&window->pages[number], part_counts(window, number));
+    return false;
+}
+
 /*
  * Orders a page to be held, if it is equal to what it is to show. All of it may have changed since it was found idle. Otherwise its loan,
  * if it has one, is to be released. With the lock.
@@ -332,6 +364,7 @@ static bool order_hold(struct window *window, size_t number, enum wish wish) {
     page_entry *page = &window->pages[number];
     const struct pageshare_window_facts facts = facts_of(window, number);
     bool is_zeros = wish == TO_BE_GIVEN_BACK;
+    if (is_zeros && !may_give_back(window, number)) return false;
     if (is_zeros && !pageshare_window_choose(page, part_counts(window, number), &facts, true)) return false;
     enum pageshare_window_order order = order_of(window, number);
     bool is_hold = order == (is_zeros ? PAGESHARE_WINDOW_HOLD_ZEROS : PAGESHARE_WINDOW_HOLD);
@@ -513,12 +546,13 @@ static void take_loan(struct window *window, size_t number, const struct window_
     page_entry *page = &window->pages[number];
     bool is_given = loan->frame != WINDOW_NO_FRAME, is_named = is_given && window_is_slot(loan->slot);
     bool is_good = is_named && loan->frame < windows->lender.frame_count;
+    bool is_read = is_good && windows->frames_at != NULL; /* (not once lending has ended) */
     if (is_named) pageshare_window_lent(page, part_counts(window, number), slot_name(loan->slot), loan->frame);
     else note_order(window, number, false);
     if (!is_named) pageshare_window_asked_last(page, part_counts(window, number));
     windows->counts.no_frame += is_given ? 0 : 1;
     if (is_given && !is_good) note_failure(windows, WINDOW_LENDER_FAILED, EPROTO);
-    if (is_good) trace_frame(windows->trace, loan->frame, windows->frames_at + bytes_of(loan->frame));
+    if (is_read) trace_frame(windows->trace, loan->frame, windows->frames_at + bytes_of(loan->frame));
 }
 
 /* Takes the loans of a batch, or that none was got. Leaves the pages that have one. Takes the lock. */

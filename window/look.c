@@ -158,6 +158,15 @@ static void find_among(struct window *window, size_t first, size_t count, const 
     }
 }
 
+/* Without PAGEMAP_SCAN the kernel's page of zeros looks like memory: where it was put in place of what was given back, bytes tell. */
+static void leave_out_zeros(const struct window *window, size_t first, size_t count, uint8_t *found) {
+    for (size_t i = 0; i < count; i++) {
+        const page_entry *page = &window->pages[first + i];
+        if (found[i] == PAGE_PRESENT && is_given_back(page) && !is_out(page) && is_zero(address_of(window, first + i)))
+            found[i] = PAGE_NONE;
+    }
+}
+
 /* Looks at pages of a part. With the lock. */
 static void find_in_part(struct window *window, size_t first, size_t count, struct findings *findings) {
     struct windows *windows = window->windows;
@@ -173,6 +182,7 @@ static void find_in_part(struct window *window, size_t first, size_t count, stru
         note_failure(windows, WINDOW_NO_PAGEMAP, cause);
         return;
     }
+    if (!windows->pagemap.scans) leave_out_zeros(window, first, count, found);
     for (size_t i = 0; i < count; i++) own += found[i] != PAGE_NONE ? 1 : 0;
     if (!findings->is_return) note_huge(window, first, is_huge && windows->pagemap.scans && part->is.whole);
     if (!findings->is_return && (part->is.whole || part->is.left == 0)) settle_part(window, first, own, is_huge);

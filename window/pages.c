@@ -18,9 +18,9 @@ void lock_for_look(struct windows *windows) {
 }
 
 bool is_in_transfer(const struct window *window, size_t page) {
-    const struct windows *windows = window->windows;
-    const uint64_t at = (uintptr_t)address_of(window, page), there = windows->transfers_count;
-    return pageshare_window_is_in_transfer(windows->transfers, TRANSFERS_MOST, there, at, at + WINDOW_PAGE_BYTES);
+    struct pageshare_window_transfer row = {.is_there = false};
+    const uint64_t at = (uintptr_t)address_of(window, page), rows = find_transfers(window, page, 1, &row);
+    return pageshare_window_is_in_transfer(&row, rows, rows, at, at + WINDOW_PAGE_BYTES);
 }
 
 void find_pins(struct windows *windows) {
@@ -46,7 +46,7 @@ static const uint16_t *pins_of(const struct window *window) { return window->pin
 struct pageshare_window_table_facts table_of(const struct window *window) {
     const struct windows *windows = window->windows;
     return (struct pageshare_window_table_facts){.at = (uintptr_t)window->at,
-                                                 .there = windows->transfers_count,
+                                                 .there = ROWS_MOST, /* (all that find_transfers finds) */
                                                  .elsewhere = windows->transfers_elsewhere,
                                                  .may_pin = windows->pins != WINDOWS_PINS_NEVER,
                                                  .inherited = !window->advice.dont_fork,
@@ -58,9 +58,9 @@ struct pageshare_window_table_facts table_of(const struct window *window) {
 void find_facts(const struct window *window, const struct pageshare_window_table_facts *table, size_t number,
                 struct pageshare_window_facts *facts) {
     static const struct pageshare_window_facts nothing;
-    const struct windows *windows = window->windows;
-    pageshare_window_find_facts(table, pins_of(window), pins_in(window), windows->transfers, TRANSFERS_MOST, &nothing, number,
-                                facts);
+    struct pageshare_window_transfer row = {.is_there = false};
+    const size_t rows = find_transfers(window, number, 1, &row);
+    pageshare_window_find_facts(table, pins_of(window), pins_in(window), &row, rows, &nothing, number, facts);
 }
 
 struct pageshare_window_facts facts_of(const struct window *window, size_t number) {
@@ -72,10 +72,10 @@ struct pageshare_window_facts facts_of(const struct window *window, size_t numbe
 
 struct pageshare_window_facts facts_with(const struct window *window, size_t number, struct pageshare_window_facts why) {
     const struct pageshare_window_table_facts table = table_of(window);
-    const struct windows *windows = window->windows;
+    struct pageshare_window_transfer row = {.is_there = false};
+    const size_t rows = find_transfers(window, number, 1, &row);
     struct pageshare_window_facts facts;
-    pageshare_window_find_facts(&table, pins_of(window), pins_in(window), windows->transfers, TRANSFERS_MOST, &why, number,
-                                &facts);
+    pageshare_window_find_facts(&table, pins_of(window), pins_in(window), &row, rows, &why, number, &facts);
     return facts;
 }
 
@@ -101,8 +101,10 @@ bool order_release(struct window *window, size_t number) {
 
 bool may_go_on(const struct window *window, size_t first, size_t count, struct pageshare_window_facts why) {
     const struct pageshare_window_table_facts table = table_of(window);
-    return pageshare_window_may_go_on(window->pages, window->count, &table, pins_of(window), pins_in(window),
-                                      window->windows->transfers, TRANSFERS_MOST, &why, first, count);
+    struct pageshare_window_transfer rows[ROWS_MOST];
+    const size_t found = find_transfers(window, first, count, rows);
+    return pageshare_window_may_go_on(window->pages, window->count, &table, pins_of(window), pins_in(window), rows, found, &why,
+                                      first, count);
 }
 
 bool may_give_up(const struct window *window, size_t first, size_t count) {
@@ -111,16 +113,19 @@ bool may_give_up(const struct window *window, size_t first, size_t count) {
 
 bool are_movable(const struct window *window, size_t first, size_t count) {
     const struct pageshare_window_table_facts table = table_of(window);
-    return pageshare_window_are_movable(window->pages, window->count, &table, pins_of(window), pins_in(window),
-                                        window->windows->transfers, TRANSFERS_MOST, first, count);
+    struct pageshare_window_transfer rows[ROWS_MOST];
+    const size_t found = find_transfers(window, first, count, rows);
+    return pageshare_window_are_movable(window->pages, window->count, &table, pins_of(window), pins_in(window), rows, found,
+                                        first, count);
 }
 
 struct pageshare_window_row_order next_of_row(struct window *window, size_t first, const uint8_t *row, size_t count) {
     const struct pageshare_window_table_facts table = table_of(window);
+    struct pageshare_window_transfer rows[HOLD_MOST];
+    const size_t found = find_transfers(window, first, count, rows);
     struct pageshare_window_row_order order;
     pageshare_window_next_of_row(window->pages, window->count, window->counts, parts_in(window), window->lead, &table,
-                                 pins_of(window), pins_in(window), window->windows->transfers, TRANSFERS_MOST, first, row, count,
-                                 &order);
+                                 pins_of(window), pins_in(window), rows, found, first, row, count, &order);
     return order;
 }
 
@@ -171,6 +176,7 @@ static void note_memory(struct window *window, size_t first, size_t count, uint3
         pageshare_window_uncover(pages, window->count, window->counts, parts_in(window), window->lead, first, count, is_moved);
     else pageshare_window_cover(pages, window->count, window->counts, parts_in(window), window->lead, first, count, frame);
     *mappings += mappings_of(window, first, count);
+    note_cleared(window, first, count, false);
 }
 
 void note_moved(struct window *window, size_t first, size_t count) { note_memory(window, first, count, ZEROS, true); }
@@ -179,7 +185,7 @@ void note_moved(struct window *window, size_t first, size_t count) { note_memory
 static const uint8_t *source_of(const struct window *window, uint32_t frame, int protection) {
     const struct windows *windows = window->windows;
     if (!window->advice.dont_fork || protection != (PROT_READ | PROT_WRITE)) return NULL;
-    if (frame == ZEROS) return windows->zeros;
+    if (frame == ZEROS) return window->advice.is_reserved ? windows->reserved_zeros : windows->zeros;
     return windows->frames_are_given ? windows->frames_at + bytes_of(frame) : NULL;
 }
 
@@ -201,6 +207,30 @@ static bool are_alone(const struct window *window, size_t first, size_t behind) 
     return !joins_before && (behind == window->count || !may_join(window, behind, is_whole));
 }
 
+/* Whether the system joins zeros with a page beside them, so that no mapping begins between them. */
+static bool joins(const struct window *window, size_t page, bool is_whole) {
+    return may_join(window, page, is_whole) && !is_moved(&window->pages[page]);
+}
+
+bool has_room_for_zeros(const struct window *window, size_t first, size_t count) {
+    const struct windows *windows = window->windows;
+    const bool is_whole = part_of(window, first)->is.whole;
+    const size_t behind = first + count, before = mappings_of(window, first, count);
+    size_t after = first > 0 && joins(window, first - 1, is_whole) ? 0 : 1;
+    if (behind < window->count && !joins(window, behind, is_whole)) after++;
+    return pageshare_window_has_mappings(windows->mappings_most, windows->counts.mappings, after > before ? after - before : 0);
+}
+
+enum { BITS = 8 /* of `cleared` in a byte */ };
+
+bool is_cleared(const struct window *window, size_t page) { return (window->cleared[page / BITS] >> page % BITS & 1) != 0; }
+
+void note_cleared(struct window *window, size_t first, size_t count, bool are_cleared) {
+    for (size_t page = first; page < first + count; page++) {
+        if (is_cleared(window, page) != are_cleared) window->cleared[page / BITS] ^= (uint8_t)(1 << page % BITS);
+    }
+}
+
 void note_apart(struct window *window, size_t first, size_t count) {
     bool written[PART], are_zeros[PART];
     int cause = pagemap_find_copies(&window->windows->pagemap, address_of(window, first), count, written);
@@ -220,7 +250,8 @@ int map_pages(struct window *window, size_t first, size_t count, uint32_t frame,
     int cause = source != NULL ? mapping_copy(at, source, count) : ENOENT;
     /* (zeros may be a child's for a moment) */
     if (cause != 0)
-        cause = mapping_put(at, count, protection, is_file ? window->windows->frames_fd : NO_FILE, is_file ? frame : 0);
+        cause = is_file ? mapping_put(at, count, protection, window->windows->frames_fd, frame)
+                        : mapping_put_zeros(at, count, protection, window->advice.is_reserved);
     if (cause != 0) return cause;
     /* (what the system refuses to say of zeros keeps it from joining them with what is beside them) */
     bool is_said = is_file || has_left || say_again(window, first, count, false);

@@ -25,10 +25,10 @@
  *            order.step != PAGESHARE_WINDOW_HOLD_OVER)
  *         pageshare_window_row_done(pages, 4096, parts, 8, 0, 512, row, 16, &order, done, refused);  once the order was carried out
  *
- * A look, of tasks that are carried out one after another:
+ * A scan, of tasks that are carried out one after another:
  *
  *     static struct pageshare_window_tasks tasks;
- *     pageshare_window_begin_tasks(&tasks, now);
+ *     pageshare_window_begin_tasks(&tasks);
  *     while ((task = pageshare_window_next_task(&tasks, &budget, now, used)).kind != PAGESHARE_WINDOW_TASK_OVER)
  *         pageshare_window_task_done(&tasks, &task, &outcome, now);  once the task was carried out, and with what came of it
  *
@@ -276,7 +276,7 @@ struct pageshare_window_counts {
     uint16_t shareable; /* pages that were seen elsewhere, or are zeros */
 };
 
-/* What is so of a page, its window and its process, as far as it keeps the page from being lent. */
+/* Reasons why a page may not be lent now. */
 struct pageshare_window_facts {
     bool called;    /* a call of the monitor changes it just now */
     bool pinned;    /* a device may hold its memory */
@@ -502,10 +502,10 @@ uint8_t pageshare_window_next_of_part(struct pageshare_window_part *part, const 
                                       const struct pageshare_window_part_look *look);
 
 /*
- * How many mappings of the system
- *   begin at `count` pages of a window from `first` on, or at the page behind them, as far as these are there: of all pages, what the window takes;
- *   more may begin there, whatever becomes of these pages;
- *   a window of `count` pages takes at first, where nothing is known of its pages.
+ * VMAs of `count` pages of a window from `first` on:
+ *   _at: how many begin at these pages, or at the one behind them, as far as these are there. Of all pages: how many the window uses.
+ *   _more: the most that any change of these pages can add.
+ *   _new: how many a new window of `count` pages uses.
  * `parts` has each part, and `lead` pages of the first part lie before the window. A part that isn't there counts as split.
  *
  * Pages with memory of their own count as one mapping if it was moved there all at once, or not moved, in parts that are all whole or all split.
@@ -678,7 +678,7 @@ void pageshare_window_asked(struct pageshare_window_page *page, struct pageshare
 void pageshare_window_asked_last(struct pageshare_window_page *page, struct pageshare_window_counts *part);
 void pageshare_window_ask_at_once(struct pageshare_window_page *page, struct pageshare_window_counts *part);
 void pageshare_window_held(struct pageshare_window_page *page, struct pageshare_window_counts *part, bool was_held);
-/* Whether others mustn't find a page by the question about it. */
+/* True if the host should answer this question but not remember it. */
 bool pageshare_window_is_in_passing(const struct pageshare_window_page *page, const struct pageshare_window_part *part,
                                     const struct pageshare_window_look *look, uint32_t number);
 /* What a look found of a part: idle pages that have changed, and pages with memory of their own. Or its rest ends. */

@@ -19,7 +19,7 @@ enum {
     FOUND_MOST = PART + WINDOW_BATCH, /* what a part has, beside less than a batch that was found before it */
     STILL = 3,                        /* looks with the same fingerprint that make a page idle */
     ASKS_APART_MOST = 3,              /* questions about a page that were in vain are counted up to this number */
-    TRANSFERS_MOST = 128              /* transfers under way that are kept by their places */
+    ROWS_MOST = PART / 2              /* rows of a part's pages of which transfers are under way */
 };
 
 /* In place of a frame's number: the page is zeros, and goes back to the system. */
@@ -85,11 +85,14 @@ struct window {
     struct part *parts;
     struct pageshare_window_counts *counts; /* of each part's pages */
     uint16_t *pins;                         /* of each page; NULL: none was pinned yet */
+    uint16_t *moving;                       /* how many transfers are under way of each page; NULL: none was yet */
+    uint8_t *cleared;                       /* a bit of each page: it was given up over a frame, where it is zeros of its own */
     struct advice found;                    /* what was said of the range before it was a window */
     struct advice advice;
     size_t ready;    /* its pages before this one are left alone by KSM */
     size_t seams;    /* between mappings that it consisted of when it was made: they count as mappings as long as it is one */
     bool keeps_huge; /* the system may back parts of it by huge pages */
+    bool has_cuts;   /* pages were cut out, of which the caller may have said advice since */
     bool ends;       /* nothing is lent of it any more */
     bool ended;      /* the range is the caller's again; only slots are left to release */
 };
@@ -115,19 +118,21 @@ struct windows {
     struct window *first;
     struct faults faults;
     struct pagemap pagemap;
-    uint8_t *scratch; /* place for SCRATCH pages that are held, or were */
-    bool has_scratch; /* pages can be moved there */
-    uint8_t *zeros;   /* PART pages that nobody touches, and no child has; NULL if there are none */
+    uint8_t *scratch;        /* place for SCRATCH pages that are held, or were */
+    bool has_scratch;        /* pages can be moved there */
+    uint8_t *zeros;          /* PART pages that nobody touches, and no child has; NULL if there are none */
+    uint8_t *reserved_zeros; /* such for windows whose memory is reserved: with other zeros the system wouldn't join it */
     size_t scratch_used;
     struct stuck stuck[PART];
     size_t stuck_count;
     enum windows_pins pins;
     enum windows_pins (*find_pins)(void *opaque);
     void *find_pins_opaque;
-    /* Transfers by O_DIRECT that are under way, which may have pinned the pages of their memory. */
-    struct pageshare_window_transfer transfers[TRANSFERS_MOST];
-    size_t transfers_count;       /* how many places have one */
-    uint64_t transfers_elsewhere; /* those that have no place there */
+    /* Transfers by O_DIRECT that are under way, which may have pinned the pages of their memory. Each window counts them at its pages. */
+    struct transfer_place *places;
+    size_t places_count, places_free; /* how many there are; one more than the first free one, or 0 */
+    size_t transfers_count;           /* how many places have one */
+    uint64_t transfers_elsewhere;     /* those that have no place, or aren't counted at their pages */
     size_t mappings_most, locked_kib;
     bool follows_limit;      /* nobody said how many mappings there may be: the system's limit counts, also when it is raised */
     uint64_t locks_after_ns; /* smaps isn't read before this time */
@@ -148,7 +153,7 @@ struct windows {
     bool has_lender, lender_waits; /* waits: it didn't answer, and is left alone until the next look */
     struct turn turn;
     int frames_fd;
-    uint8_t *frames_at;    /* the frames' file, for reading */
+    uint8_t *frames_at;    /* the frames' file, for reading; NULL once nothing is lent any more. With the lock */
     bool frames_are_given; /* it is mapped as windows show frames, and no child has it: parts of it can be put in a window */
     uint64_t fingerprint_of_zeros;
     struct pageshare_window_tasks tasks;
@@ -197,6 +202,15 @@ static inline bool can_lend(const struct window *window) {
     return window->advice.dont_fork && !window->ends && !window->windows->is_over;
 }
 
+/*
+ * Finds rows of pages, of at most PART, of which transfers are under way: `rows` has place for as many, and at most ROWS_MOST. Returns how
+ * many there are. With the lock.
+ */
+size_t find_transfers(const struct window *window, size_t first, size_t count, struct pageshare_window_transfer *rows);
+/* Counts those that are under way at the pages of a new window. Returns false if that can't be. With the lock. */
+bool count_transfers(struct window *window);
+size_t bytes_of_places(const struct windows *windows);
+void free_places(struct windows *windows);
 /* Whether a transfer of a page is under way. With the lock. */
 bool is_in_transfer(const struct window *window, size_t page);
 /* Whether any page with a copy over a frame may be pinned, for all that is known. With the lock. */
@@ -277,6 +291,16 @@ void note_moved(struct window *window, size_t first, size_t count);
  * With the lock.
  */
 void note_apart(struct window *window, size_t first, size_t count);
+
+/* Whether the system has mappings for zeros in place of pages in a row. What others of the process need is left to them. With the lock. */
+bool has_room_for_zeros(const struct window *window, size_t first, size_t count);
+
+/*
+ * Whether a page was given up while the system had no mapping for it, so that it was cleared. Once no frame lies under it any more it is
+ * missing, if it is zeros still, as what is given up is otherwise. With the lock.
+ */
+bool is_cleared(const struct window *window, size_t page);
+void note_cleared(struct window *window, size_t first, size_t count, bool are_cleared);
 
 /* Maps frames in a row in place of pages, or zeros, with this protection. Returns 0 or an errno, and then nothing has changed. */
 int map_pages(struct window *window, size_t first, size_t count, uint32_t frame, int protection);

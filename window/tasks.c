@@ -124,19 +124,19 @@ static bool sleep_on(struct look *look) {
     return true;
 }
 
-/* Other calls, locks and devices. Where memory is locked a look that hasn't begun goes on until it has said so. */
+/* Other calls, and locks. Where memory is locked a look that hasn't begun goes on until it has said so. */
 static bool attend(struct look *look) {
     struct windows *windows = look->windows;
     bool goes_on = windows->attend == NULL || windows->attend(windows->attend_opaque);
     look_for_locks(windows);
-    lock_for_look(windows);
-    find_pins(windows);
-    unlock_set(windows);
     look->is_cut_short = look->is_cut_short || !goes_on || (look->has_begun && windows->is_locked);
     return !look->is_cut_short;
 }
 
-/* Puts pages back that an earlier look could not, and notes why nothing is lent. Returns whether anything can be looked at. */
+/*
+ * Looks for devices, which may take longer than what may not wait should; puts pages back that an earlier look could not; and notes why nothing
+ * is lent. Returns whether anything can be looked at.
+ */
 static bool begin(struct look *look) {
     static const unsigned char zeros[WINDOW_PAGE_BYTES] __attribute__((aligned(8)));
     struct windows *windows = look->windows;
@@ -145,6 +145,7 @@ static bool begin(struct look *look) {
     look->has_begun = true;
     unmap_again();
     lock_for_look(windows);
+    find_pins(windows);
     look->next = windows->first;
     int cause = free_stuck(windows);
     /* (an earlier look could not make it anew; of memory that is locked it can't be made) */

@@ -4,11 +4,16 @@
 #include <errno.h>
 #include <sys/mman.h>
 
+/* Of a table with a bit of each page. */
+static size_t bytes_of_bits(const struct window *window) { return (window->count + 7) / 8; }
+
 void free_window(struct window *window) {
     table_free(window->pages, window->count, sizeof *window->pages);
     table_free(window->parts, parts_in(window), sizeof *window->parts);
     table_free(window->counts, parts_in(window), sizeof *window->counts);
     table_free(window->pins, window->count, sizeof *window->pins);
+    table_free(window->moving, window->count, sizeof *window->moving);
+    table_free(window->cleared, bytes_of_bits(window), sizeof *window->cleared);
     table_free(window, 1, sizeof *window);
 }
 
@@ -38,7 +43,7 @@ static bool meets_other(const struct windows *windows, const uint8_t *at, size_t
 }
 
 /* Whether a range can be a window, and what was said of it. */
-static struct window_result read_range(void *at, size_t bytes, struct range_facts *facts) {
+static struct window_result find_facts_of_range(void *at, size_t bytes, struct range_facts *facts) {
     size_t pages = bytes / WINDOW_PAGE_BYTES;
     if (pages == 0 || bytes % WINDOW_PAGE_BYTES != 0 || (uintptr_t)at % WINDOW_PAGE_BYTES != 0 || pages >= UINT32_MAX)
         return result_of(WINDOW_BAD_RANGE, EINVAL);
@@ -58,16 +63,15 @@ static struct window *make_tables(struct windows *windows, void *at, size_t page
     window->pages = table_make(pages, sizeof *window->pages);
     window->parts = table_make(parts_in(window), sizeof *window->parts);
     window->counts = table_make(parts_in(window), sizeof *window->counts);
-    if (window->pages != NULL && window->parts != NULL && window->counts != NULL) return window;
+    window->cleared = table_make(bytes_of_bits(window), sizeof *window->cleared);
+    if (window->pages != NULL && window->parts != NULL && window->counts != NULL && window->cleared != NULL) return window;
     free_window(window);
     return NULL;
 }
 
 /* Says for a new window what its range needs; what can't be put back comes last. */
-static struct window_result prepare(struct window *window, const struct range_facts *facts, unsigned flags) {
+static struct window_result prepare(struct window *window, unsigned flags) {
     int cause = 0;
-    window->found = window->advice = facts->advice;
-    window->seams = facts->mappings - 1;
     if ((flags & WINDOW_NO_CHILD) != 0) {
         window->advice.dont_fork = true;
         if (madvise(window->at, bytes_of(window->count), MADV_DONTFORK) < 0) cause = errno;
@@ -96,6 +100,7 @@ static struct window_result enter(struct window *window) {
     struct windows *windows = window->windows;
     struct window_result result = find_numbers(windows, window);
     if (result.status != WINDOW_OK) return result;
+    if (!count_transfers(window)) return result_of(WINDOW_NO_MEMORY, ENOMEM);
     window->next = windows->first;
     windows->first = window;
     windows->counts.windows++;
@@ -107,13 +112,13 @@ static struct window_result enter(struct window *window) {
 }
 
 /* Makes a window of what was read of its range. Of a page that is another window's nothing is said, and nothing put back. */
-static struct window_result begin(struct window *window, const struct range_facts *facts, unsigned flags) {
+static struct window_result begin(struct window *window, unsigned flags) {
     struct windows *windows = window->windows;
     lock_set(windows);
     bool meets = meets_other(windows, window->at, window->count);
     unlock_set(windows);
     if (meets) return result_of(WINDOW_BAD_RANGE, EINVAL);
-    struct window_result result = prepare(window, facts, flags);
+    struct window_result result = prepare(window, flags);
     lock_set(windows);
     meets = meets_other(windows, window->at, window->count); /* (it may have been made meanwhile) */
     if (meets) result = result_of(WINDOW_BAD_RANGE, EINVAL);
@@ -123,16 +128,34 @@ static struct window_result begin(struct window *window, const struct range_fact
     return result;
 }
 
-struct window_result window_make(struct window **made, struct windows *windows, void *at, size_t bytes, unsigned flags) {
+struct window_result window_read(struct window **read, struct windows *windows, void *at, size_t bytes) {
     struct range_facts facts;
-    *made = NULL;
-    struct window_result result = read_range(at, bytes, &facts);
+    *read = NULL;
+    struct window_result result = find_facts_of_range(at, bytes, &facts);
     if (result.status != WINDOW_OK) return result;
     struct window *window = make_tables(windows, at, bytes / WINDOW_PAGE_BYTES);
     if (window == NULL) return result_of(WINDOW_NO_MEMORY, ENOMEM);
-    result = begin(window, &facts, flags);
-    if (result.status == WINDOW_OK) *made = window;
-    else free_window(window);
+    window->found = window->advice = facts.advice;
+    window->seams = facts.mappings - 1;
+    *read = window;
+    return result;
+}
+
+void window_unread(struct window *read) {
+    if (read != NULL) free_window(read);
+}
+
+struct window_result window_begin(struct window *read, unsigned flags) {
+    struct window_result result = begin(read, flags);
+    if (result.status != WINDOW_OK) free_window(read);
+    return result;
+}
+
+struct window_result window_make(struct window **made, struct windows *windows, void *at, size_t bytes, unsigned flags) {
+    struct window_result result = window_read(made, windows, at, bytes);
+    if (result.status != WINDOW_OK) return result;
+    result = window_begin(*made, flags);
+    if (result.status != WINDOW_OK) *made = NULL;
     return result;
 }
 

@@ -27,6 +27,7 @@
 #include <stdbool.h>
 #include <stddef.h>
 #include <stdint.h>
+#include <sys/uio.h>
 
 /* What a call came to. `cause` is an errno, or 0. */
 enum window_status {
@@ -152,14 +153,18 @@ struct windows_budget windows_budget_of(const struct windows *windows);
 void windows_set_pins(struct windows *windows, enum windows_pins pins);
 
 /*
- * A transfer from a file to `bytes` of memory, or back, is about to begin that may pin pages (O_DIRECT) until it ends. Meanwhile pages
- * there aren't held, copies aren't copied to other memory, and slots aren't released. Returns what windows_transfer_end takes. The
- * memory may be a window's, in part or not at all.
+ * A transfer between a file and these buffers is about to begin that may pin pages (O_DIRECT) until it ends. Meanwhile pages there aren't
+ * held, copies aren't copied to other memory, and slots aren't released. Returns what windows_transfer_end takes. The buffers may be a
+ * window's, in part or not at all. Of zeros nothing is under way.
  */
-size_t windows_transfer_begin(struct windows *windows, const void *at, size_t bytes);
-void windows_transfer_end(struct windows *windows, size_t transfer);
+struct windows_transfer {
+    size_t first, elsewhere;
+};
+struct windows_transfer windows_transfer_begin(struct windows *windows, const struct iovec *buffers, size_t count);
+void windows_transfer_end(struct windows *windows, struct windows_transfer transfer);
 
-/* Nothing is lent any more, for good. Pages that show frames go on showing them until they are taken home. */
+/* Nothing is lent any more, for good, and the lender's file isn't read any more. Pages that show frames go on showing them until they are
+ * taken home. */
 void windows_end(struct windows *windows);
 
 /*
@@ -175,13 +180,21 @@ enum {
 };
 /*
  * Makes a range of private anonymous memory a window, of whole pages, with what it contains. Its advice is set again for frames
- * that are mapped: MADV_DONTDUMP, DONTFORK, NOHUGEPAGE and a memory policy (mbind). MADV_NOHUGEPAGE is said for it, but for
- * parts that stay whole (struct windows_tuning), and MADV_UNMERGEABLE, since the kernel's KSM would merge pages that are held;
- * window_free puts both back. Where the status isn't WINDOW_OK what was said of the range is put back, but MADV_NOHUGEPAGE if
- * nothing was said of huge pages there. Nothing is lent of a range that a child would have (no MADV_DONTFORK): a child would go
- * on showing frames that are released.
+ * that are mapped: MADV_DONTDUMP, DONTFORK and NOHUGEPAGE. A memory policy (mbind) is set again for memory of the window's own alone.
+ * MADV_NOHUGEPAGE is said for it, but for parts that stay whole (struct windows_tuning), and MADV_UNMERGEABLE, since the kernel's KSM
+ * would merge pages that are held; window_free puts both back. Where the status isn't WINDOW_OK what was said of the range is put
+ * back, but MADV_NOHUGEPAGE if nothing was said of huge pages there. Nothing is lent of a range that a child would have (no
+ * MADV_DONTFORK): a child would go on showing frames that are released.
  */
 struct window_result window_make(struct window **made, struct windows *windows, void *at, size_t bytes, unsigned flags);
+/*
+ * The same in two steps. The first reads what was said of the range, which takes long where the process has many mappings, and changes
+ * nothing. The second makes the window; nothing may have been said of the range, mapped or unmapped there since. Where its status isn't
+ * WINDOW_OK there is nothing left of what was read. window_unread gives up what was read instead; NULL is nothing.
+ */
+struct window_result window_read(struct window **read, struct windows *windows, void *at, size_t bytes);
+struct window_result window_begin(struct window *read, unsigned flags);
+void window_unread(struct window *read);
 
 /* How a window ends. */
 enum window_end {
@@ -227,6 +240,9 @@ struct window_result window_unpin(struct window *window, size_t first, size_t co
  * pages by window_discard alone, unmaps them by windows_pause, and doesn't move them or let a child have them. `kept` may be NULL.
  */
 struct window_result window_cut(struct window *window, size_t first, size_t count, size_t *kept);
+/* The same, where the caller says no advice of the pages (madvise, mbind), unless it calls window_cut first. Then discards of those that stay
+ * over frames take no longer where the process has many mappings (Linux 6.11). */
+struct window_result window_leave(struct window *window, size_t first, size_t count, size_t *kept);
 
 /* Pages were unmapped, or something else was mapped in their place. They have left the window. Between windows_pause and _resume. */
 void window_forget(struct window *window, size_t first, size_t count);

@@ -36,12 +36,18 @@ static bool is_kept_back(void *at, size_t pages) {
 }
 
 /* Makes pages that nobody touches, between two that nobody can touch: joined with other memory they would join no window any more. */
-static void make_zeros(struct windows *windows) {
-    uint8_t *at = map_apart(bytes_of(PART + 2), PROT_NONE, MAP_PRIVATE | MAP_ANONYMOUS | MAP_NORESERVE, NO_FILE);
-    if (at == MAP_FAILED) return;
+static uint8_t *make_zeros(bool are_reserved) {
+    const int kind = MAP_PRIVATE | MAP_ANONYMOUS | (are_reserved ? 0 : MAP_NORESERVE);
+    uint8_t *at = map_apart(bytes_of(PART + 2), PROT_NONE, kind, NO_FILE);
+    if (at == MAP_FAILED) return NULL;
     uint8_t *zeros = at + bytes_of(1);
-    if (is_kept_back(at, PART + 2) && mprotect(zeros, bytes_of(PART), PROT_READ | PROT_WRITE) == 0) windows->zeros = zeros;
-    else unmap_apart(at, bytes_of(PART + 2));
+    if (is_kept_back(at, PART + 2) && mprotect(zeros, bytes_of(PART), PROT_READ | PROT_WRITE) == 0) return zeros;
+    unmap_apart(at, bytes_of(PART + 2));
+    return NULL;
+}
+
+static void free_zeros(uint8_t *zeros) {
+    if (zeros != NULL) unmap_apart(zeros - bytes_of(1), bytes_of(PART + 2));
 }
 
 /* Maps the frames' file; for reading alone if the system, which may count each byte that could be written, refuses it otherwise. */
@@ -60,7 +66,8 @@ static struct window_result open_parts(struct windows *windows, const struct win
     if (cause != 0) return result_of(WINDOW_NO_FAULTS, cause);
     cause = pagemap_open(&windows->pagemap, config->never_scan);
     if (cause != 0) return result_of(WINDOW_NO_PAGEMAP, cause);
-    make_zeros(windows);
+    windows->zeros = make_zeros(false);
+    windows->reserved_zeros = make_zeros(true);
     int refused = make_scratch(windows);
     if (windows->scratch == NULL) return result_of(WINDOW_NO_MAPPING, refused);
     /* (with mlockall all new memory is locked, and refuses to be discarded) */
@@ -112,10 +119,18 @@ static void close_file(int fd) {
     if (fd >= 0) close(fd);
 }
 
-static void forget_frames(struct windows *windows) {
-    if (windows->frames_at != NULL) unmap_apart(windows->frames_at, bytes_of(windows->lender.frame_count));
-    close_file(windows->frames_fd);
+/* The frames' file isn't read any more. What windows show stays mapped. */
+static uint8_t *take_frames(struct windows *windows) {
+    uint8_t *at = windows->frames_at;
     windows->frames_at = NULL;
+    windows->frames_are_given = false;
+    return at;
+}
+
+static void forget_frames(struct windows *windows) {
+    uint8_t *at = take_frames(windows);
+    if (at != NULL) unmap_apart(at, bytes_of(windows->lender.frame_count));
+    close_file(windows->frames_fd);
     windows->frames_fd = NO_FILE;
     windows->has_lender = false;
 }
@@ -128,10 +143,12 @@ void windows_free(struct windows *windows) {
         free_window(window);
     }
     forget_frames(windows);
+    free_places(windows);
     close_file(windows->faults.fd);
     close_file(windows->pagemap.fd);
     if (windows->scratch != NULL) unmap_apart(windows->scratch, bytes_of(SCRATCH));
-    if (windows->zeros != NULL) unmap_apart(windows->zeros - bytes_of(1), bytes_of(PART + 2));
+    free_zeros(windows->zeros);
+    free_zeros(windows->reserved_zeros);
 #ifdef WINDOW_TRACE
     if (windows->trace != NULL) trace_close(windows->trace);
 #endif
@@ -164,15 +181,17 @@ struct window_result windows_attach(struct windows *windows, const struct window
     lock_for_look(windows);
     windows->lender = *lender;
     windows->frames_fd = fd;
-    windows->frames_at = at;
-    windows->frames_are_given = are_given;
+    windows->frames_at = windows->is_over ? NULL : at;
+    windows->frames_are_given = are_given && !windows->is_over;
     windows->has_lender = true;
     windows->lender_waits = false;
 #ifdef WINDOW_TRACE
     if (windows->trace_path != NULL && windows->trace == NULL)
         windows->trace = trace_open(windows->trace_path, lender->frame_count);
 #endif
+    bool is_read = windows->frames_at != NULL;
     unlock_set(windows);
+    if (!is_read) unmap_apart(at, bytes_of(lender->frame_count));
     return result_of(WINDOW_OK, 0);
 }
 
@@ -242,27 +261,14 @@ void windows_set_pins(struct windows *windows, enum windows_pins pins) {
     unlock_set(windows);
 }
 
-size_t windows_transfer_begin(struct windows *windows, const void *at, size_t bytes) {
-    const uint64_t begin = (uintptr_t)at;
-    lock_set(windows);
-    size_t place =
-        pageshare_window_begin_transfer(windows->transfers, TRANSFERS_MOST, &windows->transfers_elsewhere, begin, begin + bytes);
-    if (place < TRANSFERS_MOST) windows->transfers_count++;
-    unlock_set(windows);
-    return place;
-}
-
-void windows_transfer_end(struct windows *windows, size_t transfer) {
-    lock_set(windows);
-    pageshare_window_end_transfer(windows->transfers, TRANSFERS_MOST, &windows->transfers_elsewhere, transfer);
-    if (transfer < TRANSFERS_MOST) windows->transfers_count--;
-    unlock_set(windows);
-}
-
+/* (were the frames mapped any longer, the system would make a copy of each where all memory is locked) */
 void windows_end(struct windows *windows) {
     lock_set(windows);
     windows->is_over = true;
+    uint8_t *at = take_frames(windows);
+    size_t bytes = bytes_of(windows->lender.frame_count);
     unlock_set(windows);
+    if (at != NULL) unmap_apart(at, bytes);
 }
 
 int windows_pause(struct windows *windows) {
@@ -277,7 +283,7 @@ void windows_resume(struct windows *windows) { unlock_set(windows); }
 void windows_count(struct windows *windows, struct windows_counts *counts) {
     lock_set(windows);
     *counts = windows->counts;
-    counts->table_bytes = sizeof *windows;
+    counts->table_bytes = sizeof *windows + bytes_of_places(windows);
     counts->left_mapped = left_mapped();
     for (const struct window *window = windows->first; window != NULL; window = window->next) {
         size_t parts = parts_in(window);
@@ -286,8 +292,9 @@ void windows_count(struct windows *windows, struct windows_counts *counts) {
             counts->zeros_now += window->counts[i].zeros;
         }
         counts->table_bytes += sizeof *window + window->count * sizeof window->pages[0];
-        counts->table_bytes += parts * (sizeof window->parts[0] + sizeof window->counts[0]);
+        counts->table_bytes += parts * (sizeof window->parts[0] + sizeof window->counts[0]) + window->count / 8;
         if (window->pins != NULL) counts->table_bytes += window->count * sizeof window->pins[0];
+        if (window->moving != NULL) counts->table_bytes += window->count * sizeof window->moving[0];
     }
     unlock_set(windows);
 }

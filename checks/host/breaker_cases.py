@@ -123,10 +123,11 @@ def case_refusals() -> None:
     program, host, shim = compile_folder("breaker"), Host(memory="256M"), compile_shim("refuse_in_monitor")
     firsts, seconds = int(os.environ.get("SEEDS", "16")), int(os.environ.get("SECONDS", "6"))
 
-    def refuse(seed: int) -> dict[str, str]:
-        return {"LD_PRELOAD": f"{shim} {HERE.library}", "REFUSE_FIRST": str(seed), "REFUSE_EACH": str(REFUSE_EACH)}
+    def refuse(seed: int, filter_is_on: str = "0") -> dict[str, str]:
+        return {"LD_PRELOAD": f"{shim} {HERE.library}", "REFUSE_FIRST": str(seed), "REFUSE_EACH": str(REFUSE_EACH), "PAGESHARE_FILTER": filter_is_on}
 
     said = in_fours(program, host, range(1, firsts + 1), seconds, ("--refusals",), refuse)
+    said += in_fours(program, host, range(1, firsts // 2 + 1), seconds, ("--refusals",), lambda seed: refuse(seed, "1"))
     calls, refused, lends = (sum(number_after(word, text) for text in said) for word in ("calls", "refused", "lends"))
     print(f"  {calls} calls of the library, {refused} of them refused, {lends} pages lent")
     must(refused >= firsts and lends > 0, "nothing was refused, or nothing lent")

@@ -13,9 +13,12 @@ from places import CC, FLAGS, HERE, OUT, TOP, LeftOut, must
 # (stand-ins: files of these names, in a /dev of the case's own)
 WRITE_ALL = ("vfio/vfio", "vfio/12", "vfio/devices/vfio0", "vhost-vdpa-0", "vhost-scsi", "sg0", "sg12", "bsg/0:0:0:0", "ng0n1", "iommu",
              "infiniband/uverbs0", "nvme0", "nvme12")
-HARMLESS = ("kvm", "null", "vhost-net", "sda", "nvme0n1", "nvme0n1p2", "nvme12n1", "net/tun", "snd", "urandom", "dri/card0")
-REQUESTS = {"vfio-map": "write-all", "sg-io": "write-all", "nvme-io": "write-all", "nvme-io64": "write-all", "nvme-admin": "none",
-            "vfio-unmap": "none", "terminal": "none", "no-vmx": "none"}
+HARMLESS = ("kvm", "null", "vhost-net", "sda", "nvme0n1", "nvme0n1p2", "nvme12n1", "net/tun", "snd", "urandom", "dri/card0", "sgx_vepc", "sgx_enclave",
+            "sgx/enclave")
+REQUESTS = {
+    "vfio-map": "write-all", "vdpa-status": "write-all", "sg-io": "write-all", "nvme-io": "write-all", "nvme-io64": "write-all",
+    "nvme-admin": "none", "vfio-unmap": "none", "terminal": "none", "no-vmx": "none",
+}
 
 
 def build() -> pathlib.Path:
@@ -46,7 +49,9 @@ def case_devices() -> None:
     on_disk, in_memory = (tempfile.NamedTemporaryFile(dir=folder) for folder in ("/var/tmp", "/dev/shm"))
     disk, memory = f"direct:{on_disk.name}", f"direct:{in_memory.name}"
     due = {f"file:{on_disk.name}": "none", "memory": "none", "ring": "none", "submit": "none", "buffers": "pin", disk: "read", memory: "read",
-           f"{disk},ring": "pin", f"{disk},submit": "pin", f"{disk},buffers": "pin", f"file:{on_disk.name},ring": "none"}
+           f"{disk},ring": "pin", f"{disk},submit": "pin", f"{disk},buffers": "pin", f"file:{on_disk.name},ring": "none",
+           f"files:{on_disk.name}": "pin"}
+    due |= {f"then-{what}:{on_disk.name}": "pin" for what in ("submit", "hidden", "files")}
     due |= {f"request:{name}": verdict for name, verdict in REQUESTS.items()}
     newer = tuple(int(it) for it in os.uname().release.split(".")[:2]) >= (6, 13)
     due["request:vmx"] = "pin" if newer else "write-all"
@@ -69,9 +74,11 @@ def on_overlay(program: StrPath) -> tuple[dict[str, str], dict[str, str]]:
 
 
 def by_names(program: StrPath) -> tuple[dict[str, str], dict[str, str]]:
-    """Files that have devices' names."""
+    """Character devices that have others' names."""
     due = {f"file:/dev/{name}": "write-all" for name in WRITE_ALL} | {f"file:/dev/{name}": "none" for name in HARMLESS}
-    make = 'mount -t tmpfs none /dev && for name in $NAMES; do mkdir -p "$(dirname "/dev/$name")" && touch "/dev/$name"; done && exec "$@"'
+    # (each is /dev/null by another name)
+    make = ('mount -t tmpfs none /dev && for name in $NAMES; do mkdir -p "$(dirname "/dev/$name")" && mknod "/dev/$name" c 1 3; done && '
+            'exec "$@"')
     names = " ".join((*WRITE_ALL, *HARMLESS))
     return verdicts([program, *due], ["env", f"NAMES={names}", "unshare", "-m", "sh", "-c", make, "sh"]), due
 

@@ -6,8 +6,9 @@ import signal
 import subprocess
 import time
 
+from harness import PACKAGES
 from places import AS_NOBODY, HERE, Host, LeftOut, all_released, must, until
-from qemu_guests import read
+from qemu_guests import PAGE, QEMU, Debugger, Guest, is_there, read
 from running_guests import GUESTS, go_on, guest, guests, lent, right, settle, show
 
 
@@ -87,6 +88,72 @@ def case_migration() -> None:
     settle(host, [made[0], again])
     go_on([made[0], again])
     show(host, [made[0], again], "in another process")
+
+
+MIB_OF_POSTCOPY, KNOWN_AT, KNOWN_PAGES, BELOW = 64, 16 << 20, 10240, 1 << 20
+
+
+def known_page(number: int) -> bytes:
+    """Of eight pages five are zeros, one is there ten times in all, and two by themselves."""
+    kind = number % 8
+    word = 0 if kind < 5 else number % 1024 + 1 if kind == 5 else number + 10000
+    return word.to_bytes(8, "little") * (PAGE // 8)
+
+
+def postcopy_guest(number: int, host: Host | None, more: list[str]) -> Guest:
+    fast = {"PAGESHARE_PERIOD_MS": "50", "PAGESHARE_CPU": "100"}
+    made = guest(number, host, mib=MIB_OF_POSTCOPY, work="none", more=more, environment=fast, wrap=[])
+    must(until(30, made.monitor.exists, 0.1)[0], f"QEMU doesn't begin: {read(made.log)[-300:]}")
+    made.qmp().socket.settimeout(30)
+    answer = made.qmp().do("migrate-set-capabilities", capabilities=[{"capability": "postcopy-ram", "state": True}])
+    if "error" in answer:
+        raise LeftOut(f"postcopy: {answer['error']['desc']}")
+    return made
+
+
+def pages_of(made: Guest) -> list[bytes]:
+    """The guest's memory, but for what its firmware goes on writing to."""
+    path = HERE.place.room / f"memory{made.number}"
+    answer = made.qmp().do("pmemsave", val=0, size=MIB_OF_POSTCOPY << 20, filename=str(path))
+    must(answer.get("return") == {}, str(answer))
+    data = path.read_bytes()
+    return [data[at:at + PAGE] for at in range(BELOW, len(data), PAGE)]
+
+
+def case_postcopy() -> None:
+    """A postcopy after some seconds of precopy: zeros that were given back become others or stay, and every page is compared."""
+    if not is_there(QEMU):
+        raise LeftOut(f"there is no {QEMU}", PACKAGES[QEMU])
+    host, socket = Host("--trust-peers"), HERE.place.room / "migration"  # (as root: QEMU asks for a userfaultfd that holds up the kernel, too)
+    known, debugged = HERE.place.room / "known", HERE.place.room / "debugged"
+    known.write_bytes(b"".join(known_page(number) for number in range(KNOWN_PAGES)))
+    source = postcopy_guest(0, None, ["-device", f"loader,file={known},addr={KNOWN_AT:#x},force-raw=on", "-gdb", f"unix:{debugged},server,nowait"])
+    target = postcopy_guest(1, host, ["-incoming", "defer"])
+    time.sleep(2)
+    source.qmp().do("migrate-set-parameters", **{"max-bandwidth": 2 << 20})
+    target.qmp().do("migrate-incoming", uri=f"unix:{socket}")
+    source.qmp().do("migrate", uri=f"unix:{socket}")
+    given_back = KNOWN_PAGES // 4
+    good, _ = until(40, lambda: target.counts().get("zeros_now", 0) > given_back, 0.2)
+    status = source.qmp().do("query-migrate")["return"]["status"]
+    must(good and status == "active", f"{target.counts().get('zeros_now')} pages were given back, the migration is {status}")
+    debugger = Debugger(debugged)
+    for number in range(0, KNOWN_PAGES, 16):
+        debugger.write(KNOWN_AT + number * PAGE, b"\xa5" * 8)
+    debugger.close()
+    must(source.qmp().do("migrate-start-postcopy").get("return") == {}, "the postcopy doesn't begin")
+    good, took = until(60, lambda: source.qmp().do("query-migrate")["return"]["status"] in ("completed", "failed", "postcopy-paused"), 0.2)
+    state = source.qmp().do("query-migrate")["return"]
+    must(good and state["status"] == "completed", str(state))
+    pairs = list(zip(pages_of(source), pages_of(target)))
+    wrong = [number for number, (one, other) in enumerate(pairs) if one != other]
+    must(not wrong, f"{len(wrong)} of {len(pairs)} pages differ, such as {wrong[:5]}")
+    must(sum(page[:8] == b"\xa5" * 8 for _, page in pairs) == KNOWN_PAGES // 16, "pages were written that didn't arrive")
+    print(f"  completed after {took:.1f} s, requests {state['ram'].get('postcopy-requests')}; {len(pairs)} pages compared; {target.said()}")
+    for it in (source, target):
+        it.kill()
+    all_released(host)
+    host.stop()
 
 
 def case_background() -> None:

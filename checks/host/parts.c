@@ -767,6 +767,33 @@ static void direct(void) {
     check(is_full_of(at + PAGES * PAGE, PAGE, 'd'), "what was read is there");
 }
 
+/* Sets O_DIRECT of the file of frames that the library has, behind its back. Returns whether it is there. */
+static bool set_own_flags(void) {
+    char path[64], target[64] = "";
+    for (int file = 0; file < 65536; file++) {
+        snprintf(path, sizeof path, "/proc/self/fd/%d", file);
+        ssize_t length = readlink(path, target, sizeof target - 1);
+        target[length > 0 ? length : 0] = 0;
+        if (strncmp(target, "/memfd:pageshare-frames", 23) == 0) return syscall(SYS_fcntl, file, F_SETFL, O_DIRECT) == 0;
+    }
+    return false;
+}
+
+/* With an io_uring: the library's own file of frames is none that a device could read, whatever its flags. */
+static void own_flags(void) {
+    struct ring ring;
+    if (!ring_make(&ring)) return left_out("there is no io_uring");
+    uint8_t *at = lent(PAGES);
+    check(set_own_flags(), "the file of frames is found, and its flags are set");
+    for (unsigned i = 1; i < 4; i++) {
+        fill(at, PAGES, 1 + i * 20);
+        usleep(500000);
+        check(wait_for_count("lent", PAGES, SECONDS), "all pages are lent again");
+        check(differing(at, 0, PAGES, 1 + i * 20) == 0, "all is there");
+    }
+    check(library_count("devices") == 0, "no device is seen");
+}
+
 /* A thread reads by O_DIRECT since before there were windows: nothing is lent until that has ended. Who runs this stops the host after the
  * line "stop", and lets it go on after "go", and answers each by a line. */
 static void early_read(void) {
@@ -978,6 +1005,7 @@ static const struct way {
     {"mappings", many_mappings},
     {"ended", ended},
     {"not-opened", not_opened},
+    {"own-flags", own_flags},
     {"pairs", pairs},
     {"newcomer", newcomer},
     {"read-late", read_late},

@@ -18,9 +18,10 @@ During = Mapping[str, Callable[[Host], None]]
 PINS = ("mprotect", "mlock", "mlockall", "unmergeable", "dofork", "dofork-part", "dma", "look")
 
 
-def compile_parts() -> pathlib.Path:
-    program, found = HERE.place.room / "parts", [TOP / "checks/host/parts.c", TOP / "checks/host/breaker/ring.c"]
-    must(subprocess.run([CC, *FLAGS, "-o", program, *found]).returncode == 0, "parts.c doesn't compile")
+def compile_parts(name: str = "parts") -> pathlib.Path:
+    program, found = HERE.place.room / name, [TOP / f"checks/host/{name}.c", TOP / "checks/host/breaker/ring.c"]
+    flags = [*FLAGS, "-rdynamic"] if name == "waits" else FLAGS  # (the library finds the program's own `open`)
+    must(subprocess.run([CC, *flags, "-o", program, *found]).returncode == 0, f"{name}.c doesn't compile")
     return program
 
 
@@ -34,13 +35,13 @@ def start(
 
 def run_parts(
     ways: Sequence[str], during: During | None = None, more: Mapping[str, str] | tuple[()] = (), user: Sequence[str] = AS_NOBODY,
-    host: Host | None = None,
+    host: Host | None = None, program: str = "parts",
 ) -> None:
-    """Runs parts.c for each way, one after the other, beside a host."""
-    program, host = compile_parts(), host or Host(memory="512M")
+    """Runs parts.c, or another program, for each way, one after the other, beside a host."""
+    compiled, host = compile_parts(program), host or Host(memory="512M")
     failed, left = [], []
     for way in ways:
-        status, said = follow(start(program, way, host, more, user), host, during or {})
+        status, said = follow(start(compiled, way, host, more, user), host, during or {})
         print(f"  {way}: {'good' if status == 0 else 'left out' if status == LEFT_OUT else f'WRONG, status {status}'}", flush=True)
         for line in said:
             if line.startswith(("  ", "left out: ")):
@@ -138,6 +139,11 @@ def ask_much(path: str, questions: int) -> None:
     client = raw_client.RawClient(path)
     for first in range(0, questions, raw_client.PAGES_MOST):
         client.ask([(page, 1 << 63 | page) for page in range(first, first + raw_client.PAGES_MOST)])
+
+
+def case_waits() -> None:
+    """Nobody waits for what takes long in the library: a new range, the end of lending; and beside a busy disk pages are lent."""
+    run_parts(["range", "end", "disk"], program="waits")
 
 
 def case_newcomer() -> None:

@@ -82,8 +82,36 @@ class Qmp:
         return self.do("human-monitor-command", **{"command-line": line})
 
 
+class Debugger:
+    """QEMU's stub for GDB. While it is connected the guest stands still."""
+
+    def __init__(self, path: StrPath) -> None:
+        self.socket = socket.socket(socket.AF_UNIX)
+        self.socket.settimeout(30)
+        self.socket.connect(str(path))
+
+    def do(self, words: str) -> None:
+        self.socket.sendall(b"$%s#%02x" % (words.encode(), sum(words.encode()) % 256))
+        said = b""
+        while b"$OK#9a" not in said:  # (it may say first that the guest stands still)
+            got = self.socket.recv(4096)
+            if not got or b"$E" in said:
+                raise RuntimeError(f"the stub for GDB said {said!r} to {words[:20]}")
+            said += got
+        self.socket.sendall(b"+")
+
+    def write(self, at: int, data: bytes) -> None:
+        """A store of the guest's, for all that a migration knows."""
+        self.do(f"M{at:x},{len(data):x}:{data.hex()}")
+
+    def close(self) -> None:
+        """The guest goes on."""
+        self.do("D")
+        self.socket.close()
+
+
 class Guest:
-    """One QEMU process with a Linux guest."""
+    """One QEMU process with a Linux guest; with `work` none, with its firmware alone."""
 
     def __init__(
         self, place: Any, number: int, library: StrPath | None = None, domain: StrPath | None = None, mib: int = 256,
@@ -100,8 +128,10 @@ class Guest:
             words.update(PAGESHARE_SOCKET=str(domain), LD_PRELOAD=str(library), PAGESHARE_COUNTS=str(self.count_file))
         command = [*wrap, QEMU, "-machine", machine, "-accel", accelerator, "-cpu", "host" if accelerator == "kvm" else "max", "-m", str(mib)]
         command += ["-nodefaults", "-display", "none", "-serial", f"file:{self.out}", "-qmp", f"unix:{self.monitor},server,nowait"]
-        command += ["-device", "virtio-balloon-pci,id=balloon0", "-kernel", str(place.kernel), "-initrd", str(initrd or place.initrd)]
-        command += ["-append", f"console=ttyS0 quiet no_timer_check rdinit=/init seed={number} work={work} own={own}", "-no-reboot", *more]
+        if work != "none":
+            command += ["-device", "virtio-balloon-pci,id=balloon0", "-kernel", str(place.kernel), "-initrd", str(initrd or place.initrd)]
+            command += ["-append", f"console=ttyS0 quiet no_timer_check rdinit=/init seed={number} work={work} own={own}"]
+        command += ["-no-reboot", *more]
         with open(self.log, "w", encoding="utf-8") as log:
             self.process = subprocess.Popen(command, env=words, stdin=subprocess.DEVNULL, stdout=log, stderr=subprocess.STDOUT)
         self.pid = self.process.pid

@@ -14,11 +14,13 @@
 #include <stdlib.h>
 #include <string.h>
 #include <sys/socket.h>
+#include <sys/syscall.h>
 #include <sys/types.h>
 #include <unistd.h>
 
 struct epoll_event;
 struct pollfd;
+struct sigaction;
 struct stat;
 
 /* What fails. */
@@ -94,6 +96,8 @@ REFUSED(int, -1, eventfd_write, (int of, unsigned long value), (of, value))
 REFUSED(int, -1, pipe2, (int ends[2], int flags), (ends, flags))
 REFUSED(ssize_t, -1, read, (int of, void *at, size_t bytes), (of, at, bytes))
 REFUSED(ssize_t, -1, write, (int of, const void *at, size_t bytes), (of, at, bytes))
+REFUSED(ssize_t, -1, pread, (int of, void *at, size_t bytes, off_t from), (of, at, bytes, from))
+REFUSED(int, -1, sigaction, (int number, const struct sigaction *now, struct sigaction *before), (number, now, before))
 REFUSED(int, -1, memfd_create, (const char *called, unsigned flags), (called, flags))
 REFUSED(int, -1, ftruncate, (int file, off_t bytes), (file, bytes))
 REFUSED(int, -1, fchmod, (int file, mode_t mode), (file, mode))
@@ -119,6 +123,31 @@ int fcntl(int file, int what, ...) {
     if (is_refused("fcntl")) return -1;
     *(void **)&next = next_of("fcntl");
     return next(file, what, value);
+}
+
+int open(const char *path, int flags, ...);
+int open(const char *path, int flags, ...) {
+    int (*next)(const char *, int, ...);
+    va_list more;
+    va_start(more, flags);
+    unsigned mode = va_arg(more, unsigned);
+    va_end(more);
+    if (is_refused("open")) return -1;
+    *(void **)&next = next_of("open");
+    return next(path, flags, mode);
+}
+
+/* (mbind has no function of the C library) */
+long syscall(long number, ...) {
+    long (*next)(long, ...);
+    long with[6];
+    va_list more;
+    va_start(more, number);
+    for (int i = 0; i < 6; i++) with[i] = va_arg(more, long);
+    va_end(more);
+    if (number == SYS_mbind && is_refused("mbind")) return -1;
+    *(void **)&next = next_of("syscall");
+    return next(number, with[0], with[1], with[2], with[3], with[4], with[5]);
 }
 
 int prctl(int what, ...);

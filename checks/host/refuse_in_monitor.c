@@ -155,7 +155,7 @@ PUBLIC ssize_t pread(int descriptor, void *buffer, size_t bytes, off_t from) {
 /* Of these numbers of calls some are refused. */
 static bool may_refuse(long number) {
     return number == SYS_mmap || number == SYS_mremap || number == SYS_madvise || number == SYS_ioctl || number == SYS_openat ||
-           number == SYS_munmap || number == SYS_mprotect;
+           number == SYS_munmap || number == SYS_mprotect || number == SYS_seccomp || number == SYS_pidfd_open;
 }
 
 PUBLIC long syscall(long number, ...) {

@@ -127,13 +127,13 @@ def counting(path: str, written: bytes) -> int:
 
 def case_counts() -> None:
     """A status shows what clients say of their windows, and whatever a client writes there does no harm."""
-    names = ("mappings", "mappings_limit", "parts_whole", "parts_split", "parts_huge", "look_nanoseconds")
-    numbers, most = (1, 1000, 20, 300, 4, 3, 2, 50), 2**64 - 1
+    names = ("mappings", "mappings_limit", "parts_whole", "parts_split", "parts_huge", "look_nanoseconds", "filtered")
+    numbers, most, nothing = (2, 1000, 20, 300, 4, 3, 2, 50, 1), 2**64 - 1, (0,) * 7
     host = Host("--connection-rate", "1000", memory="64M")
     due = {
-        counting(str(host.socket), struct.pack("<8Q", *numbers)): numbers[2:], counting(str(host.socket), struct.pack("<7Q", *numbers[:7])): (0,) * 6,
-        counting(str(host.socket), struct.pack("<8Q", 2, *numbers[1:])): (0,) * 6, counting(str(host.socket), b""): (0,) * 6,
-        counting(str(host.socket), struct.pack("<8Q", 1, *[most] * 7)): (most,) * 6,
+        counting(str(host.socket), struct.pack("<9Q", *numbers)): numbers[2:], counting(str(host.socket), struct.pack("<8Q", *numbers[:8])): nothing,
+        counting(str(host.socket), struct.pack("<9Q", 1, *numbers[1:])): nothing, counting(str(host.socket), b""): nothing,
+        counting(str(host.socket), struct.pack("<9Q", 2, *[most] * 8)): (most,) * 7,
     }
     until(5, lambda: host.status()["clients"] == len(due), 0.1)
     found = {it["pid"]: tuple(it[f"client_{name}"] for name in names) for it in host.status()["processes"]}
@@ -168,7 +168,9 @@ def case_refused() -> None:
 def run_kvm(host: Host, device: int, seed: int, seconds: str, more: Mapping[str, str], standin: pathlib.Path | None) -> subprocess.Popen[str]:
     program = HERE.place.room / "kvm"
     counts = HERE.place.room / f"counts-{'standin' if standin else 'kvm'}-{seed}"  # (those of another run would be old)
-    words = preloaded(host, {"PAGESHARE_COUNTS": str(counts), "PAGESHARE_DONTFORK": "1", **more})
+    # (with a filter a request doesn't go by the C library, where the stand-in has its place)
+    by_scans = {"PAGESHARE_FILTER": "0"} if standin else {}
+    words = preloaded(host, {"PAGESHARE_COUNTS": str(counts), "PAGESHARE_DONTFORK": "1", **by_scans, **more})
     if standin:
         words["LD_PRELOAD"] += f":{standin}"
     command = [*AS_NOBODY, str(program), str(device), str(seed), seconds]

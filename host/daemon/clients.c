@@ -5,7 +5,6 @@
 #include <stdlib.h>
 #include <sys/epoll.h>
 #include <sys/eventfd.h>
-#include <sys/mman.h>
 #include <sys/random.h>
 #include <sys/socket.h>
 #include <sys/syscall.h>
@@ -46,13 +45,17 @@ static struct client *client_of(struct domain *domain, union event_key key) {
     return client && client->state != CLIENT_NONE && client->generation == key.generation ? client : NULL;
 }
 
+struct client clients_free_entry(uint32_t generation) {
+    return (struct client){.generation = generation, .socket = NOTHING, .process = NOTHING, .buffer = NOTHING};
+}
+
 /* Lets an entry go whose session is no more. */
 static void forget(struct domain *domain, struct client *client) {
     if (client->socket >= 0) closing_close(&domain->closing, client->socket);
     if (client->process >= 0) close(client->process);
-    if (client->buffer) munmap((void *)(uintptr_t)client->buffer, BUFFER_BYTES);
+    if (client->buffer >= 0) close(client->buffer);
     if (client->sibling) client->sibling->sibling = NULL;
-    *client = (struct client){.generation = client->generation + 1, .socket = NOTHING, .process = NOTHING};
+    *client = clients_free_entry(client->generation + 1);
 }
 
 /* How many slots a client's session has. */
@@ -162,6 +165,7 @@ static bool enter(struct domain *domain, struct client *client, int socket, cons
                               .process = process_of(socket, peer->pid),
                               .pid = peer->pid,
                               .uid = peer->uid,
+                              .buffer = NOTHING,
                               .since_ns = now_ns()};
     bool good = (client->process >= 0 && getrandom(client->name, sizeof client->name, 0) == sizeof client->name) ||
                 seldom_trouble(&domain->no_connection, "a connection can't be taken");
@@ -299,11 +303,13 @@ static bool reply(const struct client *client, const uint8_t *bytes, size_t leng
 
 /* WELCOME goes with the file of frames, a buffer for the client's pages and the device for its userfaultfd. */
 static bool reply_welcome(struct domain *domain, struct client *client, const uint8_t *bytes, size_t length) {
-    int buffer = frames_buffer(BUFFER_BYTES, &client->buffer);
-    if (buffer < 0) return seldom_trouble(&domain->no_buffer, "a client's buffer");
-    int descriptors[] = {domain->frames.file_for_clients, buffer, domain->faults_device};
-    bool good = reply(client, bytes, length, descriptors, domain->faults_device >= 0 ? 3 : 2);
-    close(buffer);
+    int frames = frames_open(&domain->frames);
+    int buffer = frames < 0 ? NOTHING : frames_buffer(BUFFER_BYTES, &client->buffer);
+    int descriptors[] = {frames, buffer, domain->faults_device};
+    bool good = buffer < 0 ? seldom_trouble(&domain->no_buffer, "a client's file of frames or buffer")
+                           : reply(client, bytes, length, descriptors, domain->faults_device >= 0 ? 3 : 2);
+    if (frames >= 0) close(frames);
+    if (buffer >= 0) close(buffer);
     return good;
 }
 
@@ -356,6 +362,42 @@ static bool is_fault(struct domain *domain, const struct client *client, uint32_
     return true;
 }
 
+/* Reads pages that a client lends. It may write to its buffer at any time. */
+static bool read_pages(struct domain *domain, const struct client *client, uint32_t count) {
+    uint8_t *to = domain->serving->pages[0];
+    for (size_t done = 0, bytes = (size_t)count * PAGE; done < bytes;) {
+        ssize_t got = pread(client->buffer, to + done, bytes - done, (off_t)done);
+        if (got == 0 || (got < 0 && errno != EINTR)) return seldom_trouble(&domain->no_buffer, "reading a client's buffer");
+        if (got > 0) done += (size_t)got;
+    }
+    return true;
+}
+
+/*
+ * Takes back what was lent in frames for which the system had no memory (bus.h): these pages of the reply aren't lent. No client has heard
+ * of a slot of theirs, so the host releases it for this one. Returns false if that fails.
+ */
+static bool take_back(struct domain *domain, const struct client *client, uint32_t loans) {
+    struct serving *with = domain->serving;
+    struct pageshare_host_release release = {.kind = PAGESHARE_HOST_RELEASE};
+    const struct pageshare_host_lent none = {.frame = PAGESHARE_HOST_NO_FRAME};
+    for (uint32_t i = 0; i < loans; i++) {
+        uint8_t *at = with->answer + offsetof(struct pageshare_host_loans, loans) + i * sizeof none;
+        if (!bus_has(&domain->frames.bus, with->frames[i])) continue;
+        memcpy(&release.slots[release.count++], at + offsetof(struct pageshare_host_lent, slot), sizeof *release.slots);
+        memcpy(at, &none, sizeof none);
+        with->frames[i] = PAGESHARE_HOST_NO_FRAME;
+    }
+    errno = ENOMEM;
+    seldom_trouble(&domain->no_memory, "memory for a frame; pages that need one aren't lent");
+    size_t length = offsetof(struct pageshare_host_release, slots) + release.count * sizeof *release.slots;
+    struct pageshare_host_served got = pageshare_host_serve(&domain->host, client->session, (const uint8_t *)&release, length,
+                                                            (const uint8_t(*)[PAGE])with->pages, 0, with->no_answer,
+                                                            sizeof with->no_answer, with->freed, PAGESHARE_HOST_MAX_PAGES);
+    frames_map_again(&domain->frames); /* (if the system refuses, the next lend tries again) */
+    return got.status == PAGESHARE_HOST_OK;
+}
+
 /*
  * Serves one packet of a client, which lends `count` pages, of which the first `most` may get frames, or does something else.
  * Returns false if the connection is to end.
@@ -364,14 +406,15 @@ static bool serve_packet(struct domain *domain, struct client *client, uint8_t *
                          uint32_t most) {
     struct serving *with = domain->serving;
     uint32_t served = most ? within_quota(domain, client, most) : 0;
+    if (!read_pages(domain, client, served)) served = 0;
     if (served < count) memcpy(bytes + offsetof(struct pageshare_host_lend, count), &served, sizeof served);
-    if (served) memcpy(with->pages, client->buffer, (size_t)served * PAGE); /* the client may write to its buffer at any time */
     struct pageshare_host_served got =
         pageshare_host_serve(&domain->host, client->session, bytes, length, (const uint8_t(*)[PAGE])with->pages, served,
                              with->answer, sizeof with->answer, with->frames, PAGESHARE_HOST_MAX_PAGES);
     domain->messages++;
     if (is_fault(domain, client, got.status)) return false;
     if (got.resumed != PAGESHARE_HOST_NO_FRAME) take_up(domain, client, got.resumed);
+    if (got.loans > 0 && domain->frames.bus.used > 0 && !take_back(domain, client, got.loans)) return false;
     count_served(domain, client, got, with->frames);
     if (got.kind == PAGESHARE_HOST_WELCOME) return reply_welcome(domain, client, with->answer, got.reply_bytes);
     size_t replied = served < count ? extend_loans(domain, got, count) : got.reply_bytes;
@@ -395,7 +438,7 @@ static bool take_packet(struct domain *domain, struct client *client, uint8_t *b
     uint8_t name[PAGESHARE_HOST_NAME_BYTES];
     struct pageshare_host_packet packet = pageshare_host_read(bytes, length, name);
     if (packet.names && !may_take_up(domain, client, name)) length = offsetof(struct pageshare_host_hello, name);
-    uint32_t count = client->buffer && packet.kind == PAGESHARE_HOST_LEND ? packet.count : 0;
+    uint32_t count = client->buffer >= 0 && packet.kind == PAGESHARE_HOST_LEND ? packet.count : 0;
     if (count == 0) return serve_packet(domain, client, bytes, length, 0, 0);
     client->waiting_pages = 0;
     enum frames_lend may = domain->is_lend_waiting ? LEND_WAITS : frames_begin_lend(&domain->frames);
@@ -514,7 +557,7 @@ void clients_tick(struct domain *domain) {
         if (client->state != CLIENT_CONNECTED) continue;
         client->budget = domain->settings.client_rate / TICKS_IN_SECOND + 1;
         if (client->is_paused && client->waiting_pages == 0) listen_to(domain, client, true);
-        if (!client->buffer && now - client->since_ns > silence_ns) part(domain, client);
+        if (client->buffer < 0 && now - client->since_ns > silence_ns) part(domain, client);
     }
 }
 

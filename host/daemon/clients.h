@@ -40,6 +40,8 @@ void clients_tick(struct domain *domain);
 /* The system has no descriptor or memory to send a status by: nobody is sent one until the next tick. */
 void clients_defer_status(struct domain *domain);
 void clients_free(struct domain *domain);
+/* An entry that is free. */
+struct client clients_free_entry(uint32_t generation);
 
 /* Sends the domain's status to the connections that wait for it. */
 void status_send(struct domain *domain);

@@ -127,7 +127,7 @@ bool domain_make(struct domain *domain) {
     domain->clients = calloc(domain->client_most, sizeof *domain->clients);
     domain->serving = calloc(1, sizeof *domain->serving);
     if (!domain->clients || !domain->serving) return trouble("memory for clients");
-    for (uint32_t i = 0; i < domain->client_most; i++) domain->clients[i].socket = domain->clients[i].process = NOTHING;
+    for (uint32_t i = 0; i < domain->client_most; i++) domain->clients[i] = clients_free_entry(0);
     domain->poll = epoll_create1(EPOLL_CLOEXEC);
     domain->wake = eventfd(0, EFD_CLOEXEC | EFD_NONBLOCK);
     if (domain->poll < 0 || domain->wake < 0) return trouble("epoll");

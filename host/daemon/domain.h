@@ -31,7 +31,7 @@ struct client {
     uid_t uid;
     uint32_t session; /* the library's number */
     uint8_t name[PAGESHARE_HOST_NAME_BYTES];
-    const uint8_t *buffer;  /* pages that it lends, which it may write at any time; NULL before its first message */
+    int buffer;             /* a file of pages that it lends, which it may write at any time; NOTHING before its first message */
     struct client *sibling; /* the other connection of its process, or NULL */
     bool is_paused;         /* nothing is read of it until the next tick, or until its lend is served */
     uint32_t waiting_pages; /* a lend of so many pages waits while memory is given back; 0: none does */
@@ -45,6 +45,8 @@ struct serving {
     uint8_t pages[PAGESHARE_HOST_MAX_PAGES][PAGE]; /* copies of those that it lends */
     uint8_t answer[PAGESHARE_HOST_MAX_MESSAGE];
     uint32_t frames[PAGESHARE_HOST_MAX_PAGES]; /* that are free since, or those of its pages */
+    uint8_t no_answer[PAGESHARE_HOST_MAX_MESSAGE];
+    uint32_t freed[PAGESHARE_HOST_MAX_PAGES]; /* by slots that were taken back at once */
 };
 
 /* How often somebody connected in this second: a user or a process. */
@@ -74,7 +76,7 @@ struct domain {
     struct connects users[USERS_COUNTED], processes[PROCESSES_COUNTED];
     struct closing closing;
     struct punching punching;
-    struct seldom no_connection, no_buffer, no_status; /* lines that may be due often */
+    struct seldom no_connection, no_buffer, no_memory, no_status; /* lines that may be due often */
     struct refusals refusals;
     struct pageshare_host_totals counted; /* the library's totals, as they were last counted */
     uint64_t counted_until_ns;            /* and until when they are reported */

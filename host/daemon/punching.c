@@ -131,9 +131,11 @@ static int do_turn(struct punching *punching) {
     uint64_t begin = now_ns();
     bool is_spare = has_spare(punching->frames);
     if (is_spare) look_for_memory(punching);
-    if (punch_some(punching)) return IDLE_MS;
+    bool is_refused = punch_some(punching);
+    bool is_clearing = policies_clear(&punching->policies, punching->frames);
+    if (is_refused) return IDLE_MS;
     uint64_t pause_ms = (now_ns() - begin) * (PART - 1) / 1000000 + 1;
-    bool is_done = !is_spare && atomic_load(&punching->frames->waiting) == 0;
+    bool is_done = !is_spare && !is_clearing && atomic_load(&punching->frames->waiting) == 0;
     if (is_done && pause_ms < IDLE_MS) return IDLE_MS;
     return pause_ms < PAUSE_MOST_MS ? (int)pause_ms : PAUSE_MOST_MS;
 }

@@ -7,11 +7,13 @@
  *   it. While one waits there is no pause. If the system refuses to give a frame's memory back, nothing is lent until it does.
  * - Free frames get memory when a client reads them. They are looked for when the file has more memory than frames that are in use or
  *   listed, some at a time.
+ * - The thread takes memory policies off the file, too (policies.h).
  */
 #ifndef HOST_PUNCHING_H
 #define HOST_PUNCHING_H
 
 #include "frames.h"
+#include "policies.h"
 #include "seldom.h"
 
 struct punching {
@@ -20,6 +22,7 @@ struct punching {
     atomic_bool must_end;
     pthread_t thread;
     uint32_t next_listed, next_looked_at; /* where the next frames are looked for */
+    struct policies policies;
     struct seldom trouble;
 };
 

@@ -80,6 +80,7 @@ static const struct number of_client[] = {
     OF_CLIENT("client_parts_split", counts.parts_split, false, 1, "Parts of 2 MiB whose pages may be lent, as it says"),
     TIME_OF_CLIENT("client_look_nanoseconds", "client_look_seconds", counts.round_ns, false,
                    "How long the client's last look took, as it says"),
+    OF_CLIENT("client_filtered", counts.is_filtered, false, 1, "1 where a filter shows the library system calls, as it says"),
     OF_CLIENT("client_devices", devices, false, 1, "0: none that pins pages, 1: seen calls, 2: unseen ones, 3: all, 4: unknown"),
 };
 enum { TOTALS_COUNT = sizeof of_totals / sizeof *of_totals, CLIENT_COUNT = sizeof of_client / sizeof *of_client, LABELS = 3 };
@@ -133,6 +134,11 @@ static void find(struct report *report) {
     found.net_bytes = (int64_t)(totals->reclaimed_pages * PAGE) - (int64_t)totals->host_bytes - (int64_t)found.table_bytes;
 }
 
+/* How the library finds out what devices may do, as the client says. */
+static const char *way_of(const struct counts *counts) {
+    return counts->version == 0 ? "?" : counts->is_filtered ? "filter" : "scans";
+}
+
 /* The clients of a table, and what to do about some. */
 static void show_clients(const struct report *report) {
     static const char *const words[] = {[DEVICES_NONE] = "none",
@@ -142,15 +148,15 @@ static void show_clients(const struct report *report) {
                                         [STATUS_DEVICES_UNKNOWN] = "?"};
     bool any_unseen = false;
     if (report->totals.listed)
-        printf("%12s %12s %12s %12s %12s %12s %12s  %s\n", "process", "user", "lent MiB", "page tables", "messages", "devices",
-               "connected", "guest");
+        printf("%12s %12s %12s %12s %12s %12s %12s %12s  %s\n", "process", "user", "lent MiB", "page tables", "messages",
+               "devices", "found by", "connected", "guest");
     for (size_t i = 0; i < report->totals.listed; i++) {
         const struct status_client *client = &report->clients[i];
         any_unseen = any_unseen || client->devices == DEVICES_PIN_PAGES;
-        printf("%12llu %12llu %12.1f %12.1f %12llu %12s %12s  %s\n", (unsigned long long)client->pid,
+        printf("%12llu %12llu %12.1f %12.1f %12llu %12s %12s %12s  %s\n", (unsigned long long)client->pid,
                (unsigned long long)client->uid, mib(client->lent_pages), (double)client->table_bytes / (1 << 20),
-               (unsigned long long)client->messages, words[client->devices], client->connected ? "yes" : "no",
-               *found.names[i] ? found.names[i] : "-");
+               (unsigned long long)client->messages, words[client->devices], way_of(&client->counts),
+               client->connected ? "yes" : "no", *found.names[i] ? found.names[i] : "-");
     }
     if (any_unseen)
         puts("unseen: pages that were shared and written stay private, since a device may have pinned them; use aio=threads");

@@ -1,9 +1,12 @@
 #define _GNU_SOURCE
 /*
  * aio_read and the like, interposed in a virtual machine monitor. Threads of the C library make such requests later, by calls that this
- * library doesn't see. So where one has a file by O_DIRECT, devices may pin pages from then on, as with an io_uring.
+ * library doesn't see. So where one has a file by O_DIRECT, devices may pin pages from then on, as with an io_uring. And io_setup of
+ * libaio, after which the same is so.
  */
 #include "buffers.h"
+#include "calls.h"
+#include "filter.h"
 #include "sharing.h"
 #include "trouble.h"
 #include <aio.h>
@@ -56,3 +59,22 @@ PUBLIC int lio_listio64(int mode, struct aiocb64 *const requests[], int count, s
     return make_all("lio_listio64", mode, (struct aiocb *const *)(const void *)requests, count, event);
 }
 _Static_assert(sizeof(struct aiocb) == sizeof(struct aiocb64), "requests are of one form");
+
+/* ---- libaio ---- */
+
+/* (libaio returns an errno as a negative number, and leaves errno as it is) */
+PUBLIC int io_setup(int most, void *context);
+PUBLIC int io_setup(int most, void *context) {
+    int before = errno;
+    long status = calls_prepare_context() ? filter_pass(SYS_io_setup, most, (long)context, 0, 0, 0) : -1;
+    int cause = errno;
+    errno = before;
+    return status < 0 ? -cause : (int)status;
+}
+
+PUBLIC int io_queue_init(int most, void **context);
+PUBLIC int io_queue_init(int most, void **context) {
+    if (most <= 0) return -EINVAL;
+    *context = NULL;
+    return io_setup(most, context);
+}

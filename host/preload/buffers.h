@@ -12,6 +12,8 @@ enum { BUFFERS_MOST = IOV_MAX };
 
 /* Whether a buffer may meet a window at all. Cheap, and takes no lock. */
 bool buffers_may_meet(void);
+/* Copies what a call is made with. Returns false if it isn't all there: then the system refuses the call with EFAULT. */
+bool buffers_read(void *to, const void *from, size_t bytes);
 /* Copies the array of a call's buffers. Returns false if it isn't all there: then the system refuses the call with EFAULT. */
 bool buffers_copy(struct iovec to[BUFFERS_MOST], const struct iovec *from, size_t count);
 /* Whether one of the buffers meets a window. */

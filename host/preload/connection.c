@@ -9,8 +9,10 @@
 #include "trouble.h"
 #include <fcntl.h>
 #include <pthread.h>
+#include <stdatomic.h>
 #include <stdlib.h>
 #include <sys/socket.h>
+#include <sys/stat.h>
 #include <sys/syscall.h>
 #include <sys/un.h>
 #include <unistd.h>
@@ -23,6 +25,7 @@ enum {
     BURST_PERCENT = 25,
     HUGE_FROM = 64,    /* pages of a huge page that could be shared, until which it stays whole */
     FORGET_LOOKS = 64, /* looks that fail with nothing, after which a failure is printed again */
+    OF_SHARE = 10,     /* one part in so many of its share the thread looks at descriptors, and another it does its chores */
     REST_MOST = 7,     /* idle pages that a look leaves out for one at which it glances, where nothing changes */
     /* processor time that may be used at the burst's rate. FIRST_NS: for each page of a new window, or beside a new host; FRESH_NS: for
      * one that is new in its window; SHARED_NS: for one that was lent or given back */
@@ -44,6 +47,7 @@ static struct {
     bool is_hasty;        /* as never_wait of windows_config; for tests */
     unsigned flags;       /* of window_make */
     int counts;           /* a file for the counts, or NOTHING */
+    struct stat root;     /* the process's root folder */
 } settings = {.period_ms = PERIOD_MS, .huge_from = HUGE_FROM, .counts = NOTHING};
 
 /* The thread's own. */
@@ -51,7 +55,8 @@ static struct {
     struct remote remote;
     struct windows *windows;
     bool is_attached, was_reported, is_refused, was_crowded, was_short, was_unattached;
-    uint64_t next_try_ns, next_chores_ns, look_begun_ns;
+    uint64_t next_try_ns, next_scan_ns, next_chores_ns, look_begun_ns;
+    bool was_slow;      /* a scan of the descriptors */
     bool was_connected; /* when the look under way began */
     bool is_memory_short;
     struct windows_counts before, at_chores;
@@ -114,17 +119,29 @@ void connection_prepare(void) {
     settings.flags = fork && strcmp(fork, "1") == 0 ? WINDOW_NO_CHILD : 0;
     if (*counts)
         settings.counts = sharing_own((int)syscall(SYS_openat, AT_FDCWD, counts, O_WRONLY | O_CREAT | O_TRUNC | O_CLOEXEC, 0644));
+    if (stat("/", &settings.root) != 0) settings.root = (struct stat){.st_ino = 0};
     pageshare_window_begin_times(&my.times, settings.period_ms);
     counts_file_make();
     end_preload();
 }
 
+/* Whether the process has changed its root folder since (chroot): the socket and /proc aren't there then, or are others. */
+static bool has_other_root(void) {
+    struct stat root;
+    return stat("/", &root) == 0 && (root.st_ino != settings.root.st_ino || root.st_dev != settings.root.st_dev);
+}
+
 /* ---- the host ---- */
+
+/* An enum devices: what was seen when pages were guarded. */
+static atomic_int seen_at_guards;
 
 /* Whether devices may pin pages by now, for all that can be seen. */
 static enum windows_pins find_pins(void *unused) {
     (void)unused;
-    return devices_still_open() < DEVICES_PIN_PAGES ? WINDOWS_PINS_NEVER : WINDOWS_PINS_POSSIBLE;
+    enum devices devices = devices_still_open();
+    if (devices >= DEVICES_PIN_PAGES) atomic_store(&seen_at_guards, (int)devices);
+    return devices < DEVICES_PIN_PAGES ? WINDOWS_PINS_NEVER : WINDOWS_PINS_POSSIBLE;
 }
 
 static bool attend(void *unused);
@@ -168,7 +185,9 @@ static bool make_windows(void) {
         return false;
     }
     my.is_refused = true;
-    ranges_refuse(window_status_words(result.status));
+    bool is_denied = result.status == WINDOW_NO_PAGEMAP && result.cause == EACCES;
+    ranges_refuse(is_denied ? "it may not open /proc/self/pagemap, for example since it has changed its user (QEMU's -runas)"
+                            : window_status_words(result.status));
     return false;
 }
 
@@ -195,6 +214,7 @@ static void report_no_host(int cause) {
         log_line("the host at %s is of another version than this library; it is tried again each second", settings.socket);
     else if (cause == ECONNRESET || cause == EPIPE)
         log_line("the host at %s refused the connection, and its log says why; it is tried again each second", settings.socket);
+    else if (has_other_root()) log_line("no host at %s: the process has changed its root folder (chroot)", settings.socket);
     else log_line("no host at %s (%s); it is tried again each second", settings.socket, strerror(cause));
 }
 
@@ -267,19 +287,48 @@ static void give_credits(const struct windows_counts *now) {
 
 static void write_counts(const struct windows_counts *now);
 
+/*
+ * When that is done again which began at a time, and took so much processor time. A look attends to it also while the thread owes time: if it
+ * came each second and took more than the thread's share, no look would ever go on.
+ */
+static uint64_t again_ns(uint64_t begun_ns, uint64_t took_ns, uint64_t least_ns) {
+    enum { PERCENTS = 100 };
+    uint64_t apart_ns = took_ns * OF_SHARE * PERCENTS / share();
+    return begun_ns + (apart_ns > least_ns ? apart_ns : least_ns);
+}
+
+/* Looks at all descriptors, if it is time. Those that came by a socket are seen here, and where pages are guarded. */
+static void find_devices(void) {
+    uint64_t begun_ns = now_ns(), spent_ns = clock_ns(CLOCK_THREAD_CPUTIME_ID);
+    if (begun_ns < my.next_scan_ns) {
+        ranges_found((enum devices)atomic_load(&seen_at_guards));
+        return;
+    }
+    ranges_found(devices_open());
+    uint64_t took_ns = clock_ns(CLOCK_THREAD_CPUTIME_ID) - spent_ns;
+    my.next_scan_ns = again_ns(begun_ns, took_ns, 0);
+    uint64_t apart_ns = my.next_scan_ns - begun_ns;
+    if (apart_ns <= retry_ns || my.was_slow) return;
+    my.was_slow = true;
+    log_line(
+        "a look at all descriptors takes %.1f ms, so there is one in %.1f s: it may have a tenth of the thread's share of %u %%",
+        (double)took_ns / 1e6, (double)apart_ns / 1e9, share());
+}
+
 /* What is to be done at the beginning of a look, and each second while one lasts. */
 static void do_chores(void) {
     struct windows_counts counts;
-    ranges_found(devices_open()); /* (descriptors that came by a socket are seen here alone) */
+    find_devices();
     if (my.is_attached && my.remote.socket >= 0) ranges_open(settings.flags);
-    if (now_ns() < my.next_chores_ns) return;
-    my.next_chores_ns = now_ns() + chores_ns;
+    uint64_t begun_ns = now_ns(), spent_ns = clock_ns(CLOCK_THREAD_CPUTIME_ID);
+    if (begun_ns < my.next_chores_ns) return;
     my.is_memory_short = memory_is_short();
     const struct windows_tuning now = tuning();
     windows_tune(my.windows, &now);
     windows_count(my.windows, &counts);
     give_credits(&counts);
     write_counts(&counts);
+    my.next_chores_ns = again_ns(begun_ns, clock_ns(CLOCK_THREAD_CPUTIME_ID) - spent_ns, chores_ns);
 }
 
 /* Whether a host listens at the socket. */

@@ -75,8 +75,19 @@ static void offer(const struct slot *slot) {
     if (sharing_offer(slot->at, slot->bytes)) syscall(SYS_madvise, slot->at, slot->bytes, MADV_UNMERGEABLE);
 }
 
+static const uint32_t requests[] = {KVM_SET_USER_MEMORY_REGION, REQUEST_2};
+enum { REQUESTS = sizeof requests / sizeof *requests };
+
+size_t kvm_offer_requests(uint32_t to[], size_t most) {
+    size_t count = is_wanted() && most >= REQUESTS ? REQUESTS : 0;
+    memcpy(to, requests, count * sizeof *requests);
+    return count;
+}
+
+bool kvm_offer_is_about(unsigned long request) { return (request == requests[0] || request == requests[1]) && is_wanted(); }
+
 void kvm_offer_seen(int descriptor, unsigned long request, const void *with) {
-    if ((request != KVM_SET_USER_MEMORY_REGION && request != REQUEST_2) || !with || !is_wanted()) return;
+    if (!kvm_offer_is_about(request) || !with) return;
     int cause = errno;
     struct slot now = slot_of(descriptor, with), before = put(&now);
     bool is_same = before.bytes == now.bytes && before.at == now.at;

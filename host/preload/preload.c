@@ -10,9 +10,9 @@
  * - that let devices write to memory: open with O_DIRECT, VFIO;
  * - that close descriptors of which the monitor doesn't know.
  */
-#include "buffers.h"
+#include "calls.h"
+#include "filter.h"
 #include "kvm_offer.h"
-#include "lines.h"
 #include "sharing.h"
 #include "trouble.h"
 #include <dlfcn.h>
@@ -48,6 +48,7 @@ static struct { fcntl_function *fcntl, *fcntl64; } next;
 __attribute__((constructor)) static void find_next(void) {
     next.fcntl = (fcntl_function *)(uintptr_t)dlsym(RTLD_NEXT, "fcntl");
     next.fcntl64 = (fcntl_function *)(uintptr_t)dlsym(RTLD_NEXT, "fcntl64");
+    devices_leave_out(sharing_owns);
 }
 
 /* ---- advice ---- */
@@ -97,55 +98,11 @@ PUBLIC int madvise(void *at, size_t bytes, int advice) {
     return sharing_meets(at, bytes) ? advise_window(at, bytes, advice) : system_madvise(at, bytes, advice);
 }
 
-/* ---- advice by the descriptor of a process ---- */
-
-/* The process of a descriptor as the system numbers it, or 0: it isn't one of a process, or the system doesn't say. */
-static long process_of(int descriptor) {
-    struct lines lines;
-    char path[64];
-    long process = 0;
-    snprintf(path, sizeof path, "/proc/self/fdinfo/%d", descriptor);
-    int info = (int)syscall(SYS_openat, AT_FDCWD, path, O_RDONLY | O_CLOEXEC, 0);
-    if (info < 0) return 0;
-    lines_of(&lines, info);
-    for (const char *line; process == 0 && (line = lines_next(&lines));)
-        if (sscanf(line, "Pid: %ld", &process) != 1) process = 0;
-    syscall(SYS_close, info);
-    return process > 0 ? process : 0;
-}
-
-/* Whether a descriptor is of this process, or of a thread of it. A negative number that the system takes stands for these. */
-static bool is_self(int descriptor) {
-    char path[64];
-    if (descriptor < 0) return syscall(SYS_process_madvise, descriptor, NULL, 0L, MADV_COLD, 0L) == 0;
-    long process = process_of(descriptor);
-    snprintf(path, sizeof path, "/proc/self/task/%ld", process);
-    return process == getpid() || (process != 0 && syscall(SYS_faccessat, AT_FDCWD, path, F_OK) == 0);
-}
-
-/* Whether advice is on a window's memory. Then `copies` are the buffers. errno stays as it is. */
-static bool is_on_window(int process, const struct iovec *buffers, size_t count, struct iovec copies[BUFFERS_MOST]) {
-    int cause = errno;
-    bool is_it = count <= BUFFERS_MOST && buffers_may_meet() && buffers_copy(copies, buffers, count) &&
-                 buffers_meet(copies, count) && is_self(process);
-    errno = cause;
-    return is_it;
-}
-
-/*
- * Linux takes advice of this process on itself as madvise does from 6.13 on. Older ones refuse most of it with EINVAL, or all of it with
- * EPERM. Here it is followed then, too, which is harmless: the monitor asked for it.
- */
 PUBLIC ssize_t process_madvise(int process, const struct iovec *buffers, size_t count, int advice, unsigned flags);
 PUBLIC ssize_t process_madvise(int process, const struct iovec *buffers, size_t count, int advice, unsigned flags) {
-    struct iovec copies[BUFFERS_MOST];
-    size_t done = 0;
-    if (flags != 0 || !is_on_window(process, buffers, count, copies))
-        return syscall(SYS_process_madvise, process, buffers, count, advice, flags);
-    for (size_t i = 0; i < count; done += copies[i++].iov_len)
-        if (copies[i].iov_len > 0 && madvise(copies[i].iov_base, copies[i].iov_len, advice) != 0)
-            return done > 0 ? (ssize_t)done : -1;
-    return (ssize_t)done;
+    ssize_t status;
+    if (calls_advise(process, buffers, count, advice, flags, &status)) return status;
+    return filter_pass(SYS_process_madvise, process, (long)buffers, (long)count, advice, flags);
 }
 
 /* ---- mappings ---- */
@@ -243,22 +200,13 @@ PUBLIC int mlockall(int flags) {
 
 /* ---- devices, and the monitor's own userfaultfd ---- */
 
-/* What a request needs of the windows before it is made. Returns false, with errno, if that can't be had. */
-static bool prepare_request(unsigned long request, const void *with) {
-    const struct uffdio_register *asked = with;
-    if (request == UFFDIO_REGISTER && with && sharing_meets((const void *)(uintptr_t)asked->range.start, asked->range.len))
-        return sharing_end("the process guards its memory by a userfaultfd of its own (postcopy migration, background snapshot)");
-    enum devices devices = devices_of_request(request, with);
-    return devices == DEVICES_NONE || sharing_devices(devices);
-}
-
 PUBLIC int ioctl(int descriptor, unsigned long request, ...) {
     va_list rest;
     va_start(rest, request);
     void *with = va_arg(rest, void *);
     va_end(rest);
-    if (!sharing_is_inside() && !prepare_request(request, with)) return -1;
-    int status = (int)syscall(SYS_ioctl, descriptor, request, with);
+    if (!sharing_is_inside() && !calls_prepare_request(request, with)) return -1;
+    int status = (int)filter_pass(SYS_ioctl, descriptor, (long)request, (long)with, 0, 0);
     if (status == 0 && !sharing_is_inside()) kvm_offer_seen(descriptor, request, with);
     return request == USERFAULTFD_IOC_NEW && sharing_is_inside() ? sharing_own(status) : status;
 }

@@ -46,6 +46,10 @@ size_t ranges_count(void) { return count; }
 
 bool ranges_are_of(const struct window *window) { return pageshare_window_is_part_left(ranges, count, (uintptr_t)window); }
 
+bool ranges_are_whole(const struct piece *piece) {
+    return piece->range->begin == number_of(piece->at) && piece->range->end == number_of(piece->at + piece->bytes);
+}
+
 bool ranges_are_all(const struct piece *piece) {
     const size_t place = (size_t)(piece->range - ranges);
     return pageshare_window_is_all_left(ranges, count, place, number_of(piece->at), number_of(piece->at + piece->bytes));

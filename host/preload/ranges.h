@@ -35,6 +35,8 @@ struct piece ranges_at(size_t i);
 size_t ranges_count(void);
 /* Whether a range is left of a window. */
 bool ranges_are_of(const struct window *window);
+/* Whether a piece is a whole range. */
+bool ranges_are_whole(const struct piece *piece);
 /* Whether a piece is all that is left of its window. */
 bool ranges_are_all(const struct piece *piece);
 

@@ -1,6 +1,7 @@
 #define _GNU_SOURCE
 #include "sharing.h"
 #include "connection.h"
+#include "filter.h"
 #include "ranges.h"
 #include "trouble.h"
 #include "window.h"
@@ -16,6 +17,7 @@
 
 enum {
     LEAST_BYTES = 65536,    /* a range that is smaller is no window: it saves nothing */
+    PART_BYTES = 1 << 21,   /* of a range, that leave its window at once when all do */
     REPORT_BYTES = 1 << 20, /* and of one that is smaller than that nothing is printed */
     REPORTS_MOST = 16,      /* lines of the process on standard error in all */
     SPARE_DESCRIPTORS = 32, /* the library's descriptors are among so many last ones */
@@ -34,8 +36,15 @@ static atomic_uchar owned[DESCRIPTORS_MOST / BITS];
 /* (the model needs no call of the C library, so this is right in any thread at any time) */
 static _Thread_local int inside __attribute__((tls_model("initial-exec")));
 
+static atomic_int inmate; /* the thread that stays inside, or 0 */
+static atomic_int holder; /* the thread that has the lock, or 0 */
+
 bool sharing_is_inside(void) { return inside > 0; }
-void sharing_stay_inside(void) { inside++; }
+bool sharing_is_inside_of(int thread) { return thread == atomic_load(&inmate) || thread == atomic_load(&holder); }
+void sharing_stay_inside(void) {
+    atomic_store(&inmate, gettid());
+    inside++;
+}
 
 static bool is_owner(void) {
     int process = atomic_load(&owner);
@@ -78,18 +87,33 @@ void sharing_disown(int descriptor) {
 
 /* Whether this thread could be cancelled before it took the lock. */
 static _Thread_local int could_cancel __attribute__((tls_model("initial-exec")));
+static _Thread_local int number __attribute__((tls_model("initial-exec"))); /* of this thread, or 0: it isn't known yet */
+
+static atomic_uint waiting; /* threads that wait for the lock: who takes it again and again lets them go first */
 
 /* All that concerns ranges is done between these two. A thread that was cancelled there would keep the lock for ever. */
 static void enter(void) {
     int before = PTHREAD_CANCEL_ENABLE;
     inside++;
     pthread_setcancelstate(PTHREAD_CANCEL_DISABLE, &before);
+    if (number == 0) number = gettid();
+    atomic_fetch_add(&waiting, 1);
     pthread_mutex_lock(&lock);
+    atomic_fetch_sub(&waiting, 1);
+    atomic_store(&holder, number);
     could_cancel = before;
+}
+
+/* Lets threads go first that wait for the lock. */
+static void give_way(void) {
+    enum { PAUSES = 100 };
+    const struct timespec pause = {.tv_nsec = 20000};
+    for (int i = 0; i < PAUSES && atomic_load(&waiting) > 0; i++) nanosleep(&pause, NULL);
 }
 
 static void leave(void) {
     int before = could_cancel;
+    atomic_store(&holder, 0);
     pthread_mutex_unlock(&lock);
     pthread_setcancelstate(before, NULL);
     inside--;
@@ -156,19 +180,24 @@ int sharing_discard(void *from, size_t bytes, int advice) {
     return -1;
 }
 
-/* A piece of a range leaves its window. `*kept` counts pages whose copies stay over frames: then it stays a range. */
-static struct window_result cut(const struct piece *piece, size_t *kept) {
+typedef struct window_result leave_window(struct window *window, size_t first, size_t count, size_t *kept);
+
+/* A piece of a range leaves its window by this call. `*kept` counts pages whose copies stay over frames: then it stays a range. */
+static struct window_result leave_by(leave_window *call, const struct piece *piece, size_t *kept) {
     struct window_result result = {.status = WINDOW_OK};
     *kept = 0;
     if (!piece->window) {
         if (!ranges_take_out(piece)) ranges_remove(piece);
         return result;
     }
-    result = window_cut(piece->window, piece->first, piece->bytes / PAGE, kept);
+    result = call(piece->window, piece->first, piece->bytes / PAGE, kept);
     /* (if there is no place for what is left, the range goes on with pages that aren't its window's) */
     if (result.status == WINDOW_OK && *kept == 0 && ranges_take_out(piece)) end_unused(piece->window);
     return result;
 }
+
+/* The same by window_leave: the monitor may protect and lock the piece, and says no advice of it that counts. */
+static struct window_result cut(const struct piece *piece, size_t *kept) { return leave_by(window_leave, piece, kept); }
 
 enum sharing_left sharing_leave(void *from, size_t bytes, const char *why) {
     uint8_t *at = from, *end = end_of(at, bytes);
@@ -252,7 +281,7 @@ int sharing_advise(void *from, size_t bytes, int advice) {
         piece.range->said = now_ns();
         if (!piece.window) continue;
         bool is_all = ranges_are_all(&piece);
-        result = is_all ? window_advise(piece.window, advice) : cut(&piece, &kept);
+        result = is_all ? window_advise(piece.window, advice) : leave_by(window_cut, &piece, &kept);
         /* (a child may not have pages over frames: nobody would keep it from uncovering them) */
         if (!is_all && advice == MADV_DOFORK && kept > 0)
             result = (struct window_result){.status = WINDOW_PINNED, .cause = EAGAIN};
@@ -286,13 +315,26 @@ int sharing_say_huge(void *from, size_t bytes, bool may) {
     return -1;
 }
 
-/* All ranges leave their windows. With the lock. */
+/* The next part of a range leaves its window, from `*at` on, which becomes its end. Returns false if there is none. With the lock. */
+static bool leave_part(uint8_t **at, struct window_result *result) {
+    struct piece piece = ranges_next(*at, (uint8_t *)(UINTPTR_MAX / PAGE * PAGE));
+    size_t kept, most = PART_BYTES - (uintptr_t)piece.at % PART_BYTES;
+    if (!piece.range) return false;
+    if (piece.bytes > most) piece.bytes = most;
+    *at = piece.at + piece.bytes;
+    *result = cut(&piece, &kept);
+    return true;
+}
+
+/* All ranges leave their windows, part for part: between two of them other calls go on. Takes the lock. */
 static struct window_result leave_all(void) {
     struct window_result result = {.status = WINDOW_OK};
-    size_t kept;
-    for (size_t i = ranges_count(); i-- > 0 && result.status == WINDOW_OK;) {
-        const struct piece piece = ranges_at(i);
-        result = cut(&piece, &kept);
+    bool is_any = true;
+    for (uint8_t *at = NULL; is_any && result.status == WINDOW_OK;) {
+        give_way();
+        enter();
+        is_any = leave_part(&at, &result);
+        leave();
     }
     return result;
 }
@@ -306,9 +348,9 @@ bool sharing_end(const char *why) {
     if (atomic_compare_exchange_strong(&over, &none, true)) say("lending ends for good", bytes, why);
     struct windows *set = atomic_load(&windows);
     if (set) windows_end(set);
+    leave();
     struct window_result result = leave_all();
     if (result.status == WINDOW_OK) atomic_store(&all_home, true);
-    leave();
     if (result.status == WINDOW_OK) return true;
     say("pages can't get memory of their own yet", bytes, window_status_words(result.status));
     errno = errno_of(result);
@@ -322,60 +364,41 @@ static enum windows_pins pins_of(enum devices devices) {
 }
 
 bool sharing_devices(enum devices devices) {
+    static atomic_bool is_said;
     int before = atomic_load(&worst);
     if (inside) return true;
     while (before < (int)devices && !atomic_compare_exchange_weak(&worst, &before, (int)devices)) {
     }
     struct windows *set = atomic_load(&windows);
     if (devices == DEVICES_WRITE_ALL) return sharing_end("a device is given to the guest, or may write to its memory unnoticed");
-    if (pins_of(devices) != WINDOWS_PINS_POSSIBLE || !set || !is_owner()) return true;
+    if (pins_of(devices) != WINDOWS_PINS_POSSIBLE || !is_owner()) return true;
     inside++;
-    windows_set_pins(set, WINDOWS_PINS_POSSIBLE);
+    if (set) windows_set_pins(set, WINDOWS_PINS_POSSIBLE);
     inside--;
-    if (before < (int)devices)
+    if (!atomic_exchange(&is_said, true))
         log_line("devices may have pinned pages (io_uring, io_submit or aio_read with O_DIRECT, or vmx): those that were lent "
                  "and written stay private from now on");
     return true;
 }
 
-/* The memory from the first byte of some buffers to the last. Empty ones may be anywhere. */
-static struct iovec around(const struct iovec *buffers, int count) {
-    uintptr_t low = UINTPTR_MAX, high = 0;
-    for (int i = 0; i < count; i++) {
-        uintptr_t at = (uintptr_t)buffers[i].iov_base;
-        if (buffers[i].iov_len == 0) continue;
-        low = at < low ? at : low;
-        high = at + buffers[i].iov_len > high ? at + buffers[i].iov_len : high;
-    }
-    return high == 0 ? (struct iovec){.iov_base = NULL} : (struct iovec){.iov_base = (void *)low, .iov_len = high - low};
-}
-
 /* Transfers under way that began before there were windows, in place of which they have this. Nothing is lent before they have ended. */
 static atomic_size_t early;
-static const size_t EARLY = SIZE_MAX;
 
 bool ranges_have_early(void) { return atomic_load(&early) > 0; }
 
 void sharing_transfers_begin(struct sharing_transfers *transfers, const struct iovec *buffers, int count) {
     struct windows *set = atomic_load(&windows);
-    transfers->count = 0;
+    *transfers = (struct sharing_transfers){.is_early = false};
     if (inside || !is_owner()) return;
     if (!set) {
         atomic_fetch_add(&early, 1);
         set = atomic_load(&windows);
-        if (!set) {
-            transfers->transfers[transfers->count++] = EARLY;
-            return;
-        }
+        transfers->is_early = !set;
+        if (!set) return;
         atomic_fetch_sub(&early, 1);
     }
     inside++;
-    for (int i = 0; i < count; i++) {
-        bool is_last = transfers->count == SHARING_TRANSFERS_MOST - 1;
-        struct iovec buffer = is_last ? around(buffers + i, count - i) : buffers[i];
-        transfers->transfers[transfers->count++] = windows_transfer_begin(set, buffer.iov_base, buffer.iov_len);
-        if (is_last) break;
-    }
+    transfers->are = windows_transfer_begin(set, buffers, (size_t)count);
     inside--;
 }
 
@@ -383,32 +406,59 @@ void sharing_transfers_end(const struct sharing_transfers *transfers) {
     struct windows *set = atomic_load(&windows);
     if (!is_owner()) return; /* (a child after a fork, where the lock inside may be another thread's for ever) */
     inside++;
-    for (size_t i = 0; i < transfers->count; i++) {
-        if (transfers->transfers[i] == EARLY) atomic_fetch_sub(&early, 1);
-        else windows_transfer_end(set, transfers->transfers[i]);
-    }
+    if (transfers->is_early) atomic_fetch_sub(&early, 1);
+    else if (set) windows_transfer_end(set, transfers->are);
     inside--;
 }
 
 /* ---- windows ---- */
 
-/* Makes windows of the ranges of which nothing was said for a while. */
-void ranges_open(unsigned flags) {
+static bool may_open(void) { return !atomic_load(&over) && atomic_load(&worst) < DEVICES_WRITE_ALL; }
+
+/* Finds the last of the first `*left` ranges that isn't a window, and of which nothing was said for a while. Takes the lock. */
+static bool find_settled(size_t *left, struct piece *settled, uint64_t *said) {
+    bool is_found = false;
     enter();
-    bool may = !atomic_load(&over) && atomic_load(&worst) < DEVICES_WRITE_ALL;
-    for (size_t i = ranges_count(); i-- > 0 && may;) {
-        const struct piece piece = ranges_at(i);
-        struct window *made = NULL;
-        if (piece.window || now_ns() - piece.range->said < settled_ns) continue;
-        struct window_result result = window_make(&made, atomic_load(&windows), piece.at, piece.bytes, flags);
-        if (result.status == WINDOW_OK) {
-            ranges_become(piece.range, made);
-            continue;
-        }
-        if (piece.bytes >= REPORT_BYTES) say("nothing is lent", piece.bytes, window_status_words(result.status));
-        ranges_remove(&piece);
+    size_t count = ranges_count();
+    *left = *left < count ? *left : count;
+    while (may_open() && !is_found && *left > 0) {
+        *settled = ranges_at(--*left);
+        *said = settled->range->said;
+        is_found = !settled->window && now_ns() - *said >= settled_ns;
     }
     leave();
+    return is_found;
+}
+
+/* Makes a window of a range, as it was read, unless something was said of it meanwhile: then a later look does it. Takes the lock. */
+static void open_range(const struct piece *settled, uint64_t said, struct window *read, struct window_result result,
+                       unsigned flags) {
+    enter();
+    const struct piece now = ranges_next(settled->at, settled->at + settled->bytes);
+    bool is_same = now.range && now.at == settled->at && now.bytes == settled->bytes && ranges_are_whole(&now);
+    bool is_due = is_same && may_open() && !now.window && now.range->said == said;
+    if (is_due && result.status == WINDOW_OK) {
+        result = window_begin(read, flags);
+        if (result.status == WINDOW_OK) ranges_become(now.range, read);
+        read = NULL;
+    }
+    if (is_due && result.status != WINDOW_OK) {
+        if (now.bytes >= REPORT_BYTES) say("nothing is lent", now.bytes, window_status_words(result.status));
+        ranges_remove(&now);
+    }
+    leave();
+    window_unread(read);
+}
+
+/* Makes windows of ranges. Their mappings are read without the lock: that takes long where there are many. */
+void ranges_open(unsigned flags) {
+    struct piece settled = {.range = NULL};
+    uint64_t said = 0;
+    for (size_t left = RANGES_MOST; find_settled(&left, &settled, &said);) {
+        struct window *read = NULL;
+        struct window_result result = window_read(&read, atomic_load(&windows), settled.at, settled.bytes);
+        open_range(&settled, said, read, result, flags);
+    }
 }
 
 enum devices ranges_devices(void) { return (enum devices)atomic_load(&worst); }
@@ -463,6 +513,7 @@ bool sharing_offer(void *at, size_t bytes) {
     leave();
     if (is_first) {
         connection_prepare();
+        filter_begin();
         good = start();
         if (!good) ranges_refuse("there is no thread for it");
     }

@@ -8,6 +8,7 @@
 #define HOST_SHARING_H
 
 #include "devices.h"
+#include "window.h"
 #include <stdbool.h>
 #include <stddef.h>
 #include <sys/uio.h>
@@ -53,17 +54,21 @@ bool sharing_end(const char *why);
 bool sharing_devices(enum devices devices);
 
 /* Transfers by O_DIRECT between files and the monitor's memory that are under way, of one call. */
-enum { SHARING_TRANSFERS_MOST = 16 };
 struct sharing_transfers {
-    size_t count;
-    size_t transfers[SHARING_TRANSFERS_MOST];
+    bool is_early; /* they began before there were windows */
+    struct windows_transfer are;
 };
+static inline bool sharing_are_transfers(const struct sharing_transfers *transfers) {
+    return transfers->is_early || transfers->are.first > 0 || transfers->are.elsewhere > 0;
+}
 /* A call by O_DIRECT with these buffers is about to begin, and has ended. */
 void sharing_transfers_begin(struct sharing_transfers *transfers, const struct iovec *buffers, int count);
 void sharing_transfers_end(const struct sharing_transfers *transfers);
 
 /* Whether the caller is this library: then a call goes to the system as it is. */
 bool sharing_is_inside(void);
+/* Whether that thread of the process may be amid a call of the library that has the library's lock, or does nothing else. */
+bool sharing_is_inside_of(int thread);
 /* All that the calling thread does is this library's. */
 void sharing_stay_inside(void);
 

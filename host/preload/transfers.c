@@ -60,7 +60,7 @@ __attribute__((noinline)) static void begin_copied(struct sharing_transfers *tra
 
 /* Counts a call, if it is one by O_DIRECT on memory of a window, and one that the system takes. */
 static struct sharing_transfers begin_vector(int file, const struct iovec *buffers, int count) {
-    struct sharing_transfers transfers = {.count = 0};
+    struct sharing_transfers transfers = {.is_early = false};
     if (count <= 0 || count > BUFFERS_MOST || !buffers_may_meet() || !buffers_are_pinned_by(file)) return transfers;
     int cause = errno;
     begin_copied(&transfers, buffers, count);
@@ -70,7 +70,7 @@ static struct sharing_transfers begin_vector(int file, const struct iovec *buffe
 
 static struct sharing_transfers begin(int file, void *buffer, size_t bytes) {
     const struct iovec whole = {buffer, bytes};
-    struct sharing_transfers transfers = {.count = 0};
+    struct sharing_transfers transfers = {.is_early = false};
     int cause = errno;
     if (buffers_meet(&whole, 1) && buffers_are_pinned_by(file)) sharing_transfers_begin(&transfers, &whole, 1);
     errno = cause;
@@ -94,7 +94,7 @@ static bool has_key;
 static void end_since(size_t place) {
     while (calls.count > place) {
         struct sharing_transfers transfers = calls.of[calls.count - 1];
-        calls.of[calls.count - 1].count = 0;
+        calls.of[calls.count - 1] = (struct sharing_transfers){.is_early = false};
         calls.count--;
         sharing_transfers_end(&transfers);
     }
@@ -126,7 +126,7 @@ static void end(size_t place, const struct sharing_transfers *transfers) {
 /* Makes a call between the beginning and the end of its transfers. */
 #define TRANSFER(BEGIN, CALL)                                                                                                    \
     const struct sharing_transfers transfers = BEGIN;                                                                            \
-    if (transfers.count == 0) return CALL;                                                                                       \
+    if (!sharing_are_transfers(&transfers)) return CALL;                                                                         \
     const size_t place = keep(&transfers);                                                                                       \
     const ssize_t status = CALL;                                                                                                 \
     end(place, &transfers);                                                                                                      \

@@ -133,15 +133,15 @@ struct pageshare_host_loans {
 /* What a call returns. Numbers that libpageshare has too mean the same there. Below they are written without PAGESHARE_HOST_ERROR. */
 enum pageshare_host_status {
     PAGESHARE_HOST_OK = 0,
-    PAGESHARE_HOST_ERROR_FRAMES = 1,    /* fewer than 2 frames for each machine, or more than 1,048,576 */
+    PAGESHARE_HOST_ERROR_FRAMES = 1,    /* fewer than 2 frames for each machine, or too many */
     PAGESHARE_HOST_ERROR_MEMORY = 4,    /* memory was refused */
     PAGESHARE_HOST_ERROR_IN_USE = 5,    /* the handle holds a host already */
     PAGESHARE_HOST_ERROR_NO_HOST = 6,   /* the handle holds no host, or one that isn't made yet */
     PAGESHARE_HOST_ERROR_REGION = 13,   /* the region is for another number of frames, or isn't aligned to 4,096 */
-    PAGESHARE_HOST_ERROR_MACHINES = 16, /* no machine, or more than 64 */
-    PAGESHARE_HOST_ERROR_SLOTS = 17,    /* no slots, or more than 1,048,576 for each machine */
-    PAGESHARE_HOST_ERROR_SESSIONS = 18, /* no session, or more than 65,536 */
-    PAGESHARE_HOST_ERROR_RECENT = 19,   /* no question, or more than 16,777,216 */
+    PAGESHARE_HOST_ERROR_MACHINES = 16, /* no machine, or too many */
+    PAGESHARE_HOST_ERROR_SLOTS = 17,    /* no slots, or too many for each machine */
+    PAGESHARE_HOST_ERROR_SESSIONS = 18, /* no session, or too many */
+    PAGESHARE_HOST_ERROR_RECENT = 19,   /* no question, or too many */
     PAGESHARE_HOST_ERROR_NO_ROOM = 20,  /* connect: there are as many sessions as there may be */
     PAGESHARE_HOST_ERROR_NO_SESSION = 32, /* no session with this number takes messages (disconnect, end, session: there is none) */
     PAGESHARE_HOST_ERROR_SHORT = 33,      /* receive: the reply needs PAGESHARE_HOST_MAX_MESSAGE bytes, freed 128 numbers */
@@ -166,13 +166,16 @@ struct pageshare_host {
 /* What a handle begins as: it holds no host. */
 #define PAGESHARE_HOST_NONE {NULL, false}
 
-/* What a host is made of. All memory is taken when it is made; no other call asks for any. */
+/*
+ * What a host is made of. All memory is taken when it is made; no other call asks for any. The limits are those of
+ * `struct pageshare_domain_config` in pageshare.h; sessions are a domain's clients.
+ */
 struct pageshare_host_shape {
-    uint32_t machines; /* 1 to 64. Equal pages meet, since a page's hash says which machine it goes to */
-    uint32_t slots;    /* the pages that may be lent at a time, of each machine: 1 to 1,048,576 */
-    uint32_t frames;   /* of each machine, 2 to 1,048,576. One of them is spare: it is in use only within a call */
-    uint32_t sessions; /* the most sessions at a time: 1 to 65,536 */
-    uint32_t recent;   /* how many questions are remembered: 1 to 16,777,216 */
+    uint32_t machines; /* equal pages meet, since a page's hash says which machine it goes to */
+    uint32_t slots;    /* the pages that may be lent at a time, of each machine */
+    uint32_t frames;   /* of each machine, at least 2. One of them is spare: it is in use only within a call */
+    uint32_t sessions; /* the most sessions at a time */
+    uint32_t recent;   /* how many questions are remembered */
     uint32_t quota;    /* the most slots of one session */
     uint32_t salt;     /* of the pages' hash. Drawn at random, and kept secret from clients */
     uint32_t fingerprints; /* the salt of fingerprints, which clients get: another one */

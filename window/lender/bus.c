@@ -1,47 +1,47 @@
 #define _GNU_SOURCE
 #include "bus.h"
 #include <errno.h>
+#include <fcntl.h>
 #include <pthread.h>
 #include <signal.h>
-#include <stdatomic.h>
-#include <stdint.h>
+#include <string.h>
 #include <sys/mman.h>
+#include <unistd.h>
 
-enum { RANGES = 16, PAGE = 4096, PAGES_MOST = 8, NO_FILE = -1 };
+enum { FILES = 16, PAGE = 4096, BITS = 64, TRIES = 3, NO_FILE = -1 };
 
-struct range {
-    _Atomic uintptr_t at;
-    _Atomic size_t bytes;
-};
-static struct range ranges[RANGES];
+static struct bus *_Atomic caught[FILES];
 static struct sigaction before;
 static pthread_mutex_t lock = PTHREAD_MUTEX_INITIALIZER;
 
-/* Pages of this thread that have other memory now, by their addresses, and where their range begins. */
-static _Thread_local volatile sig_atomic_t page_count;
-static _Thread_local uintptr_t pages[PAGES_MOST], begins[PAGES_MOST];
+/* Maps a page that is set aside in a frame's place, which takes no memory. It reads as zeros, as the file does there. */
+static bool replace(struct bus *bus, size_t frame) {
+    bool is_in_use = bus->in_use && (atomic_load(&bus->in_use[frame / BITS]) >> frame % BITS & 1) != 0;
+    void *at = bus->at + frame * PAGE, *got = MAP_FAILED;
+    if (is_in_use || bus->used == BUS_MOST) return false;
+    for (int i = 0; i < TRIES && got == MAP_FAILED; i++) /* (without it the process ends) */
+        got = mmap(at, PAGE, PROT_READ | PROT_WRITE, MAP_SHARED | MAP_FIXED, bus->aside, (off_t)bus->used * PAGE);
+    if (got == MAP_FAILED) return false;
+    memset(at, 0, PAGE);
+    bus->frames[bus->used++] = (uint32_t)frame;
+    return true;
+}
 
-static bool replace(uintptr_t address) {
-    uintptr_t page = address / PAGE * PAGE;
-    for (int i = 0; i < RANGES; i++) {
-        uintptr_t at = atomic_load(&ranges[i].at);
-        if (at == 0 || address - at >= atomic_load(&ranges[i].bytes) || page_count == PAGES_MOST) continue;
-        const int kind = MAP_PRIVATE | MAP_ANONYMOUS | MAP_FIXED;
-        if (mmap((void *)page, PAGE, PROT_READ | PROT_WRITE, kind, NO_FILE, 0) == MAP_FAILED) return false;
-        begins[page_count] = at;
-        pages[page_count] = page;
-        page_count = page_count + 1;
-        return true;
+static bool is_mended(const siginfo_t *info) {
+    for (size_t i = 0; info->si_code == BUS_ADRERR && i < FILES; i++) {
+        struct bus *bus = atomic_load(&caught[i]);
+        size_t from = bus ? (uintptr_t)info->si_addr - (uintptr_t)bus->at : 0;
+        if (bus && from / PAGE < bus->count) return replace(bus, from / PAGE);
     }
     return false;
 }
 
-static void on_bus_error(int signal, siginfo_t *info, void *context) {
+static void on_bus_error(int number, siginfo_t *info, void *context) {
     int cause = errno;
-    if (!replace((uintptr_t)info->si_addr)) {
-        if ((before.sa_flags & SA_SIGINFO) != 0) before.sa_sigaction(signal, info, context);
-        else if (before.sa_handler != SIG_DFL && before.sa_handler != SIG_IGN) before.sa_handler(signal);
-        else sigaction(SIGBUS, &before, NULL); /* (the access is made again, and meets what was there before) */
+    if (!is_mended(info)) {
+        if ((before.sa_flags & SA_SIGINFO) != 0) before.sa_sigaction(number, info, context);
+        else if (before.sa_handler != SIG_DFL && before.sa_handler != SIG_IGN) before.sa_handler(number);
+        else sigaction(number, &before, NULL), raise(number); /* (it comes again once this is left) */
     }
     errno = cause;
 }
@@ -54,35 +54,51 @@ static int install(void) {
     return sigaction(SIGBUS, &now, NULL) == 0 ? 0 : errno;
 }
 
-int bus_errors_catch(void *at, size_t bytes) {
-    int cause = ENOSPC;
-    pthread_mutex_lock(&lock);
-    for (int i = 0; i < RANGES && cause == ENOSPC; i++) {
-        if (atomic_load(&ranges[i].at) != 0) continue;
-        cause = install();
-        if (cause != 0) break;
-        atomic_store(&ranges[i].bytes, bytes);
-        atomic_store(&ranges[i].at, (uintptr_t)at);
+static int set_aside(struct bus *bus) {
+    bus->aside = memfd_create("pageshare-aside", MFD_CLOEXEC);
+    return bus->aside >= 0 && fallocate(bus->aside, 0, 0, (off_t)BUS_MOST * PAGE) == 0 ? 0 : errno;
+}
+
+static int enter(struct bus *bus) {
+    for (size_t i = 0; i < FILES; i++) {
+        if (atomic_load(&caught[i])) continue;
+        int cause = install();
+        if (cause == 0) atomic_store(&caught[i], bus);
+        return cause;
     }
+    return ENOSPC;
+}
+
+int bus_catch(struct bus *bus, void *at, size_t count, const _Atomic uint64_t *in_use) {
+    *bus = (struct bus){.aside = NO_FILE, .at = at, .count = count, .in_use = in_use};
+    int cause = set_aside(bus);
+    pthread_mutex_lock(&lock);
+    if (cause == 0) cause = enter(bus);
     pthread_mutex_unlock(&lock);
     return cause;
 }
 
-void bus_errors_forget(void *at) {
+void bus_free(struct bus *bus) {
     pthread_mutex_lock(&lock);
-    for (int i = 0; i < RANGES; i++)
-        if (atomic_load(&ranges[i].at) == (uintptr_t)at) atomic_store(&ranges[i].at, 0);
+    for (size_t i = 0; i < FILES; i++)
+        if (atomic_load(&caught[i]) == bus) atomic_store(&caught[i], NULL);
     pthread_mutex_unlock(&lock);
+    if (bus->aside >= 0) close(bus->aside);
+    bus->aside = NO_FILE;
 }
 
-bool bus_errors_end(int file) {
-    bool any = page_count > 0;
-    while (page_count > 0) {
-        uintptr_t page = pages[page_count - 1];
-        off_t from = (off_t)(page - begins[page_count - 1]);
-        void *got = mmap((void *)page, PAGE, PROT_READ | PROT_WRITE, MAP_SHARED | MAP_FIXED | MAP_NORESERVE, file, from);
-        if (got == MAP_FAILED) break; /* (it is tried again at the next call, and the page is no part of the file until then) */
-        page_count = page_count - 1;
+bool bus_has(const struct bus *bus, uint32_t frame) {
+    for (size_t i = 0; i < bus->used; i++)
+        if (bus->frames[i] == frame) return true;
+    return false;
+}
+
+bool bus_map_again(struct bus *bus, int file, bool (*say)(void *at, size_t bytes)) {
+    const int rights = PROT_READ | PROT_WRITE, kind = MAP_SHARED | MAP_FIXED | MAP_NORESERVE;
+    for (; bus->used > 0; bus->used--) {
+        size_t from = (size_t)bus->frames[bus->used - 1] * PAGE;
+        void *at = mmap(bus->at + from, PAGE, rights, kind, file, (off_t)from);
+        if (at == MAP_FAILED || (say && !say(at, PAGE))) return false;
     }
-    return any;
+    return true;
 }

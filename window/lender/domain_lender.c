@@ -17,9 +17,11 @@ struct lender {
     struct pageshare_domain domain;
     struct journal *journal;
     uint32_t client;
-    uint8_t *region;        /* the frames, for writing */
-    unsigned char *is_free; /* of each frame: it is free, and the system may hold memory for it */
+    uint8_t *region;           /* the frames, for writing */
+    unsigned char *is_free;    /* of each frame: it is free, and the system may hold memory for it */
+    size_t free_from, free_to; /* all that are so are in here */
     struct lender_counts counts;
+    struct bus bus;
 };
 
 const char *lender_status_words(enum lender_status status) {
@@ -48,11 +50,18 @@ static int ask(void *opaque, const uint32_t *pages, const uint64_t *fingerprints
     return 0;
 }
 
+static void note_free(struct lender *lender, size_t frame) {
+    bool is_first = lender->free_from == lender->free_to;
+    lender->is_free[frame] = 1;
+    if (is_first || frame < lender->free_from) lender->free_from = frame;
+    if (is_first || frame >= lender->free_to) lender->free_to = frame + 1;
+}
+
 static void release_one(struct lender *lender, uint64_t slot) {
     uint32_t freed = PAGESHARE_NO_FRAME;
     if (journal_release(lender->journal, &lender->domain, lender->client, slot, &freed) != PAGESHARE_OK) return;
     lender->counts.releases++;
-    if (freed < lender->interface.frame_count) lender->is_free[freed] = 1;
+    if (freed < lender->interface.frame_count) note_free(lender, freed);
 }
 
 static int release(void *opaque, const uint64_t *slots, size_t count) {
@@ -63,23 +72,30 @@ static int release(void *opaque, const uint64_t *slots, size_t count) {
 /* A frame for which the system had no memory was written elsewhere, so it isn't lent. */
 static struct window_loan lend_one(struct lender *lender, const unsigned char *page) {
     struct pageshare_loan loan = journal_lend(lender->journal, &lender->domain, lender->client, page);
-    bool has_failed = bus_errors_end(lender->interface.frames);
-    if (loan.status != PAGESHARE_OK) return (struct window_loan){.frame = WINDOW_NO_FRAME};
-    if (has_failed) {
+    bool has_failed = lender->bus.used > 0;
+    if (has_failed && loan.status == PAGESHARE_OK) {
         lender->counts.no_memory++;
         release_one(lender, loan.slot);
-        return (struct window_loan){.frame = WINDOW_NO_FRAME};
     }
+    bus_map_again(&lender->bus, lender->interface.frames,
+                  NULL); /* (if the system refuses, the next lend has failed, and tries again) */
+    if (has_failed || loan.status != PAGESHARE_OK) return (struct window_loan){.frame = WINDOW_NO_FRAME};
     lender->is_free[loan.frame] = 0;
     lender->counts.lends++;
     return (struct window_loan){.frame = loan.frame, .slot = loan.slot};
 }
 
+/*
+ * A device may still be reading the memory of a frame that became free, for a page that showed it. So that memory goes back to the system
+ * before the frame is lent anew. Where the system refuses that, nothing is lent.
+ */
 static int lend(void *opaque, const uint32_t *pages, size_t count, struct window_loan *loans) {
     struct lender *lender = opaque;
     uint64_t begun = now_ns();
+    bool may_lend = lender_trim(lender) == 0;
     (void)pages;
-    for (size_t i = 0; i < count; i++) loans[i] = lend_one(lender, lender->interface.pages[i]);
+    for (size_t i = 0; i < count; i++)
+        loans[i] = may_lend ? lend_one(lender, lender->interface.pages[i]) : (struct window_loan){.frame = WINDOW_NO_FRAME};
     lender->counts.lend_ns += now_ns() - begun;
     return 0;
 }
@@ -127,7 +143,7 @@ static struct lender_result make_parts(struct lender *lender, const struct lende
     void *at = mmap(NULL, bytes, PROT_READ | PROT_WRITE, MAP_SHARED | MAP_NORESERVE, lender->interface.frames, 0);
     if (at == MAP_FAILED) return result_of(LENDER_NO_FILE, errno);
     lender->region = at;
-    int cause = bus_errors_catch(at, bytes);
+    int cause = bus_catch(&lender->bus, at, config->frames, NULL);
     return cause == 0 ? make_domain(lender, config) : result_of(LENDER_NO_FILE, cause);
 }
 
@@ -136,6 +152,7 @@ struct lender_result lender_make(struct lender **made, const struct lender_confi
     *made = NULL;
     if (lender == NULL) return result_of(LENDER_NO_MEMORY, ENOMEM);
     lender->domain = (struct pageshare_domain)PAGESHARE_DOMAIN_NONE;
+    lender->bus = (struct bus)BUS_NONE;
     lender->journal = config->journal;
     lender->interface = (struct window_lender){
         .opaque = lender, .frames = NO_FILE, .frame_count = config->frames, .ask = ask, .lend = lend, .release = release};
@@ -147,10 +164,10 @@ struct lender_result lender_make(struct lender **made, const struct lender_confi
 
 void lender_free(struct lender *lender) {
     if (lender == NULL) return;
+    bus_free(&lender->bus);
     size_t bytes = bytes_of(lender->interface.frame_count);
     pageshare_domain_free(&lender->domain);
     if (lender->region != NULL) {
-        bus_errors_forget(lender->region);
         munmap(lender->region, bytes);
     }
     if (lender->interface.frames >= 0) close(lender->interface.frames);
@@ -167,13 +184,14 @@ static bool punch(const struct lender *lender, size_t first, size_t count) {
 }
 
 size_t lender_trim(struct lender *lender) {
-    size_t frames = lender->interface.frame_count, left = 0;
-    for (size_t first = 0, end = 0; first < frames; first = end + 1) {
-        for (end = first; end < frames && lender->is_free[end] == 1;) end++;
+    size_t left = 0;
+    for (size_t first = lender->free_from, end = 0; first < lender->free_to; first = end + 1) {
+        for (end = first; end < lender->free_to && lender->is_free[end] == 1;) end++;
         bool is_given = end == first || punch(lender, first, end - first);
         if (!is_given) left += end - first;
         for (size_t frame = first; frame < end && is_given; frame++) lender->is_free[frame] = 0;
     }
+    if (left == 0) lender->free_from = lender->free_to = 0;
     return left;
 }
 

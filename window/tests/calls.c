@@ -46,6 +46,12 @@ struct scan {
     uint64_t inverted, all_of, any_of, answered;
 };
 #define SCAN_PAGES _IOWR('f', 16, struct scan)
+struct question {
+    uint64_t bytes, flags, address, begin, end, rights, page_bytes, from, inode;
+    uint32_t major, minor, name_bytes, build_bytes;
+    uint64_t name, build;
+};
+#define ASK_MAPPING _IOWR('f', 17, struct question)
 
 enum { PAGE_BYTES = 4096, CAUSES = 3 };
 
@@ -64,6 +70,7 @@ static const struct kind kinds[CALLS] = {
     [CALL_OPEN_FAULTS] = {"open-faults", {EPERM, ENOMEM, EMFILE}},
     [CALL_SCAN] = {"scan", {ENOMEM, EINTR, EFAULT}},
     [CALL_PAGEMAP] = {"pagemap", {EIO, EPERM, ENOMEM}},
+    [CALL_ASK_MAPPING] = {"ask-mapping", {ENOTTY, ENOENT, ENOMEM}},
     [CALL_MAP] = {"map", {ENOMEM, EAGAIN, ENFILE}},
     [CALL_MAP_FIXED] = {"map-fixed", {ENOMEM, EAGAIN, ENFILE}},
     [CALL_UNMAP] = {"unmap", {ENOMEM, EINTR, EPERM}},
@@ -170,6 +177,7 @@ static enum call kind_of_request(unsigned long request) {
     case UFFDIO_API:
     case USERFAULTFD_IOC_NEW: return CALL_OPEN_FAULTS;
     case SCAN_PAGES: return CALL_SCAN;
+    case ASK_MAPPING: return CALL_ASK_MAPPING;
     default: return CALLS;
     }
 }

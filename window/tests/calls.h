@@ -20,7 +20,8 @@ enum call {
     CALL_OPEN_FAULTS,
     CALL_SCAN, /* of page tables */
     CALL_PAGEMAP,
-    CALL_MAP, /* of mappings; FIXED: in the place of another */
+    CALL_ASK_MAPPING, /* about one mapping */
+    CALL_MAP,         /* of mappings; FIXED: in the place of another */
     CALL_MAP_FIXED,
     CALL_UNMAP,
     CALL_REMAP,

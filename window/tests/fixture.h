@@ -5,6 +5,7 @@
 #include "../lender/domain_lender.h"
 #include "check.h"
 #include "looks.h"
+#include <fcntl.h>
 #include <sys/mman.h>
 #include <unistd.h>
 
@@ -95,6 +96,24 @@ static inline size_t mappings_in(const uint8_t *at, size_t pages) {
         if (sscanf(line, "%lx-%lx ", &begin, &end) == 2 && begin < (uintptr_t)at + pages * PAGE && end > (uintptr_t)at) count++;
     if (file != NULL) fclose(file);
     return count;
+}
+
+/* Whether a page takes memory: the kernel's page of zeros is none. */
+static inline bool takes_memory(const struct fixture *fixture, const uint8_t *at) {
+    uint8_t found = PAGE_PRESENT;
+    bool is_huge;
+    check(pagemap_find(&fixture->windows->pagemap, at, 1, NULL, &found, &is_huge) == 0, "pagemap_find");
+    return found != PAGE_NONE;
+}
+
+/* Whether nothing is there, not even the kernel's page of zeros: who watches for missing pages hears of a read. */
+static inline bool is_missing(const uint8_t *at) {
+    uint64_t entry = 0;
+    int fd = open("/proc/self/pagemap", O_RDONLY | O_CLOEXEC);
+    check(pread(fd, &entry, sizeof entry, (off_t)((uintptr_t)at / PAGE * sizeof entry)) == sizeof entry,
+          "an entry of the pagemap");
+    close(fd);
+    return entry >> 62 == 0;
 }
 
 /* A file of a page that is full of a byte. */

@@ -7,8 +7,11 @@
 #include "faults.h"
 #include "fixture.h"
 #include <errno.h>
+#include <fcntl.h>
+#include <limits.h>
 #include <pthread.h>
 #include <sys/prctl.h>
+#include <sys/uio.h>
 #include <time.h>
 
 enum { PAGES = 64 };
@@ -227,6 +230,35 @@ static void punch_fails(void) {
     check(lender_trim(fixture.lender) == 0, "the next one gives them back");
     lender_count(fixture.lender, &totals, &counts);
     check(totals.frames == 0 && counts.frame_bytes <= PAGE, "the file holds nothing but perhaps the spare frame");
+    must(window_free(window, WINDOW_DROP), "window_free");
+    fixture_free(&fixture);
+}
+
+/*
+ * A pipe has a page of a window, as a device that reads it late, when its frame becomes free and is lent anew: the pipe has what the page
+ * contained. Nothing is lent before the frame's memory is given back.
+ */
+static void frames_are_lent_anew(void) {
+    const struct windows_config config = {.pins = WINDOWS_PINS_NEVER};
+    struct fixture fixture = fixture_make(&config, PAGES / 2 + 1); /* (so that the same frames are lent) */
+    uint8_t *at = memory(PAGES), late[PAGE];
+    struct window *window = window_over(&fixture, at, PAGES);
+    struct iovec first = {.iov_base = at, .iov_len = PAGE};
+    int ends[2];
+    fill(at, PAGES, PAGES / 2);
+    check(look_until(&fixture, PAGES) == PAGES, "all pages are lent");
+    check(pipe(ends) == 0 && vmsplice(ends[1], &first, 1, 0) == PAGE, "a pipe has a page");
+    must(window_discard(window, 0, PAGES), "window_discard");
+    look_often(&fixture, 2);
+    for (size_t i = 0; i < PAGES; i++) memset(at + i * PAGE, (int)(100 + i % (PAGES / 2)), PAGE);
+    planned.punches = INT_MAX;
+    look_often(&fixture, 12);
+    check(counts_of(&fixture).lent == 0, "nothing is lent while memory can't be given back");
+    planned.punches = 0;
+    check(look_until(&fixture, PAGES) == PAGES, "and then all is lent anew");
+    check(read(ends[0], late, PAGE) == PAGE && late[0] == 1 && late[PAGE - 1] == 1, "the pipe has what the page contained");
+    close(ends[0]);
+    close(ends[1]);
     must(window_free(window, WINDOW_DROP), "window_free");
     fixture_free(&fixture);
 }
@@ -460,6 +492,7 @@ int main(void) {
     release_of_home_fails();
     populate_fails();
     punch_fails();
+    frames_are_lent_anew();
     unmap_fails();
     make_fails();
     scratch_fails();

@@ -109,6 +109,47 @@ static void device_reads(void) {
     munmap(at, PAGES * PAGE);
 }
 
+/* Processor time of discards of every other page of some, in their window or not; or of reading in which mapping each is. */
+static uint64_t time_of(struct window *window, size_t first, size_t count, bool is_discard) {
+    struct mapping_facts facts;
+    uint64_t begun = clock_spent_ns();
+    for (size_t page = first; page < first + count; page += 2) {
+        if (is_discard) must(window_discard(window, page, 1), "window_discard");
+        else check(mapping_read(&facts, window->at + page * PAGE, 1) == 0, "mapping_read");
+    }
+    return clock_spent_ns() - begun;
+}
+
+/* Discards of copies that stay over frames don't read all mappings, unless the caller may have said something of some. */
+static void many_stay(void) {
+    enum { MANY = 4096, SOME = 64 };
+    struct fixture fixture = fixture_make(&maybe_pinned, MANY);
+    uint8_t *at = memory(MANY);
+    struct window *window = window_over(&fixture, at, MANY);
+    size_t kept = 0;
+    for (uint32_t page = 0; page < MANY; page++) memcpy(at + (size_t)page * PAGE, &(uint32_t){page / 2 % 64 + 1}, 4);
+    look_often(&fixture, 20);
+    for (size_t page = 0; page < MANY; page++) at[page * PAGE + 8] = 7;
+    must(window_leave(window, 0, MANY, &kept), "window_leave");
+    struct mapping_facts facts;
+    if (kept < MANY / 2 || mapping_ask(&facts, at, 1) != 0) {
+        puts("left out: discards of many copies over frames, since pages can't be moved, or the system isn't asked about "
+             "mappings");
+    } else {
+        uint64_t reading = time_of(window, MANY - SOME, SOME, false), discards = time_of(window, MANY - SOME, SOME, true);
+        check(discards < reading / 2, "a discard of what stays takes less time than reading all mappings");
+        check(are_bytes(at + (MANY - SOME) * PAGE, 0) && at[(MANY - SOME + 1) * PAGE + 8] == 7, "and shows zeros");
+        must(window_cut(window, 0, 1, NULL), "window_cut");
+        check(mprotect(at + 3 * PAGE, PAGE, PROT_READ) == 0, "a page is protected");
+        must(window_discard(window, 3, 1), "window_discard");
+        check(mapping_read(&facts, at + 3 * PAGE, 1) == 0 && facts.protection == PROT_READ, "and stays so");
+    }
+    must(window_discard(window, 0, MANY), "window_discard");
+    must(window_free(window, WINDOW_TAKE_HOME), "window_free");
+    fixture_free(&fixture);
+    munmap(at, MANY * PAGE);
+}
+
 static enum windows_pins found_pins;
 static enum windows_pins found(void *asked) {
     ++*(unsigned *)asked;
@@ -141,34 +182,79 @@ static void pins_are_found(void) {
     munmap(at, PAGES * PAGE);
 }
 
+static struct windows_transfer begin_transfer(struct fixture *fixture, uint8_t *at, size_t bytes) {
+    return windows_transfer_begin(fixture->windows, &(struct iovec){at, bytes}, 1);
+}
+
 /* While a transfer by O_DIRECT is under way its pages aren't held, nor their slots released; and then they are. */
 static void transfers(void) {
     struct fixture fixture = fixture_make(&never_pinned, PAGES);
     uint8_t *at = memory(PAGES);
     struct window *window = window_over(&fixture, at, PAGES);
-    size_t begun[TRANSFERS_MOST + 1], kept = 0;
-    struct pageshare_domain_totals totals;
-    struct lender_counts counts;
+    size_t kept = 0;
     fill(at, PAGES, 1);
     check(look_until(&fixture, PAGES) == PAGES, "all pages are lent");
     memset(at, 1, 4 * PAGE);
-    begun[1] = windows_transfer_begin(fixture.windows, NULL, 0); /* (an empty one may be anywhere) */
-    begun[0] = windows_transfer_begin(fixture.windows, at + PAGE + 100, PAGE);
-    windows_transfer_end(fixture.windows, begun[1]);
+    const struct windows_transfer empty = begin_transfer(&fixture, at, 0),
+                                  begun = begin_transfer(&fixture, at + PAGE + 100, PAGE);
+    windows_transfer_end(fixture.windows, empty);
     check(look_until(&fixture, PAGES - 2) == PAGES - 2, "all are lent again but for the two of the transfer");
-    lender_count(fixture.lender, &totals, &counts);
-    check(totals.slots == PAGES, "whose slots aren't released");
+    check(slots_of(&fixture) == PAGES, "whose slots aren't released");
     must(window_cut(window, 0, 4, &kept), "window_cut");
     check(kept == 2 && are_bytes(at + PAGE, 1), "these stay where they are");
-    windows_transfer_end(fixture.windows, begun[0]);
-    memset(at + 40 * PAGE, 1, PAGE);
-    for (size_t i = 0; i <= TRANSFERS_MOST; i++) begun[i] = windows_transfer_begin(fixture.windows, at, PAGE);
+    windows_transfer_end(fixture.windows, begun);
+    must(window_discard(window, 0, PAGES), "window_discard");
+    must(window_free(window, WINDOW_TAKE_HOME), "window_free");
+    fixture_free(&fixture);
+    munmap(at, PAGES * PAGE);
+}
+
+/* However many are under way, with however many buffers each, only their pages are left alone, also where a window is made meanwhile. */
+static void many_transfers(void) {
+    enum { CALLS = 12, BUFFERS = 1024 };
+    struct fixture fixture = fixture_make(&never_pinned, PAGES);
+    uint8_t *at = memory(PAGES);
+    struct iovec buffers[BUFFERS];
+    struct windows_transfer begun[CALLS];
+    fill(at, PAGES, 1);
+    for (size_t i = 0; i < BUFFERS; i++) buffers[i] = (struct iovec){at + i % HALF * 2 * PAGE + i % 7, 16};
+    struct window *window = NULL, *early = window_over(&fixture, at, HALF);
+    for (size_t i = 0; i < CALLS; i++) begun[i] = windows_transfer_begin(fixture.windows, buffers, BUFFERS);
+    window = window_over(&fixture, at + HALF * PAGE, HALF);
+    check(look_until(&fixture, HALF) == HALF, "every other page is lent");
+    look_often(&fixture, 4);
+    for (size_t page = 0; page < HALF; page++)
+        check(window_page_is(page % 2 == 0 ? early : window, page) == (page % 2 == 0 ? WINDOW_PAGE_PRIVATE : WINDOW_PAGE_LENT),
+              "only pages of transfers aren't");
+    for (size_t i = 1; i < CALLS; i++) windows_transfer_end(fixture.windows, begun[i]);
     look_often(&fixture, 12);
-    check(window_page_is(window, 40) == WINDOW_PAGE_PRIVATE, "with more transfers than are kept by their places no copy is held");
-    for (size_t i = 0; i <= TRANSFERS_MOST; i++) windows_transfer_end(fixture.windows, begun[i]);
+    check(counts_of(&fixture).lent == HALF, "one of them keeps its pages");
+    windows_transfer_end(fixture.windows, begun[0]);
+    check(look_until(&fixture, PAGES) == PAGES, "after the last one all pages are lent");
+    must(window_free(early, WINDOW_TAKE_HOME), "window_free");
+    must(window_free(window, WINDOW_TAKE_HOME), "window_free");
+    fixture_free(&fixture);
+    munmap(at, PAGES * PAGE);
+}
+
+/* Where a page has more than can be counted, some are anywhere for all that is known: then no copy over a frame is held. */
+static void uncounted_transfers(void) {
+    enum { BUFFERS = 1024, CALLS = 65 };
+    struct fixture fixture = fixture_make(&never_pinned, PAGES);
+    uint8_t *at = memory(PAGES);
+    struct iovec buffers[BUFFERS];
+    struct windows_transfer begun[CALLS];
+    struct window *window = window_over(&fixture, at, PAGES);
+    fill(at, PAGES, 1);
+    check(look_until(&fixture, PAGES) == PAGES, "all pages are lent");
+    for (size_t i = 0; i < BUFFERS; i++) buffers[i] = (struct iovec){at, 1};
+    for (size_t i = 0; i < CALLS; i++) begun[i] = windows_transfer_begin(fixture.windows, buffers, BUFFERS);
+    memset(at + 40 * PAGE, 1, PAGE);
+    look_often(&fixture, 12);
+    check(window_page_is(window, 40) == WINDOW_PAGE_PRIVATE, "with more transfers of a page than can be counted no copy is held");
+    for (size_t i = 0; i < CALLS; i++) windows_transfer_end(fixture.windows, begun[i]);
     look_often(&fixture, 12);
     check(window_page_is(window, 40) == WINDOW_PAGE_LENT, "afterwards it is");
-    must(window_discard(window, 0, PAGES), "window_discard");
     must(window_free(window, WINDOW_TAKE_HOME), "window_free");
     fixture_free(&fixture);
     munmap(at, PAGES * PAGE);
@@ -187,7 +273,7 @@ static void mappings(void) {
     check(there > MANY / 2 && counted <= there + 2 && there <= counted + 2, "as many are counted as there are");
     must(window_discard(window, 0, MANY), "window_discard");
     must(look(fixture.windows), "windows_look");
-    check(mappings_in(at, MANY) > MANY / 2, "moved memory stays a mapping of its own");
+    check(counts_of(&fixture).mappings <= 4 && mappings_in(at, MANY) <= 4, "what was moved is one mapping once it is given up");
     must(window_free(window, WINDOW_DROP), "window_free");
     fixture_free(&fixture);
     munmap(at, MANY * PAGE);
@@ -288,19 +374,27 @@ static void crowded(void) {
     munmap(at, PAGES * PAGE);
 }
 
-/* After the end of lending nothing is lent, and what was lent goes on until it is taken home. */
+/* After the end of lending nothing is lent, and what was lent goes on until it is taken home. No frame is mapped beside that: mlockall would
+ * copy each. */
 static void over(void) {
     struct fixture fixture = fixture_make(&never_pinned, PAGES);
     uint8_t *at = memory(PAGES);
     struct window *window = window_over(&fixture, at, PAGES);
     fill(at, PAGES, 1);
     check(look_until(&fixture, PAGES) == PAGES, "all pages are lent");
+    uint8_t *frames = fixture.windows->frames_at, resident;
+    check(mincore(frames, PAGE, &resident) == 0, "the frames are mapped");
     windows_end(fixture.windows);
+    check(mincore(frames, PAGE, &resident) == -1 && errno == ENOMEM, "after the end they aren't");
     memset(at, 1, HALF * PAGE);
     look_often(&fixture, 12);
     struct windows_counts counts = counts_of(&fixture);
     check(counts.lent == PAGES - HALF && counts.lends == PAGES && are_bytes(at + HALF * PAGE, 1), "nothing is lent again");
     must(window_free(window, WINDOW_TAKE_HOME), "window_free");
+    must(look(fixture.windows), "windows_look");
+    windows_detach(fixture.windows);
+    must(windows_attach(fixture.windows, lender_interface(fixture.lender)), "windows_attach");
+    check(fixture.windows->frames_at == NULL, "nor are those of a lender that comes then");
     fixture_free(&fixture);
     munmap(at, PAGES * PAGE);
 }
@@ -310,8 +404,11 @@ int main(void) {
     stays(WINDOW_DROP);
     holes();
     device_reads();
+    many_stay();
     pins_are_found();
     transfers();
+    many_transfers();
+    uncounted_transfers();
     mappings();
     several_mappings();
     lent_anew();

@@ -49,14 +49,15 @@ static void lives(void) {
 /* Zeros go back to the system, and pages that nobody else has stay where they are. */
 static void zeros_and_singles(void) {
     struct fixture fixture = fixture_make(&never_pinned, PAGES);
-    uint8_t *at = memory(PAGES), resident[PAGES];
+    uint8_t *at = memory(PAGES);
     struct window *window = window_over(&fixture, at, PAGES);
     fill(at, PAGES, PAGES);
     memset(at, 0, PAGES / 2 * PAGE);
     look_often(&fixture, 20);
     struct windows_counts counts = counts_of(&fixture);
     check(counts.lends == 0 && counts.zeros == PAGES / 2, "zeros are given back, and nothing is lent");
-    check(mincore(at, PAGES * PAGE, resident) == 0 && resident[0] == 0 && resident[PAGES / 2] == 1, "zeros take no memory");
+    bool scans = fixture.windows->pagemap.scans; /* (else the kernel's page of zeros looks like memory) */
+    check(!(scans && takes_memory(&fixture, at)) && takes_memory(&fixture, at + PAGES / 2 * PAGE), "zeros take no memory");
     check(are_bytes(at, 0) && are_bytes(at + (PAGES - 1) * PAGE, PAGES), "all read as before");
     must(window_free(window, WINDOW_DROP), "window_free");
     fixture_free(&fixture);
@@ -212,7 +213,7 @@ static void advice(void) {
     check(look_until(&fixture, PAGES) == PAGES, "all pages are lent");
     check(!has_flags(at, "mg") && !has_flags(at + PAGE, "mg"), "the kernel's KSM leaves a window alone");
     check(has_flags(at, "dd dc nh"), "a lent page isn't dumped, has no huge pages, and no child has it");
-    check(!binds || policy_of(at) == 2, "its copy comes from the same memory node");
+    check(!binds || policy_of(at) == 0, "the file of frames gets no memory policy");
     must(window_discard(window, 3, 1), "window_discard");
     check(has_flags(at + 3 * PAGE, "dd dc nh wf"), "the same of a discarded page");
     must(window_free(window, WINDOW_TAKE_HOME), "window_free");
@@ -397,6 +398,88 @@ static void mappings(void) {
     check(counts_of(&fixture).mappings == 1 && mappings_in(at, MANY) <= 2, "discarded pages are one mapping");
     must(window_free(window, WINDOW_DROP), "window_free");
     fixture_free(&fixture);
+}
+
+/* Zeroes every other page of a window, or gives it up. */
+static void zero_every_other(struct window *window, size_t from, size_t pages, bool are_given_up) {
+    for (size_t page = from; page < pages; page += 2) {
+        if (are_given_up) must(window_discard(window, page, 1), "window_discard");
+        else memset(window->at + page * PAGE, 0, PAGE);
+    }
+}
+
+/*
+ * Those that are left to the monitor stay so, whatever a guest zeroes or gives up: without one a page keeps its zeros, or is cleared. What
+ * was given up is missing all the same once it is home, or is given back.
+ */
+static void mappings_left(bool are_given_up) {
+    enum { HALF = 1024, MANY = 2 * HALF, MOST = 512 };
+    const struct windows_config config = {.pins = WINDOWS_PINS_NEVER, .mappings_most = MOST};
+    struct fixture fixture = fixture_make(&config, MANY);
+    uint8_t *at = memory(MANY);
+    struct window *window = window_over(&fixture, at, MANY);
+    for (uint32_t page = 0; page < MANY; page++) memcpy(at + (size_t)page * PAGE, &(uint32_t){page % HALF + 1}, 4);
+    check(look_until(&fixture, MANY) == MANY, "all pages are lent, in runs");
+    zero_every_other(window, 0, MANY, are_given_up);
+    look_often(&fixture, 20);
+    struct windows_counts counts = counts_of(&fixture);
+    check(counts.mappings <= MOST && mappings_in(at, MANY) <= MOST, "zeros take no more mappings than there may be");
+    check(counts.pause == WINDOWS_CROWDED && counts.lent == HALF, "and no page of the others is lost for that");
+    zero_every_other(window, 1, HALF, true);
+    for (int i = 0; i < 2; i++) must(window_discard(window, 0, HALF - 8), "window_discard");
+    look_often(&fixture, 20);
+    check(is_missing(at + (HALF - 2) * PAGE) == are_given_up, "what is given back is missing if it was given up");
+    must(window_free(window, WINDOW_TAKE_HOME), "window_free");
+    bool are_right = true, are_missing = true;
+    for (uint32_t page = 0; page < MANY; page++) {
+        uint32_t wanted = page % 2 == 0 || page < HALF ? 0 : page % HALF + 1;
+        if (wanted == 0 && are_given_up) are_missing = are_missing && is_missing(at + (size_t)page * PAGE);
+        are_right = are_right && memcmp(at + (size_t)page * PAGE, &wanted, 4) == 0;
+    }
+    check(are_right, "each page reads as it should");
+    check(are_missing, "what was given up is missing when it is home");
+    fixture_free(&fixture);
+    munmap(at, MANY * PAGE);
+}
+
+/* Zeros that are put between memory of the window's own are joined with it, whether it is reserved or not: as many mappings are counted. */
+static void mappings_of_kinds(int flags) {
+    enum { MANY = 512 };
+    struct fixture fixture = fixture_make(&never_pinned, MANY);
+    uint8_t *at = mmap(NULL, MANY * PAGE, PROT_READ | PROT_WRITE, MAP_PRIVATE | MAP_ANONYMOUS | flags, -1, 0);
+    struct window *window = window_over(&fixture, at, MANY);
+    for (uint32_t page = 0; page < MANY; page++)
+        memcpy(at + (size_t)page * PAGE, &(uint32_t){page % 2 == 0 ? 1 : page + 1000}, 4);
+    check(look_until(&fixture, MANY / 2) == MANY / 2, "every other page is lent");
+    zero_every_other(window, 0, MANY, true);
+    check(mappings_in(at, MANY) <= counts_of(&fixture).mappings + 2, "zeros are joined with what is beside them");
+    must(window_free(window, WINDOW_TAKE_HOME), "window_free");
+    fixture_free(&fixture);
+    munmap(at, MANY * PAGE);
+}
+
+/*
+ * Zeros that are given back, from memory of their own or from copies over frames, have the kernel's page in their place: a monitor that
+ * watches for missing pages later, as for a postcopy, takes them for there. What it gave up is missing.
+ */
+static void zeros_are_there(bool never_move) {
+    const struct windows_config config = {.pins = WINDOWS_PINS_NEVER, .never_move = never_move};
+    struct fixture fixture = fixture_make(&config, PAGES);
+    uint8_t *at = memory(PAGES);
+    struct window *window = window_over(&fixture, at, PAGES);
+    fill(at, PAGES, PAGES / 4);
+    memset(at, 0, PAGES / 4 * PAGE);
+    look_until(&fixture, PAGES * 3 / 4);
+    memset(at + PAGES / 2 * PAGE, 0, PAGES / 4 * PAGE);
+    must(window_discard(window, 1, 1), "window_discard");
+    must(window_discard(window, PAGES - 1, 1), "window_discard");
+    for (int i = 0; i < 40 && counts_of(&fixture).zeros < PAGES / 2; i++) look(fixture.windows);
+    check(counts_of(&fixture).zeros == PAGES / 2 && counts_of(&fixture).lent == PAGES / 2 - 1, "zeros are given back");
+    must(window_free(window, WINDOW_TAKE_HOME), "window_free");
+    for (size_t page = 0; page < PAGES; page++)
+        check(is_missing(at + page * PAGE) == (page == 1 || page == PAGES - 1), "only what was given up is missing");
+    fixture_free(&fixture);
+    munmap(at, PAGES * PAGE);
 }
 
 /* None is left out where pages are given up one by one, and written, between others that are lent: each is a mapping by itself. */
@@ -834,8 +917,14 @@ int main(void) {
     huge(true);
     ends();
     mappings();
+    mappings_of_kinds(MAP_NORESERVE);
+    mappings_of_kinds(0);
+    mappings_left(true);
+    mappings_left(false);
     mappings_one_by_one();
     mappings_of_zeros();
+    zeros_are_there(false);
+    zeros_are_there(true);
     mappings_from_the_beginning();
     beliefs();
     places();

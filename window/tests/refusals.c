@@ -424,7 +424,8 @@ static void transfer_some(void) {
 }
 
 static void transfer(void) {
-    size_t place = windows_transfer_begin(run.windows, ADVISED_RANGE->at + 100, 20 * PAGE);
+    const struct iovec buffers[] = {{ADVISED_RANGE->at + 100, 12 * PAGE}, {ADVISED_RANGE->at + 12 * PAGE, 8 * PAGE}};
+    const struct windows_transfer place = windows_transfer_begin(run.windows, buffers, 2);
     look_once();
     guest_do(transfer_some);
     look_once();
@@ -544,10 +545,12 @@ static void keep_copies(void) {
     guest_do(write_lent);
     windows_set_pins(run.windows, WINDOWS_PINS_POSSIBLE);
     look_times(3);
-    bool is_done = came(window_cut(HUGE_RANGE->window, KEPT, 30, &kept), "window_cut");
+    bool is_done = came(window_leave(HUGE_RANGE->window, KEPT, 30, &kept), "window_leave");
     look_once();
     guest_do(check_bytes);
-    if (is_done) discard(HUGE_RANGE, KEPT, 30);
+    if (is_done) discard(HUGE_RANGE, KEPT, 15);
+    is_done = is_done && came(window_cut(HUGE_RANGE->window, KEPT, 30, NULL), "window_cut");
+    if (is_done) discard(HUGE_RANGE, KEPT + 15, 15);
     run.keeps_copies = calls_refused() > 0; /* (some may have been cleared where they are, over frames) */
     look_once();
     windows_set_pins(run.windows, WINDOWS_PINS_NEVER);

@@ -300,7 +300,9 @@ static void read_by_device(struct guest *guest, uint64_t *state) {
 static void transfer(struct guest *guest, uint64_t *state) {
     enum { TIMES = 4 };
     struct some some = choose_some(state, DIRECT_MOST);
-    size_t bytes = some.count * WINDOW_PAGE_BYTES, place = windows_transfer_begin(windows, address_in(guest, some.first), bytes);
+    size_t bytes = some.count * WINDOW_PAGE_BYTES;
+    const struct windows_transfer place =
+        windows_transfer_begin(windows, &(struct iovec){address_in(guest, some.first), bytes}, 1);
     pthread_rwlock_wrlock(&guest->lock);
     for (int i = 0; i < TIMES; i++)
         check(pread(direct, address_in(guest, some.first), bytes, 0) == (ssize_t)bytes, "a file is read by O_DIRECT");

@@ -14,18 +14,18 @@ const LEFT_TOGETHER: usize = 256;
 /// The number that stands for no frame.
 const NO_FRAME: u32 = u32::MAX;
 
-/// What a domain is made of.
+/// What a domain is made of. Of each number but frames the least is 1; a [`DomainError`](crate::DomainError) displays the greatest.
 #[derive(Clone, Copy, Debug, PartialEq, Eq, Hash)]
 pub struct DomainConfig {
-    /// How many machines there are, 1 to 64. A page's hash says which one it goes to, so equal pages meet.
+    /// How many machines there are. A page's hash says which one it goes to, so equal pages meet.
     pub machines: u32,
-    /// How many pages may be lent at a time, of each machine: 1 to 1,048,576.
+    /// How many pages may be lent at a time, of each machine.
     pub slots: u32,
-    /// How many frames each machine has, 2 to 1,048,576. One of them is spare: it is in use only within a call.
+    /// How many frames each machine has, at least 2. One of them is spare: it is in use only within a call.
     pub frames: u32,
-    /// How many clients may be in at a time: 1 to 65,536.
+    /// How many clients may be in at a time.
     pub clients: u32,
-    /// How many questions are remembered ([`Client::seen`]): 1 to 16,777,216.
+    /// How many questions are remembered ([`Client::seen`]).
     pub recent: u32,
     /// The hash by which equal pages are found.
     pub hash: HashKind,

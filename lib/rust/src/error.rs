@@ -2,15 +2,15 @@
 use std::error::Error;
 use std::fmt;
 
-/// Why no machine was made.
+/// Why no machine was made. What is displayed of it has the limit.
 #[derive(Clone, Copy, Debug, PartialEq, Eq, Hash)]
 #[non_exhaustive]
 pub enum MakeError {
-    /// No frame, or more than 1,048,576.
+    /// No frame, or too many.
     Frames,
-    /// No guest, or more than 64.
+    /// No guest, or too many.
     Guests,
-    /// A guest with no page, or more than 1,048,576 pages in total.
+    /// A guest with no page, or too many pages in total.
     Pages,
     /// The region has room for fewer frames.
     Region,
@@ -62,7 +62,7 @@ pub enum RequestError {
     NoGuest,
     /// 4,294,967,295 requests are counted: see [`Machine::restart_count`](crate::Machine::restart_count).
     Full,
-    /// A store or load of no byte, or of more than 64.
+    /// A store or load of no byte, or of more than [`MAX_ACCESS`](crate::MAX_ACCESS).
     Length,
     /// A store or load whose last byte would stand past the page's end.
     Crosses,
@@ -108,19 +108,19 @@ impl fmt::Display for NoSuchPage {
 
 impl Error for NoSuchPage {}
 
-/// Why no domain was made.
+/// Why no domain was made. What is displayed of it has the limit.
 #[derive(Clone, Copy, Debug, PartialEq, Eq, Hash)]
 #[non_exhaustive]
 pub enum DomainError {
-    /// No machine, or more than 64.
+    /// No machine, or too many.
     Machines,
-    /// No slot, or more than 1,048,576 for each machine.
+    /// No slot, or too many for each machine.
     Slots,
-    /// Fewer than 2 frames for each machine, or more than 1,048,576.
+    /// Fewer than 2 frames for each machine, or too many.
     Frames,
-    /// Room for no client, or for more than 65,536.
+    /// Room for no client, or for too many.
     Clients,
-    /// Room for no question, or for more than 16,777,216.
+    /// Room for no question, or for too many.
     Recent,
     /// The region has room for fewer frames.
     Region,

@@ -392,7 +392,7 @@ impl Machine {
         ProposeVerdict::of(self.noted(answer))
     }
 
-    /// Stores 1 to 64 bytes in a page, from place `at` on.
+    /// Stores 1 to [`MAX_ACCESS`] bytes in a page, from place `at` on.
     ///
     /// ```
     /// # fn main() -> Result<(), Box<dyn std::error::Error>> {
@@ -429,7 +429,7 @@ impl Machine {
         StoreVerdict::of(self.noted(answer))
     }
 
-    /// Fills the room, of 1 to 64 bytes, with bytes of a page from place `at` on. An unmapped page holds zeros.
+    /// Fills the room, of 1 to [`MAX_ACCESS`] bytes, with bytes of a page from place `at` on. An unmapped page holds zeros.
     ///
     /// It is a request, which is counted. [`Machine::read`] is none.
     ///

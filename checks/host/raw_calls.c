@@ -1,0 +1,505 @@
+/*
+ * A stand-in for a monitor, to be run under libpageshare-window.so, that makes calls of the system itself, past the C library; and one that
+ * has many descriptors, or guards memory before it offers it. Words: WAY, see `ways`; those that begin with "raw-" want PAGESHARE_FILTER=1.
+ * Prints what isn't so, and at last "WAY: good" (status 0) or "WAY: WRONG" (1); or "WAY: left out" (77).
+ */
+#define _GNU_SOURCE
+#include "breaker/ring.h"
+#include "offered.h"
+#include <errno.h>
+#include <fcntl.h>
+#include <linux/aio_abi.h>
+#include <linux/io_uring.h>
+#include <linux/userfaultfd.h>
+#include <linux/vfio.h>
+#include <pthread.h>
+#include <signal.h>
+#include <stdatomic.h>
+#include <sys/eventfd.h>
+#include <sys/ioctl.h>
+#include <sys/resource.h>
+#include <sys/syscall.h>
+#include <sys/time.h>
+#include <sys/uio.h>
+#include <sys/wait.h>
+#include <time.h>
+
+enum { PAGE = 4096, PAGES = 1024, SECONDS = 30, LEFT_OUT = 77, REQUESTS = 4 };
+
+static unsigned wrong;
+static bool is_left_out;
+
+static void check(bool is_so, const char *what) {
+    if (is_so) return;
+    printf("not so: %s (%s)\n", what, strerror(errno));
+    fflush(stdout);
+    wrong++;
+}
+
+static void left_out(const char *why) {
+    printf("left out: %s\n", why);
+    is_left_out = true;
+}
+
+/* ---- memory ---- */
+
+static void fill(uint8_t *at, size_t pages, unsigned first) {
+    for (size_t i = 0; i < pages; i++) memset(at + i * PAGE, (int)(first + i / 2 % 100), PAGE);
+}
+
+/* Pages from one on that aren't as `fill` has filled them. */
+static size_t differing(const uint8_t *at, size_t from, size_t pages, unsigned first) {
+    size_t count = 0;
+    for (size_t i = from; i < pages; i++) {
+        const uint8_t byte = (uint8_t)(first + i / 2 % 100);
+        size_t b = 0;
+        while (b < PAGE && at[i * PAGE + b] == byte) b++;
+        count += b < PAGE;
+    }
+    return count;
+}
+
+static uint8_t *mapped(size_t pages) {
+    uint8_t *at = mmap(NULL, pages * PAGE, PROT_READ | PROT_WRITE, MAP_PRIVATE | MAP_ANONYMOUS, -1, 0);
+    if (at == MAP_FAILED) perror("mmap"), exit(2);
+    return at;
+}
+
+static void offer(uint8_t *at, size_t pages) {
+    madvise(at, pages * PAGE, MADV_MERGEABLE);
+    madvise(at, pages * PAGE, MADV_DONTFORK);
+}
+
+static uint8_t *lent(size_t pages) {
+    uint8_t *at = mapped(pages);
+    fill(at, pages, 1);
+    offer(at, pages);
+    check(wait_for_count("lent", (long)pages, SECONDS), "all pages are lent");
+    return at;
+}
+
+static double now(void) {
+    struct timespec t;
+    clock_gettime(CLOCK_MONOTONIC, &t);
+    return (double)t.tv_sec + (double)t.tv_nsec / 1e9;
+}
+
+/* ---- what the library says ---- */
+
+static int said_at = -1; /* a file in the place of standard error */
+
+static void begin_hearing(void) {
+    said_at = memfd_create("said", MFD_CLOEXEC);
+    if (said_at < 0 || dup2(said_at, STDERR_FILENO) < 0) exit(2);
+}
+
+/* Whether it has said that by now. */
+static bool has_said(const char *words) {
+    static char text[65536];
+    ssize_t got = pread(said_at, text, sizeof text - 1, 0);
+    text[got > 0 ? got : 0] = 0;
+    return strstr(text, words) != NULL;
+}
+
+static const char pinned[] = "devices may have pinned pages", over[] = "lending ends for good";
+
+/* A file by O_DIRECT, which the process has from the beginning. */
+static int open_direct(void) {
+    char name[] = "/var/tmp/raw-callsXXXXXX";
+    static uint8_t data[PAGE];
+    int made = mkstemp(name), file = open(name, O_RDONLY | O_DIRECT | O_CLOEXEC);
+    unlink(name);
+    if (made < 0 || file < 0 || write(made, data, PAGE) != PAGE) exit(2);
+    close(made);
+    return file;
+}
+
+/* ---- calls that are shown before they are made ---- */
+
+static void raw_submit(void) {
+    aio_context_t context = 0;
+    open_direct();
+    begin_hearing();
+    lent(PAGES);
+    check(!has_said(pinned), "nothing is said before");
+    check(syscall(SYS_io_setup, REQUESTS, &context) == 0, "io_setup");
+    check(has_said(pinned), "once io_setup returns, pages may be pinned");
+}
+
+/* Sets the last member, which older headers call otherwise: where the process's memory for it is. */
+static void set_place(void *offsets, size_t bytes, const uint8_t *room) {
+    const uint64_t place = (uintptr_t)room;
+    memcpy((uint8_t *)offsets + bytes - sizeof place, &place, sizeof place);
+}
+
+/* (nothing shows this ring: it has no descriptor) */
+static void raw_ring(void) {
+    struct io_uring_params params = {.flags = 1u << 14 | 1u << 15}; /* NO_MMAP, REGISTERED_FD_ONLY */
+    uint8_t *room = mapped(64);
+    memset(room, 0, 64 * PAGE);
+    set_place(&params.sq_off, sizeof params.sq_off, room);
+    set_place(&params.cq_off, sizeof params.cq_off, room + 32 * PAGE);
+    open_direct();
+    begin_hearing();
+    lent(PAGES);
+    check(!has_said(pinned), "nothing is said before");
+    long made = syscall(SYS_io_uring_setup, REQUESTS, &params);
+    if (made < 0) return left_out("the system has no such io_uring");
+    check(has_said(pinned), "once io_uring_setup returns, pages may be pinned");
+}
+
+static void raw_registered(unsigned what) {
+    struct ring ring;
+    uint8_t *buffer = mapped(1);
+    const struct iovec its = {buffer, PAGE};
+    int file = open("/dev/null", O_RDONLY);
+    begin_hearing();
+    lent(PAGES);
+    if (!ring_make(&ring)) return left_out("the system has no io_uring");
+    check(!has_said(pinned), "nothing is said of a ring alone");
+    const void *with = what == IORING_REGISTER_FILES ? (const void *)&file : &its;
+    check(syscall(SYS_io_uring_register, ring.fd, what, with, 1) == 0, "io_uring_register");
+    check(has_said(pinned), "once it is registered, pages may be pinned");
+}
+static void raw_buffers(void) { raw_registered(IORING_REGISTER_BUFFERS); }
+static void raw_files(void) { raw_registered(IORING_REGISTER_FILES); }
+
+static void raw_map(void) {
+    struct vfio_iommu_type1_dma_map map = {.argsz = sizeof map};
+    int file = open("/dev/null", O_RDONLY);
+    begin_hearing();
+    uint8_t *at = lent(PAGES);
+    check(!has_said(over), "nothing is said before");
+    check(syscall(SYS_ioctl, file, VFIO_IOMMU_MAP_DMA, &map) == -1 && errno == ENOTTY, "the system has the last word");
+    check(has_said(over), "once memory is mapped for a device, nothing is lent");
+    check(differing(at, 0, PAGES, 1) == 0, "pages keep their content");
+}
+
+static int open_faults(uint64_t features) {
+    struct uffdio_api api = {.api = UFFD_API, .features = features};
+    int made = (int)syscall(SYS_userfaultfd, O_CLOEXEC | O_NONBLOCK | UFFD_USER_MODE_ONLY);
+    return made >= 0 && ioctl(made, UFFDIO_API, &api) == 0 ? made : -1;
+}
+
+static void raw_guard(void) {
+    int faults = open_faults(UFFD_FEATURE_PAGEFAULT_FLAG_WP);
+    if (faults < 0) return left_out("no userfaultfd of its own");
+    begin_hearing();
+    uint8_t *at = lent(PAGES);
+    struct uffdio_register asked = {.range = {(uintptr_t)at, PAGES * PAGE}, .mode = UFFDIO_REGISTER_MODE_WP};
+    check(syscall(SYS_ioctl, faults, UFFDIO_REGISTER, &asked) == 0, "UFFDIO_REGISTER");
+    check(has_said(over), "once memory is guarded, nothing is lent");
+    check(differing(at, 0, PAGES, 1) == 0, "pages keep their content");
+    check(mprotect(at, PAGE, PROT_READ) == 0 && munmap(at, PAGES * PAGE) == 0, "mprotect and munmap");
+}
+
+static void raw_advice(void) {
+    uint8_t *at = lent(PAGES);
+    const struct iovec all[] = {{at, 64 * PAGE}, {at + 128 * PAGE, 64 * PAGE}};
+    int self = (int)syscall(SYS_pidfd_open, getpid(), 0);
+    long done = syscall(SYS_process_madvise, self, all, 2, MADV_DONTNEED, 0);
+    check(done == 128 * PAGE, "process_madvise");
+    size_t others = 0;
+    for (size_t i = 0; i < 64 * PAGE; i++) others += at[i] != 0 || at[128 * PAGE + i] != 0;
+    check(others == 0, "what is discarded is zeros");
+    check(syscall(SYS_process_madvise, self, (void *)8, 1, MADV_DONTNEED, 0) == -1 && errno == EFAULT,
+          "an array that isn't there");
+    uint8_t *own = mapped(1);
+    const struct iovec one = {own, PAGE};
+    own[0] = 1;
+    check(syscall(SYS_process_madvise, self, &one, 1, MADV_COLD, 0) == PAGE && own[0] == 1, "advice on other memory");
+}
+
+/* ---- forks, signals and threads ---- */
+
+static bool can_set_up(void) {
+    aio_context_t context = 0;
+    return syscall(SYS_io_setup, REQUESTS, &context) == 0 && syscall(SYS_io_destroy, context) == 0;
+}
+
+static const char sets_up[] = "sets-up";
+
+static bool can_other_program(void) {
+    int status = 1;
+    pid_t child = fork();
+    if (child == 0) _exit(execl("/proc/self/exe", "raw_calls", sets_up, NULL));
+    return waitpid(child, &status, 0) == child && status == 0;
+}
+
+/* A child's calls are answered while its parent lives, and afterwards: a process that shares forks one and ends. */
+static void raw_child(void) {
+    int ends[2], status = 0;
+    char byte = 0;
+    if (pipe(ends) != 0) exit(2);
+    pid_t sharing = fork();
+    if (sharing == 0) {
+        lent(PAGES);
+        check(can_other_program(), "another program's call");
+        if (fork() != 0) _exit(wrong > 0);
+        bool early = can_set_up();
+        for (int i = 0; i < 100 && getppid() != 1; i++) usleep(20000); /* (or whoever adopts it) */
+        usleep(200000);
+        _exit(early && can_set_up() && write(ends[1], "x", 1) == 1 ? 0 : 1);
+    }
+    close(ends[1]);
+    check(waitpid(sharing, &status, 0) == sharing && status == 0, "the process that shares");
+    check(read(ends[0], &byte, 1) == 1 && byte == 'x', "a child that outlives it");
+}
+
+static void nothing(int number) { (void)number; }
+
+/* A signal's handler comes amid the wait, many times: the call is made. (Before the listener has taken it, it is made again by SA_RESTART.) */
+static void raw_signals(void) {
+    const struct itimerval each = {{0, 200}, {0, 200}};
+    const struct sigaction action = {.sa_handler = nothing, .sa_flags = SA_RESTART};
+    unsigned failed = 0;
+    lent(PAGES);
+    sigaction(SIGALRM, &action, NULL);
+    setitimer(ITIMER_REAL, &each, NULL);
+    for (unsigned i = 0; i < 500; i++) failed += !can_set_up();
+    check(failed == 0, "io_setup beside signals");
+}
+
+static atomic_bool is_over;
+static atomic_uint made, failed;
+
+static void *makes(void *unused) {
+    while (!atomic_load(&is_over)) {
+        struct io_uring_params params = {0};
+        int ring = (int)syscall(SYS_io_uring_setup, REQUESTS, &params);
+        if (ring >= 0) close(ring);
+        atomic_fetch_add(&failed, !can_set_up());
+        atomic_fetch_add(&made, 1);
+        usleep(500);
+    }
+    return unused;
+}
+
+static void *discards(void *with) {
+    uint8_t *at = with;
+    for (unsigned i = 0; !atomic_load(&is_over); i++) {
+        uint8_t *page = at + i * 37 % (PAGES / 2) * PAGE;
+        memset(page, (int)(i % 251), PAGE);
+        if (madvise(page, PAGE, MADV_DONTNEED) != 0 || page[17] != 0) atomic_fetch_add(&failed, 1);
+    }
+    return NULL;
+}
+
+/* Threads that make such calls beside ones that are in the library, and beside forks. */
+static void raw_threads(void) {
+    enum { THREADS = 6 };
+    pthread_t threads[THREADS];
+    uint8_t *at = lent(PAGES);
+    for (size_t i = 0; i < THREADS; i++) pthread_create(&threads[i], NULL, i < THREADS - 2 ? makes : discards, at);
+    for (unsigned i = 0; i < 40; i++) {
+        int status = 1;
+        pid_t child = fork();
+        if (child == 0) _exit(can_set_up() ? 0 : 1);
+        check(waitpid(child, &status, 0) == child && status == 0, "a child's call");
+        usleep(50000);
+    }
+    atomic_store(&is_over, true);
+    for (size_t i = 0; i < THREADS; i++) pthread_join(threads[i], NULL);
+    printf("  %u rounds\n", atomic_load(&made));
+    check(atomic_load(&failed) == 0 && atomic_load(&made) > 0, "all calls are made");
+    check(differing(at, PAGES / 2, PAGES, 1) == 0, "pages that nobody writes keep their content");
+}
+
+/* What a call takes, in nanoseconds: the least of some turns. */
+static double cost_of(long number, long first, long second, long third, unsigned times) {
+    double least = 1e9;
+    for (unsigned turn = 0; turn < 20; turn++) {
+        double begin = now();
+        for (unsigned i = 0; i < times; i++) syscall(number, first, second, third);
+        double took = (now() - begin) / times * 1e9;
+        least = took < least ? took : least;
+    }
+    return least;
+}
+
+static void costs(const char *when) {
+    struct io_uring_params bad = {.flags = ~0u};
+    int file = open("/dev/null", O_RDONLY);
+    printf("  %s: getppid %.0f ns, ioctl %.0f ns, io_uring_setup that the system refuses %.0f ns\n", when,
+           cost_of(SYS_getppid, 0, 0, 0, 20000), cost_of(SYS_ioctl, file, 0x5401, 0, 20000),
+           cost_of(SYS_io_uring_setup, 1, (long)&bad, 0, 200));
+    close(file);
+}
+
+static void raw_costs(void) {
+    costs("before");
+    lent(PAGES);
+    costs("while it shares");
+}
+
+/* A device is there before any window, as with a disk on QEMU's command line: it is said all the same. */
+static void said_early(void) {
+    aio_context_t context = 0;
+    begin_hearing();
+    uint8_t *at = mapped(PAGES);
+    fill(at, PAGES, 1);
+    offer(at, PAGES);
+    if (syscall(SYS_io_setup, REQUESTS, &context) != 0) return left_out("the system has no io_setup");
+    open_direct();
+    check(wait_for_count("lent", PAGES, SECONDS), "all pages are lent");
+    check(has_said(pinned), "it is said that pages may be pinned");
+}
+
+/* It shares until it is told to end. */
+static void stays(void) {
+    lent(PAGES);
+    printf("lent\n");
+    fflush(stdout);
+    getchar();
+}
+
+/* ---- many descriptors, and memory that is guarded first ---- */
+
+static void open_many(size_t count, bool are_files) {
+    struct rlimit limit;
+    getrlimit(RLIMIT_NOFILE, &limit);
+    limit.rlim_cur = limit.rlim_max < count + 200 ? limit.rlim_max : count + 200;
+    if (setrlimit(RLIMIT_NOFILE, &limit) != 0 || limit.rlim_cur < count + 200) exit(LEFT_OUT);
+    for (size_t i = 0; i < count; i++)
+        if ((are_files ? open("/etc/passwd", O_RDONLY | O_CLOEXEC) : eventfd(0, EFD_CLOEXEC)) < 0) perror("open"), exit(2);
+}
+
+/* To look at all descriptors takes longer than the thread's share allows: looks go on, and it is said. */
+static void descriptors(void) {
+    open_many(12000, false);
+    begin_hearing();
+    double begin = now();
+    lent(PAGES);
+    printf("  all pages are lent after %.1f s\n", now() - begin);
+    check(has_said("a look at all descriptors takes"), "it is said");
+}
+
+/* Pages are written while there is an io_uring, and lent again: what is registered with it is asked each time. */
+static void ringed(void) {
+    struct ring ring;
+    open_many(900, true);
+    if (!ring_make(&ring)) return left_out("the system has no io_uring");
+    uint8_t *at = lent(4 * PAGES);
+    double begin = now();
+    fill(at, 4 * PAGES, 101);
+    usleep(400000);
+    check(wait_for_count("lent", 4 * PAGES, SECONDS / 2), "what was written is lent again");
+    printf("  lent again after %.1f s; nothing was held longer than %.2f ms\n", now() - begin,
+           (double)library_count("hold_most_ns") / 1e6);
+}
+
+static int monitors_faults;
+static const size_t GUARDED = 2 * PAGES;
+
+static void *serves(void *with) {
+    static uint8_t page[PAGE] __attribute__((aligned(PAGE)));
+    uint8_t *at = with;
+    for (;;) {
+        struct uffd_msg message;
+        if (read(monitors_faults, &message, sizeof message) != (ssize_t)sizeof message) {
+            usleep(1000);
+            continue;
+        }
+        uint64_t from = message.arg.pagefault.address & ~(uint64_t)(PAGE - 1);
+        struct uffdio_writeprotect protect = {.range = {from, PAGE}};
+        if (message.arg.pagefault.flags & UFFD_PAGEFAULT_FLAG_WP) {
+            ioctl(monitors_faults, UFFDIO_WRITEPROTECT, &protect);
+            continue;
+        }
+        memset(page, (int)(1 + (from - (uintptr_t)at) / PAGE / 2 % 100), PAGE);
+        struct uffdio_copy copy = {.dst = from, .src = (uintptr_t)page, .len = PAGE};
+        ioctl(monitors_faults, UFFDIO_COPY, &copy);
+    }
+    return NULL;
+}
+
+/* The monitor guards memory, and offers it then: it goes on as without the library. */
+static void guarded_first(uint64_t mode) {
+    pthread_t thread;
+    monitors_faults = open_faults(mode == UFFDIO_REGISTER_MODE_WP ? UFFD_FEATURE_PAGEFAULT_FLAG_WP : 0);
+    if (monitors_faults < 0) return left_out("no userfaultfd of its own");
+    uint8_t *at = mapped(GUARDED), *lent_at = mapped(PAGES);
+    if (mode == UFFDIO_REGISTER_MODE_WP) fill(at, GUARDED, 1);
+    struct uffdio_register asked = {.range = {(uintptr_t)at, GUARDED * PAGE}, .mode = mode};
+    if (ioctl(monitors_faults, UFFDIO_REGISTER, &asked) != 0) exit(2);
+    pthread_create(&thread, NULL, serves, at);
+    fill(lent_at, PAGES, 1);
+    offer(at, GUARDED);
+    offer(lent_at, PAGES);
+    for (size_t i = 0; i < GUARDED / 2; i++) (void)*(volatile uint8_t *)(at + i * PAGE);
+    check(wait_for_count("lent", PAGES, SECONDS), "other memory is lent");
+    sleep(3);
+    check(library_count("lent") == PAGES, "nothing is lent of what the monitor guards");
+    check(madvise(at + 9 * PAGE, PAGE, MADV_DONTNEED) == 0, "MADV_DONTNEED of a page");
+    check(mprotect(at + 11 * PAGE, PAGE, PROT_READ | PROT_WRITE) == 0, "mprotect of a page");
+    check(differing(at, GUARDED / 2, GUARDED, 1) == 0, "pages that the monitor fills");
+    check(munmap(at + 100 * PAGE, 50 * PAGE) == 0, "munmap of a part");
+}
+static void missing_first(void) { guarded_first(UFFDIO_REGISTER_MODE_MISSING); }
+static void protected_first(void) { guarded_first(UFFDIO_REGISTER_MODE_WP); }
+
+/* A request past the C library, where no filter shows it: the library finds that another one guards the memory, and leaves that alone. */
+static void guarded_later(void) {
+    int faults = open_faults(UFFD_FEATURE_PAGEFAULT_FLAG_WP);
+    if (faults < 0) return left_out("no userfaultfd of its own");
+    uint8_t *at = mapped(PAGES), *lent_at = mapped(PAGES);
+    for (size_t i = 0; i < PAGES; i++) *(size_t *)(void *)(at + i * PAGE) = i + 1; /* (nothing to lend yet) */
+    offer(at, PAGES);
+    fill(lent_at, PAGES, 1);
+    offer(lent_at, PAGES);
+    check(wait_for_count("lent", PAGES, SECONDS), "other memory is lent");
+    struct uffdio_register asked = {.range = {(uintptr_t)at, PAGES * PAGE}, .mode = UFFDIO_REGISTER_MODE_WP};
+    check(syscall(SYS_ioctl, faults, UFFDIO_REGISTER, &asked) == 0, "UFFDIO_REGISTER");
+    fill(at, PAGES, 1); /* (equal to what is lent) */
+    sleep(3);
+    check(differing(at, 0, PAGES, 1) == 0, "pages keep their content");
+    struct uffdio_writeprotect protect = {.range = {(uintptr_t)at, PAGE}, .mode = UFFDIO_WRITEPROTECT_MODE_WP};
+    check(ioctl(faults, UFFDIO_WRITEPROTECT, &protect) == 0, "the monitor's own watch is there");
+    protect.mode = 0;
+    check(ioctl(faults, UFFDIO_WRITEPROTECT, &protect) == 0 && madvise(at + 9 * PAGE, PAGE, MADV_DONTNEED) == 0, "MADV_DONTNEED");
+    check(mprotect(at + 11 * PAGE, PAGE, PROT_READ | PROT_WRITE) == 0, "mprotect");
+}
+
+static const struct way {
+    const char *name;
+    void (*run)(void);
+} ways[] = {
+    {"raw-submit", raw_submit},
+    {"raw-ring", raw_ring},
+    {"raw-buffers", raw_buffers},
+    {"raw-files", raw_files},
+    {"raw-map", raw_map},
+    {"raw-guard", raw_guard},
+    {"raw-advice", raw_advice},
+    {"raw-child", raw_child},
+    {"raw-signals", raw_signals},
+    {"raw-threads", raw_threads},
+    {"raw-costs", raw_costs},
+    {"stays", stays},
+    {"said-early", said_early},
+    {"descriptors", descriptors},
+    {"ringed", ringed},
+    {"missing-first", missing_first},
+    {"protected-first", protected_first},
+    {"guarded-later", guarded_later},
+};
+
+int main(int count, char **words) {
+    const char *name = count > 1 ? words[1] : "";
+    bool is_known = false;
+    if (strcmp(name, sets_up) == 0) return can_set_up() ? 0 : 1;
+    library_count("lent"); /* (so that memory for it is there) */
+    for (size_t i = 0; i < sizeof ways / sizeof ways[0]; i++) {
+        if (strcmp(name, ways[i].name) != 0) continue;
+        is_known = true;
+        ways[i].run();
+    }
+    if (!is_known) return fputs("raw_calls: no such way\n", stderr), 2;
+    if (said_at >= 0) {
+        char text[4096] = "";
+        ssize_t got = pread(said_at, text, sizeof text - 1, 0);
+        printf("%.*s", (int)(got > 0 ? got : 0), text);
+    }
+    printf("%s: %s\n", name, wrong > 0 ? "WRONG" : is_left_out ? "left out" : "good");
+    return wrong > 0 ? 1 : is_left_out ? LEFT_OUT : 0;
+}
