@@ -19,15 +19,17 @@ import sys
 from typing import Any
 
 import checks_path  # noqa: F401
-import edits
+from common.edit_files import Function, functions_of, homes_of
+from common.edit_trial import Trial
 from common.kit import load_kit
+from common.refusals import edits_of
 
 PUBLIC = re.compile(r'\s*pub (?:const )?(?:unsafe )?(?:extern "C" )?fn ')
 CALL = re.compile(r"\b(\w+)(?:::<[^>]*>)?\s*\(|[(,]\s*(?:\w+::)*(\w+)\s*(?=[,)])")
 # (a function with clauses has its brace on a line of its own)
 BRACES = [re.compile(r"\n\s*\{"), re.compile(r"\{")]
 # By function: its head and its body.
-Functions = dict[Any, tuple[str, str]]
+Functions = dict[Function, tuple[str, str]]
 
 
 def split(text: str) -> tuple[str, str]:
@@ -36,35 +38,33 @@ def split(text: str) -> tuple[str, str]:
     return (text[: found.start()], text[found.end() :]) if found else (text, "")
 
 
-def functions_of(crate: Any) -> Functions:
+def all_functions(crate: Any) -> Functions:
     """The functions of a crate."""
-    homes: Any = edits.homes_of(crate)  # type: ignore[no-untyped-call]
-    found = {}
+    homes, found = homes_of(crate), {}
     for file in sorted(pathlib.Path(crate.folder, "src").rglob("*.rt")):
         text = file.read_text(encoding="utf-8")
-        placed: Any = edits.functions_of(str(file.relative_to(crate.folder)), text, homes)  # type: ignore[no-untyped-call]
+        placed = functions_of(str(file.relative_to(crate.folder)), text, homes)
         found.update({function: split(text[first:last]) for function, first, last in placed})
     return found
 
 
-def path_of(function: Any) -> tuple[str, ...]:
+def path_of(function: Function) -> tuple[str, ...]:
     """A function's path in its crate. A line 'refused:' names a method by it."""
     return (*function.module, *filter(None, [function.owner]), function.name)
 
 
-def edited_in(kit: Any, crate: Any) -> set[Any]:
+def edited_in(kit: Any, crate: Any) -> set[Function]:
     """The functions that the edits of a crate change or name."""
-    if not os.path.isdir(f"{crate.folder}/edits"):
-        return set()
-    trial: Any = edits.Trial(kit, crate, edits.Nothing())  # type: ignore[no-untyped-call]
-    return {function for edit in [*trial.waiting, *trial.alone] for function in edit.functions}
+    trial = Trial(kit, crate)
+    trial.read(edits_of(crate))
+    return {function for edit in trial.edits for function in edit.functions if function}
 
 
-def with_callers(functions: Functions, edited: set[Any]) -> set[Any]:
+def with_callers(functions: Functions, edited: set[Function]) -> set[Function]:
     """Those of the functions that are edited, and those that call one of them."""
     names = {it.name for it in functions}
     calls = {it: {name for words in CALL.findall(body) for name in words} & names for it, (_head, body) in functions.items()}
-    found: set[Any] = set()
+    found: set[Function] = set()
     more = {it for it in functions if it in edited}
     while more:
         found |= more
@@ -81,10 +81,10 @@ def main() -> int:
     for crate in kit.rtlib.crates_below(os.getcwd()):
         if crate.name.startswith("worked_") or names and crate.name not in names:
             continue
-        functions = functions_of(crate)
+        functions = all_functions(crate)
         public = [it for it, (head, _body) in functions.items() if PUBLIC.match(head) and "ensures" in head]
         known = {path_of(it): it for it in functions}
-        have = with_callers(functions, {known.get(path_of(it), it) for it in edited_in(kit, crate) if it}) & {*public}
+        have = with_callers(functions, {known.get(path_of(it), it) for it in edited_in(kit, crate)}) & {*public}
         sums = [sums[0] + len(public), sums[1] + len(have)]
         print(f"{crate.name}: {len(public)} public functions with a contract, {len(have)} with an edit")
         for it in public:
