@@ -49,6 +49,7 @@ def of_estimates(subject: Subject, folder: pathlib.Path) -> None:
     """`estimate` of images and processes."""
     estimate.numbers(subject, folder)
     estimate.tables(subject)
+    estimate.worked(subject, folder)
     estimate.broken_images(subject, folder)
     estimate.pictures(subject, folder)
     estimate.amounts(subject, folder)
@@ -73,6 +74,8 @@ def of_digests(subject: Subject, folder: pathlib.Path) -> None:
 def of_fleets(subject: Subject, folder: pathlib.Path) -> None:
     """`fleet` of digests."""
     fleet.tables(subject, folder)
+    fleet.worked(subject, folder)
+    fleet.texts_at_fault(subject, folder)
     fleet.numbers(subject, folder)
     fleet.pairs(subject, folder)
     fleet.many_pairs(subject, folder)

@@ -4,16 +4,19 @@
     checks/traces.py [PROGRAM]
 
 PROGRAM is by default out/window_trace. Each trace must get its line and its status: right traces of each event, traces in which one
-line isn't possible or says something else of a page, and texts that aren't traces, each refused at its line. The last line is
-`N passed, M failed`, with status 0 where all passed, else 1.
+line isn't possible or says something else of a page, and texts that aren't traces, each refused at its line. And traces of events as chance
+has it, of which plain rules (common/plain_windows.py) say what is possible, and what each page shows. The last line is `N passed, M failed`,
+with status 0 where all passed, else 1.
 """
 from __future__ import annotations
 
 import argparse
 import pathlib
+import random
 import sys
 from collections.abc import Iterable, Iterator
 
+from common.plain_windows import Event, Windows
 from harness import OUT, Tally, run
 
 HEAD = ["pageshare trace 1", "pages 3 frames 4"]
@@ -22,6 +25,8 @@ LENT = ["write 0 7", "guard 0", "copy 0", "lend 0 1", "map 0"]
 # Page 1 has the same content, and comes to show the same frame.
 JOINED = [*LENT, "write 1 7", "guard 1", "copy 1", "lend 1 1", "map 1"]
 MOST = 2**64 - 1
+# Traces by chance, and how many events each has at most.
+CHANCES, EVENTS = 200, 120
 
 # What is played after the head, and how many events and looks it has.
 RIGHT: dict[str, tuple[list[str], int, int]] = {
@@ -113,6 +118,35 @@ def cases() -> Iterator[tuple[str, str, str, int]]:
         yield name, text, f"fault {fault}", 2
 
 
+def some_event(chance: random.Random) -> Event:
+    """An event of three pages and four frames. Those that lead to a frame come in a row more often than else."""
+    page, frame, content = chance.randrange(3), chance.randrange(4), chance.randrange(3)
+    events: list[Event] = [
+        ("write", page, content), ("write", page, content), ("guard", page), ("guard", page), ("unguard", page), ("copy", page), ("copy", page),
+        ("lend", page, frame), ("lend", page, frame), ("map", page), ("map", page), ("release", page), ("trim", frame, content),
+        ("discard", page),
+    ]
+    return chance.choice(events)
+
+
+def by_chance(chance: random.Random) -> tuple[str, str, int]:
+    """A trace of events of which all but the last are possible, and what the pages show after each; with its line and its status."""
+    windows, lines, events, looks = Windows([0] * 3, [0] * 4), list[str](), 0, 0
+    length = chance.randrange(1, EVENTS)
+    while events < length:
+        event = some_event(chance)
+        if windows.apply(event):
+            lines.append(" ".join(map(str, event)))
+            events += 1
+            page = chance.randrange(3)
+            lines.append(f"shows {page} {windows.shown(page)}")
+            looks += 1
+        elif chance.random() < 0.01:
+            lines.append(" ".join(map(str, event)))
+            return text_of([*lines, "copy 9"]), f"line {len(HEAD) + len(lines)}: not possible", 1
+    return text_of(lines), f"{events} events, each possible; {looks} pages shown right", 0
+
+
 def main() -> int:
     options = argparse.ArgumentParser(description=__doc__.splitlines()[0])
     options.add_argument("program", metavar="PROGRAM", nargs="?", default=str(OUT / "window_trace"))
@@ -122,6 +156,10 @@ def main() -> int:
         return tally.close()
     for name, text, line, status in cases():
         tally.ends(name, run([program], text), status, f"{line}\n")
+    chance = random.Random(7)
+    for number in range(CHANCES):
+        text, line, status = by_chance(chance)
+        tally.ends(f"chance {number}", run([program], text), status, f"{line}\n")
     tally.ends("a file that isn't there", run([program, "/nowhere/to/be/read"]), 2, "fault read\n", None)
     return tally.close()
 

@@ -3,7 +3,7 @@ from __future__ import annotations
 
 import pathlib
 
-from command_cases.images import IMAGE_FAULTS, PAGE, core, distinct, image, sparse
+from command_cases.images import CORES, IMAGE_FAULTS, PAGE, core, core_of, distinct, image, pages_at, sparse
 from command_cases.subject import IS_A_FOLDER, LEAST, MISSING, NO_ROOM, ROWS, Subject, read
 from common.plain_fleet import HEADER, ZEROS, digest, text_of_pages
 from common.plain_images import pages_of_bytes
@@ -40,11 +40,21 @@ def large(subject: Subject, folder: pathlib.Path) -> None:
 
 
 def cores(subject: Subject, folder: pathlib.Path) -> None:
-    """A core whose segment begins and ends within a page, and the same read as raw."""
+    """Cores whose segments begin and end within a page, the same read as raw, and raw images of which the last page is cut."""
     elf = folder / "elf.core"
     elf.write_bytes(core(segment=(4000, 4192)))
     subject.writes("digest of a core", ["digest", str(elf)], digest_of("elf.core", elf.read_bytes()[4000:]))
     subject.writes("digest of a core as raw", ["digest", "--raw", str(elf)], digest_of("elf.core", elf.read_bytes()))
+    for n, (data, places) in enumerate(CORES):
+        elf.write_bytes(data)
+        subject.writes(f"digest of core {n}", ["digest", str(elf)], text_of_pages("elf.core", 0, 1, pages_at(data, places)))
+    # Raw images, each also asked for as raw.
+    for size in (0, 1, 3, PAGE - 1, PAGE, PAGE + 1, 3 * PAGE):
+        data = core_of(PAGE * 4, [])[64 : 64 + size]
+        elf.write_bytes(data)
+        places = [(at, min(PAGE, size - at)) for at in range(0, size, PAGE)]
+        for words in (["digest"], ["digest", "--raw"]):
+            subject.writes(f"{words} of {size} bytes", [*words, str(elf)], text_of_pages("elf.core", 0, 1, pages_at(data, places)))
 
 
 def bad_inputs(subject: Subject, folder: pathlib.Path) -> None:

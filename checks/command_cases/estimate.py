@@ -21,6 +21,16 @@ WRONG_WORDS: list[list[str]] = [
 ]
 
 
+# Twenty pages of four guests, by the last byte of each; 0: zeros. And what `estimate` counts of them, worked out by hand. Zeros make two contents
+# of three copies each, one of them in two guests. No content has two copies.
+FOUR_GUESTS: list[tuple[str, list[int]]] = [("5", [0, 0, 1, 1, 1, 2, 2]), ("5", [0, 2, 2, 3, 3, 3, 3, 3, 4]), ("6", [0, 0, 0, 1]), ("8", [])]
+FOUR_GUESTS_TOTAL = {
+    "pages": 20, "zero": 6, "shared": 18, "frames": 7, "reclaimed": 13, "zero_reclaimed": 4, "between": 2,
+    "parts": {"zeros": 4, "between": 1, "within": 8},
+}
+FOUR_GUESTS_COPIES = [(1, 1, 2, 2), (3, 4, 4, 13), (5, 8, 1, 5)]
+
+
 def three_images(folder: pathlib.Path) -> Iterator[str]:
     """A raw image of three pages and a byte, an empty one, and a core of two pages, of which one is cut."""
     raw, empty, elf = folder / "a.raw", folder / "empty", folder / "elf.core"
@@ -47,6 +57,43 @@ def tables(subject: Subject) -> None:
     in_pages = [*SALTED, "--unit", "pages"]
     subject.writes("estimate of images.estimate-pages", in_pages, read("images.estimate-pages"), cwd=ROWS)
     subject.writes("estimate of images.estimate", SALTED, read("images.estimate"), cwd=ROWS)
+
+
+def worked(subject: Subject, folder: pathlib.Path) -> None:
+    """The numbers of FOUR_GUESTS, of the same 200 pages under two salts by one to five workers, and of no page."""
+    paths = [str(folder / f"worked-{n}.raw") for n in range(len(FOUR_GUESTS))]
+    for path, (_, lasts) in zip(paths, FOUR_GUESTS):
+        pathlib.Path(path).write_bytes(b"".join(bytes(PAGE - 1) + bytes([last]) for last in lasts))
+    salts = ",".join(salt for salt, _ in FOUR_GUESTS)
+    found = json.loads(subject.run(["estimate", "--json", "--salts", salts, *paths]).stdout)
+    subject.tally.equal("estimate of four guests", found["total"], FOUR_GUESTS_TOTAL)
+    copies = [tuple(row[name] for name in ("from", "to", "contents", "pages")) for row in found["copies"]]
+    subject.tally.equal("estimate of four guests, copies", copies, FOUR_GUESTS_COPIES)
+    same = folder / "same.raw"
+    same.write_bytes(b"".join(bytes([1]) + bytes([n % 50]) * (PAGE - 1) for n in range(200)))
+    for workers in range(1, 6):
+        words = ["estimate", "--json", "--workers", str(workers), "--salts", "7,9", str(same), str(same)]
+        found = json.loads(subject.run(words).stdout)
+        guests = [[guest[name] for name in ("pages", "zero", "distinct", "shared", "alone")] for guest in found["guests"]]
+        counts = (guests, found["total"]["frames"], [tuple(row.values()) for row in found["copies"]])
+        subject.tally.equal(f"estimate by {workers} workers", counts, ([[200, 0, 50, 200, 150]] * 2, 100, [(3, 4, 100, 400)]))
+    # (the name has a quotation mark, a backslash and a line feed)
+    name = 'a"\\\n\u65e5'
+    (folder / name).write_bytes(b"")
+    zeros = '"pages":0,"zero":0,'
+    due = (
+        f'{{"page_bytes":4096,"guests":[{{"image":"a\\"\\\\\\n\u65e5","salt":4294967295,{zeros}"distinct":0,"shared":0,"alone":0}}],"total":{{{zeros}'
+        '"shared":0,"frames":0,"reclaimed":0,"zero_reclaimed":0,"between":0,"parts":{"zeros":0,"between":0,"within":0}},"copies":[]}'
+    )
+    words = ["--salts", str(2**32 - 1), name]
+    subject.tally.equal("estimate of no page", subject.run(["estimate", "--json", *words], cwd=folder).stdout.decode().rstrip("\n"), due)
+    table = subject.run(["estimate", *words], cwd=folder).stdout.decode()
+    sentence = "\n0.0 of 0.0 MiB could be reclaimed (0.0 %): 0.0 zeros, 0.0 between guests, 0.0 within guests\n"
+    subject.tally.holds("estimate of no page, its sentence", sentence in table, table, sentence)
+    many = [sparse(folder / f"zeros-{n}.raw", PAGE * 45_407) for n in range(2)]
+    table = subject.run(["estimate", "--unit", "pages", *many]).stdout.decode()
+    line = "65537 to 131072                    1           90814\n"
+    subject.tally.holds("estimate of 90,814 zeros", line in table, table, line)
 
 
 def broken_images(subject: Subject, folder: pathlib.Path) -> None:

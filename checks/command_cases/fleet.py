@@ -21,6 +21,47 @@ IMAGES = [str(ROWS / name) for name in ("first.raw", "second.core", "first.raw")
 SALTS = ["0", "0", "5"]
 FORM = "give six fields of their form, with commas between them and a line feed behind them"
 SLOW_LINES = 150
+HEAD = 'begin with the line "guest,salt,pages,sample,digest,copies"'
+GUEST = "repeat the guest, salt, pages and sample of the line before"
+ORDER = "give each digest once, rising"
+SAMPLED = "give only digests that the sample keeps"
+TOTAL = "give as many copies as there are pages, or with a sample at most that many"
+DIGEST = "00e1000000000000000000000000000a"
+# A line that isn't of the form, behind the header.
+WRONG_LINES = [
+    f"web,0,4,1,{DIGEST}\n", f"web,0,4,1,{DIGEST},3,4\n", f",0,4,1,{DIGEST},3\n", f"w b,0,4,1,{DIGEST},3\n", f"web,00,4,1,{DIGEST},3\n",
+    f"web,4294967296,4,1,{DIGEST},3\n", f"web,0,18446744073709551616,1,{DIGEST},3\n", f"web,0,4,3,{DIGEST},3\n", f"web,0,4,0,{DIGEST},3\n",
+    f"web,0,4,131072,{DIGEST},3\n", "web,0,4,1,00E1000000000000000000000000000a,3\n", f"web,0,4,1,{DIGEST[1:]},3\n", f"web,0,4,1,{DIGEST},0\n",
+    f"web,0,4,1,{DIGEST},3\r\n", f"web,0,4,1,{DIGEST},3", "\n", f"{'a' * 65},4294967295,{2**64 - 1},65536,{'f' * 28}0000,{2**64 - 1}\n",
+    *["a" * length + "\n" for length in (256, 257, 70_000)],
+]
+# A line behind one with three of the guest's four pages, and what is said at which line.
+SECOND_LINES = [
+    ("wev,0,4,1,00e1000000000000000000000000000b,1\n", 3, GUEST), ("web,1,4,1,00e1000000000000000000000000000b,1\n", 3, GUEST),
+    ("web,0,5,1,00e1000000000000000000000000000b,1\n", 3, GUEST), ("web,0,4,2,00e1000000000000000000000000000b,1\n", 3, GUEST),
+    ("web,0,4,1,00e1000000000000000000000000000a,1\n", 3, ORDER), ("web,0,4,1,00e0000000000000000000000000000b,1\n", 3, ORDER),
+    ("web,0,4,1,00e1000000000000000000000000000B,1\n", 3, FORM), ("web,0,4,1,00e1000000000000000000000000000b;1\n", 3, FORM), ("", 2, TOTAL),
+    ("web,0,4,1,00e1000000000000000000000000000b,2\n", 3, TOTAL),
+]
+# Whole texts, and what is said of them.
+WRONG_TEXTS = [
+    (HEADER[:-1], 1, FORM), ("guest,salt,pages,sample,digest\n", 1, FORM), ("name,salt,pages,sample,digest,copies\n", 1, HEAD),
+    (f"{HEADER}web,0,4,2,00e1000000000000000000000000000b,3\n", 2, SAMPLED), (f"{HEADER}web,0,4,2,{DIGEST},5\n", 2, TOTAL),
+    *[(HEADER + line, 2, FORM) for line in WRONG_LINES],
+    *[(f"{HEADER}web,0,4,1,{DIGEST},3\n{line}", number, cause) for line, number, cause in SECOND_LINES],
+]
+# Three guests, of which the first two have zeros and a content in common, and the last two nothing. The digest of zeros is by sha256sum.
+ZEROS_LINE = "ad7facb2586fc6e966c004d7d1d16b02,3"
+WORKED = {
+    "web": HEADER + f"web,0,7,1,{DIGEST},3\nweb,0,7,1,50000000000000000000000000000000,1\nweb,0,7,1,{ZEROS_LINE}\n",
+    "db": HEADER + f"db,0,6,1,{DIGEST},2\ndb,0,6,1,{ZEROS_LINE}\ndb,0,6,1,c0000000000000000000000000000001,1\n",
+    "mail": HEADER + "mail,0,5,1,50000000000000000000000000000000,4\nmail,0,5,1,e0000000000000000000000000000001,1\n",
+    "empty": HEADER, "salted": HEADER + f"salted,7,3,1,{ZEROS_LINE}\n",
+    "sampled": HEADER + "sampled,0,3,16,00e10000000000000000000000000010,3\n",
+    "whole": HEADER + f"whole,0,{2**64 - 1},1,{DIGEST},{2**64 - 1}\n",
+    # One content in 65,536 is kept, and has 2^50 copies: 2^66 are estimated.
+    "heavy": HEADER + f"heavy,0,{2**50},65536,00e10000000000000000000000010000,{2**50}\n",
+}
 # Names, salts and a sample as long as they may be.
 LONG_NAMES = ["w" * 63 + "1", "w" * 63 + "2"]
 LAST_SALT = 2**32 - 1
@@ -49,6 +90,52 @@ def digests_of_images(subject: Subject, folder: pathlib.Path) -> list[str]:
     for path, image, salt in zip(paths, IMAGES, SALTS):
         path.write_bytes(subject.run(["digest", "--salt", salt, image]).stdout)
     return list(map(str, paths))
+
+
+def worked(subject: Subject, folder: pathlib.Path) -> None:
+    """The numbers of WORKED, added up by hand, and which of these digests can't be merged."""
+    paths = {name: str(folder / f"{name}.worked") for name in WORKED}
+    for name, text in WORKED.items():
+        pathlib.Path(paths[name]).write_text(text)
+
+    def merged(*names: str) -> dict[str, Any]:
+        found: dict[str, Any] = json.loads(subject.run(["fleet", "--json", *[paths[name] for name in names]]).stdout or b"{}")
+        return found
+
+    def guest(name: str | None, *numbers: int | None) -> plain_fleet.Numbers:
+        return dict(zip(("guest", "salt", "pages", "zero", "distinct", "shared", "alone"), (name, *numbers)))
+
+    found = merged("web", "empty", "db")
+    due = [guest("web", 0, 7, 3, 3, 6, 4), guest(None, None, 0, 0, 0, 0, 0), guest("db", 0, 6, 3, 3, 5, 3)]
+    subject.tally.equal("fleet of worked digests, guests", found.get("guests"), due)
+    total = {"pages": 13, "zero": 6, "shared": 11, "frames": 4, "reclaimed": 9, "zero_reclaimed": 5, "between": 2,
+             "parts": {"zeros": 5, "between": 1, "within": 3}}
+    subject.tally.equal("fleet of worked digests, total", found.get("total"), total)
+    classes = [{"from": 1, "to": 1, "contents": 2, "pages": 2}, {"from": 5, "to": 8, "contents": 2, "pages": 11}]
+    subject.tally.equal("fleet of worked digests, copies", found.get("copies"), classes)
+    found = merged("web", "salted")
+    subject.tally.equal("fleet of two salts", (found["total"]["zero"], found["guests"][1]["zero"]), (3, 0))
+    pairs = folder / "worked.csv"
+    subject.run(["fleet", "--pairs", str(pairs), *[paths[name] for name in ("web", "db", "mail")]])
+    subject.tally.equal("fleet of worked digests, pairs", pairs.read_text(), "guest,guest,contents,pages\nweb,db,2,9\nweb,mail,1,4\ndb,mail,0,0\n")
+    subject.tally.equal("fleet of an empty digest and a sample", merged("empty", "sampled").get("sample"), 16)
+    subject.tally.equal("fleet of the most pages", merged("whole").get("total", {}).get("pages"), 2**64 - 1)
+    words = ["fleet", *[paths[name] for name in ("web", "empty", "sampled")]]
+    subject.fails("fleet, another sample behind an empty digest", words, f"{paths['sampled']}: another sample than in the digests before\n")
+    most = "more than 18,446,744,073,709,551,615 pages\n"
+    subject.fails("fleet, a page too many", ["fleet", paths["whole"], paths["web"]], f"{paths['whole']} and 1 more: {most}")
+    subject.fails("fleet, too many pages by an estimate", ["fleet", paths["heavy"]], f"{paths['heavy']}: {most}")
+
+
+def texts_at_fault(subject: Subject, folder: pathlib.Path) -> None:
+    """Texts of each wrong form, behind a digest that is right: the file's line, and its cause."""
+    good, broken = str(ROWS / "first.digest"), folder / "fault.digest"
+    for text, number, cause in WRONG_TEXTS:
+        broken.write_bytes(text.encode())
+        subject.fails(f"fleet of {text[-60:]!r}", ["fleet", good, str(broken)], f"{broken}: line {number}: {cause}\n")
+    # (a longest line is read: what is wrong is then how many pages it stands for)
+    broken.write_text(f"{HEADER}{'a' * 64},{LAST_SALT},{2**64 - 1},65536,{'f' * 28}0000,{2**64 - 1}\n")
+    subject.fails("fleet of the longest line", ["fleet", str(broken)], f"{broken}: more than 18,446,744,073,709,551,615 pages\n")
 
 
 def tables(subject: Subject, folder: pathlib.Path) -> None:

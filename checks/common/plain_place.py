@@ -1,8 +1,8 @@
-"""Placements of guests on hosts, tried one after the other, for the checks of fleet/place.py. Standard library only."""
+"""Placements of guests on hosts, counted plainly, for the checks of fleet/place.py. Standard library only."""
 from __future__ import annotations
 
 import itertools
-from collections.abc import Callable, Iterable, Iterator, Mapping, Sequence
+from collections.abc import Iterable, Iterator, Mapping, Sequence
 
 
 from common import plain_fleet
@@ -40,22 +40,9 @@ class Fleet:
                 return False
         return True
 
-    def best(self, start: Place, holds: Callable[[Place], bool], spare: int, rivals: Iterable[tuple[str, str]]) -> int | None:
-        """The fewest frames of all placements that hold, and that moves of one guest at a time lead to: no move takes a host over its memory,
-        or a guest to one that it may not be with."""
-        names = list(start)
-        seen, left = {tuple(start.values())}, [dict(start)]
-        while left:
-            place = left.pop()
-            for name, host in itertools.product(names, self.hosts):
-                after = {**place, name: host}
-                meets = any(name in pair and after[pair[0]] == after[pair[1]] for pair in rivals)
-                is_new = tuple(after.values()) not in seen
-                if is_new and not meets and self.frames_on(self.on(after, host)) + spare <= self.memory[host]:
-                    seen.add(tuple(after.values()))
-                    left.append(after)
-        places = (dict(zip(names, hosts)) for hosts in seen)
-        return min((self.frames(place) for place in places if holds(place)), default=None)
+    def moves(self, place: Place) -> Iterator[Place]:
+        """The placements that one move of a guest leads to."""
+        return ({**place, name: host} for name, host in itertools.product(place, self.hosts))
 
 
 def order_faults(fleet: Fleet, start: Place, found: plain_fleet.Numbers, spare: int = 0) -> Iterator[str]:

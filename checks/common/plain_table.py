@@ -10,7 +10,7 @@ from collections.abc import Iterable, Iterator, Sequence
 
 from common.plain_fleet import Numbers
 
-HOW_TO_SHARE = "docs/HOST.md says how to share it.\n"
+HOW_TO_SHARE = "To share it: man pageshare-host, or docs/HOST.md in the source tree.\n"
 PAGES_OF_A_MIB = 256
 
 

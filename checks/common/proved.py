@@ -11,9 +11,10 @@ import functools
 import hashlib
 import os
 import pathlib
+import re
 import tempfile
 import threading
-from collections.abc import Container, Iterable, Mapping
+from collections.abc import Callable, Container, Iterable, Mapping
 from typing import Any
 
 from harness import TOP
@@ -28,21 +29,38 @@ def keeps(kit: Any) -> bool:
     return hasattr(kit, "Kept")
 
 
-def crates_of(kit: Any) -> dict[str, Any]:
-    """All crates of this tree, by name, lowest first."""
-    kit.Crate.allowed = kit.handles_of(str(TOP))
-    return {it.name: it for it in sorted(kit.rtlib.crates_below(str(TOP)), key=lambda it: len(it.below()))}
+def crates_of(kit: Any, top: pathlib.Path = TOP) -> dict[str, Any]:
+    """All crates of this tree, or of another one, by name, lowest first."""
+    kit.Crate.allowed = kit.handles_of(str(top))
+    return {it.name: it for it in sorted(kit.rtlib.crates_below(str(top)), key=lambda it: len(it.below()))}
 
 
-def sums_of(kit: Any, crates: Iterable[Any]) -> dict[str, str]:
-    """What each crate's proof rests on, as a sum by its name. A crate comes after those below it."""
+def kit_id(kit: Any) -> str:
+    """The kit's one-line identity."""
+    return pathlib.Path(kit.KIT, "KIT-ID").read_text(encoding="utf-8")
+
+
+def whole(_file: pathlib.Path, text: bytes) -> bytes:
+    """All of a source."""
+    return text
+
+
+def without_comments(file: pathlib.Path, text: bytes) -> bytes:
+    """A source without the lines that are comments."""
+    mark = {".rt": rb"//", ".antt": rb"--"}.get(file.suffix)
+    return re.sub(rb"(?m)^[ \t]*" + mark + rb".*\n", b"", text) if mark else text
+
+
+def sums_of(kit: Any, crates: Iterable[Any], prover: str = "", of: Callable[[pathlib.Path, bytes], bytes] = whole) -> dict[str, str]:
+    """What each crate's proof rests on, as a sum by its name. A crate comes after those below it. The prover is the kit, or what is given;
+    `of` is what counts of a source."""
     sums: dict[str, str] = {}
-    kit_id = pathlib.Path(kit.KIT, "KIT-ID").read_text(encoding="utf-8")
+    prover = prover or kit_id(kit)
     for crate in crates:
         folder, rests = pathlib.Path(crate.folder), hashlib.sha256()
-        rests.update(repr((kit_id, crate.name, crate.is_static, sorted(crate.of_kit), [sums[it.name] for it in crate.deps])).encode())
+        rests.update(repr((prover, crate.name, crate.is_static, sorted(crate.of_kit), [sums[it.name] for it in crate.deps])).encode())
         for file in sorted(it for part in PARTS for it in (folder / part).rglob("*") if it.is_file()):
-            rests.update(repr((str(file.relative_to(folder)), hashlib.sha256(file.read_bytes()).hexdigest())).encode())
+            rests.update(repr((str(file.relative_to(folder)), hashlib.sha256(of(file, file.read_bytes())).hexdigest())).encode())
         sums[crate.name] = rests.hexdigest()
     return sums
 

@@ -34,7 +34,7 @@ pub fn request_of(rt: &impl Abort, ask: Ask) -> Request {
     }
 }
 
-pub fn verdict_on<H: PageHash, A: Allocator>(
+fn verdict_on<H: PageHash, A: Allocator>(
     rt: &impl Abort,
     core: &mut Core<H, A>,
     guest: u8,

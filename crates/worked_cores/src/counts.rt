@@ -1,9 +1,8 @@
-//! The count of requests, and the last page of a shared frame.
-use crate::asks::{Ask, Line, core_of, numbers, serve, share_three, verdict_on};
-use crate::checks::{equal, holds};
+//! The count of requests.
+use crate::asks::{Ask, core_of, numbers, serve, share_three};
+use crate::checks::holds;
 use merge_core::Core;
 use page_digest::Sha256Hash;
-use page_model::Verdict;
 use std::alloc::Global;
 use std::process::Abort;
 use worked_answers::Answer;
@@ -34,36 +33,4 @@ fn count_anew(rt: HostRuntime) {
     holds(&rt, shared == [6, 3, 3, 1, 2, 0]);
     holds(&rt, anew == [0, 3, 3, 1, 2, 0]);
     holds(&rt, copied == [1, 3, 2, 2, 1, 0]);
-}
-
-/// Whether a count of guest 0 gets the report that the machine has then.
-fn counts_report(rt: &impl Abort, core: &mut Core<Sha256Hash>) -> bool {
-    let verdict = verdict_on(rt, core, 0, Ask::Count);
-    verdict == Verdict::Totals(core.report())
-}
-
-const FILLING: [Line; 8] = [
-    (0, Ask::Store(0, b'A'), Answer::Mapped),
-    (0, Ask::Store(1, b'A'), Answer::Mapped),
-    (0, Ask::Propose(0), Answer::Hinted),
-    (0, Ask::Propose(1), Answer::Paired),
-    (0, Ask::Store(2, b'C'), Answer::Mapped),
-    (0, Ask::Store(0, b'D'), Answer::NoFrame),
-    (0, Ask::Release(0), Answer::Released(false)),
-    (0, Ask::Store(1, b'E'), Answer::Taken),
-];
-
-/// Makes a machine of two frames, both of which are taken when their last page is stored to. Returns whether a count
-/// then gets the report, and the report.
-fn filled(rt: &impl Abort, alloc: Global) -> (bool, [u32; 6]) {
-    let mut core = core_of(rt, alloc, 2, &[3], Sha256Hash);
-    serve(rt, &mut core, &FILLING);
-    let counts = counts_report(rt, &mut core);
-    (counts, numbers(&core))
-}
-
-/// A full machine still takes a store through the last page of a shared frame.
-#[test]
-fn last_reference(rt: HostRuntime) {
-    equal(&rt, filled(&rt, rt.alloc()), (true, [9, 2, 0, 2, 0, 0]));
 }

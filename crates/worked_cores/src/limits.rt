@@ -1,48 +1,12 @@
-//! Which machines can be made, and the largest ones.
+//! The largest machines.
 use crate::asks::{Ask, Line, core_of, frame, numbers, serve, store_all};
-use crate::checks::{equal, equal_at};
-use merge_core::{Core, CoreFault};
+use crate::checks::equal;
+use merge_core::Core;
 use page_digest::FirstByteHash;
 use page_model::{MAX_FRAMES, MAX_GUESTS, MAX_PAGES, MachineShape};
 use std::alloc::Global;
 use std::process::Abort;
 use worked_answers::Answer;
-
-const FRAMES: Option<CoreFault> = Some(CoreFault::Frames);
-
-const GUESTS: Option<CoreFault> = Some(CoreFault::Guests);
-
-const PAGES: Option<CoreFault> = Some(CoreFault::Pages);
-
-/// Returns why there is no such machine.
-fn fault_of(alloc: Global, frames: u32, pages: &[u32], salts: &[u32]) -> Option<CoreFault> {
-    Core::new(alloc, frames, pages, salts, FirstByteHash).err()
-}
-
-#[test]
-fn core_limits(rt: HostRuntime) {
-    let pages = [1; 65];
-    let limits: [(u32, &[u32], &[u32], Option<CoreFault>); 10] = [
-        (0, &[], &[], FRAMES),
-        (0, &[1], &[], FRAMES),
-        (MAX_FRAMES + 1, &[1], &[0], FRAMES),
-        (1, &[], &[], GUESTS),
-        (1, &pages, &pages, GUESTS),
-        (1, &[1], &[], GUESTS),
-        (1, &[0], &[], GUESTS),
-        (1, &[1, 0], &[0, 0], PAGES),
-        (1, &[MAX_PAGES, 1], &[0, 0], PAGES),
-        (1, &[1], &[0], None),
-    ];
-    for (frames, pages, salts, fault) in limits {
-        equal_at(
-            &rt,
-            frames,
-            fault_of(rt.alloc(), frames, pages, salts),
-            fault,
-        );
-    }
-}
 
 /// Makes a machine of the most frames and of one guest with the most pages.
 fn greatest(rt: &impl Abort, alloc: Global) -> Core<FirstByteHash> {

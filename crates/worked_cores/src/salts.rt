@@ -2,7 +2,7 @@
 use crate::asks::{Ask, numbers, serve, store_all};
 use crate::checks::{equal, holds};
 use merge_core::Core;
-use page_digest::{FirstByteHash, PageHash, Sha256Hash};
+use page_digest::{FirstByteHash, PageHash};
 use std::alloc::Global;
 use std::process::Abort;
 use worked_answers::Answer;
@@ -55,38 +55,8 @@ fn salted_row<H: PageHash + Drop>(
 }
 
 #[test]
-fn two_guests(rt: HostRuntime) {
-    let alloc = rt.alloc();
-    let apart = [Answer::Hinted, Answer::Hinted];
-    let report = salted_row(&rt, alloc, Sha256Hash, 2, &[1, 2], &apart);
-    equal(&rt, report, [4, 2, 0, 2, 0, 2]);
-    let paired = [Answer::Hinted, Answer::Paired];
-    let report = salted_row(&rt, alloc, Sha256Hash, 2, &[1, 1], &paired);
-    equal(&rt, report, [4, 2, 2, 1, 1, 0]);
-}
-
-#[test]
 fn hash_without_salt(rt: HostRuntime) {
     let refused = [Answer::Hinted, Answer::Ineligible];
     let report = salted_row(&rt, rt.alloc(), FirstByteHash, 2, &[1, 2], &refused);
     equal(&rt, report, [4, 2, 0, 2, 0, 1]);
-}
-
-#[test]
-fn salts_1_2_1(rt: HostRuntime) {
-    let answers = [Answer::Hinted, Answer::Hinted, Answer::Paired];
-    let report = salted_row(&rt, rt.alloc(), Sha256Hash, 3, &[1, 2, 1], &answers);
-    equal(&rt, report, [6, 3, 2, 2, 1, 1]);
-}
-
-#[test]
-fn salts_1_1_2_2(rt: HostRuntime) {
-    let answers = [
-        Answer::Hinted,
-        Answer::Paired,
-        Answer::Hinted,
-        Answer::Paired,
-    ];
-    let report = salted_row(&rt, rt.alloc(), Sha256Hash, 4, &[1, 1, 2, 2], &answers);
-    equal(&rt, report, [8, 4, 4, 2, 2, 0]);
 }

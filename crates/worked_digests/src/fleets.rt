@@ -1,7 +1,4 @@
 //! Digests that are merged.
-mod faults;
-mod many;
 mod merged;
-mod numbers;
 mod reads;
 mod refused;

@@ -1,5 +1,4 @@
-//! Worked digests: a few pages digested by hand, what is read of texts of digests, and fleets of merged ones beside numbers that
-//! were added up by hand.
+//! Worked digests: pages that can't be read, texts whose reads and writes fail, refused memory, and lists of mappings.
 //!
 //! This crate has only tests.
 #![tactic(auto)]

@@ -1,5 +1,3 @@
 //! The texts of digests.
-mod faults;
-mod long;
 mod sources;
 mod written;

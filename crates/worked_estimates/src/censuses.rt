@@ -1,7 +1,5 @@
 //! Censuses of pages, under a good hash and under hashes that distinguish few pages or none.
-mod copied;
 mod known;
-mod many;
 mod pages;
 mod reads;
 mod room;

@@ -1,6 +1,3 @@
-//! Images of memory: raw files and ELF cores of a few pages.
-mod cores;
+//! Images of memory: ELF cores of a few pages.
 mod files;
-mod raw;
 mod refused;
-mod system;

@@ -1,4 +1,4 @@
-//! Worked estimates: a few pages counted by hand, images of memory made by hand, and what is written of given numbers.
+//! Worked estimates: a few pages counted under several hashes, reads that fail, refused memory, and what is written of given numbers.
 //!
 //! This crate has only tests.
 #![tactic(auto)]

@@ -6,4 +6,3 @@ mod parts;
 mod reclaimed;
 mod refused;
 mod shares;
-mod written;

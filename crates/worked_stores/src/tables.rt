@@ -1,20 +1,10 @@
 ghost use Rattle.std.specs.Prelude.{◌≡◌, IfOk};
 
 use crate::checks::{equal, holds, holds_at};
-use packed_entries::Packed;
 use refusing::Refusing;
-use share_table::{HintFrame, Table};
+use share_table::Table;
 use std::alloc::{AllocError, Allocator, Global};
 use std::process::Abort;
-
-/// What is put into a table.
-#[derive(Clone, Copy)]
-enum Row {
-    /// A frame of two pages, by its hash and MPN.
-    Shared(u64, u32),
-    /// A hint by its key.
-    Hint(u32, HintFrame),
-}
 
 const BELOW: u32 = 1 << 24;
 
@@ -30,34 +20,6 @@ fn add<A: Allocator>(rt: &impl Abort, table: &mut Table<A>, capacity: u32, hash:
     table.add_shared(hash, mpn);
 }
 
-/// Puts a hint under `key`, into a table with room for `capacity` entries.
-fn hint<A: Allocator>(
-    rt: &impl Abort,
-    table: &mut Table<A>,
-    capacity: u32,
-    key: u32,
-    hint: HintFrame,
-)
-    requires { table.old.capacity ≡ capacity }
-    ensures { table.new.capacity ≡ capacity }
-{
-    holds(rt, table.find_hint(key).is_none());
-    holds(rt, table.len() < capacity);
-    holds(rt, hint.ppn < BELOW);
-    holds(rt, hint.mpn < BELOW);
-    table.put_hint(key, hint.guest, hint.ppn, hint.mpn);
-}
-
-fn put<A: Allocator>(rt: &impl Abort, table: &mut Table<A>, capacity: u32, entry: Row)
-    requires { table.old.capacity ≡ capacity }
-    ensures { table.new.capacity ≡ capacity }
-{
-    match entry {
-        Row::Shared(hash, mpn) => add(rt, table, capacity, hash, mpn),
-        Row::Hint(key, frame) => hint(rt, table, capacity, key, frame),
-    }
-}
-
 fn new_table<A: Allocator + Clone>(
     rt: &impl Abort,
     alloc: A,
@@ -70,12 +32,10 @@ fn new_table<A: Allocator + Clone>(
     Table::new(alloc, capacity)
 }
 
-/// Makes a table of these entries.
-fn table_of(rt: &impl Abort, alloc: Global, capacity: u32, entries: &[Row]) -> Table<Global> {
+/// Makes a table with one frame of two pages, under 7.
+fn table_of(rt: &impl Abort, alloc: Global, capacity: u32, mpn: u32) -> Table<Global> {
     let mut table = new_table(rt, alloc, capacity).expect(rt, "memory");
-    for entry in entries {
-        put(rt, &mut table, capacity, *entry);
-    }
+    add(rt, &mut table, capacity, 7, mpn);
     table
 }
 
@@ -90,115 +50,6 @@ fn join<A: Allocator>(rt: &impl Abort, table: &mut Table<A>, hash: u64) -> u32 {
 fn leave<A: Allocator>(rt: &impl Abort, table: &mut Table<A>, hash: u64) -> u32 {
     holds(rt, table.find_shared(hash).is_some());
     table.leave(hash)
-}
-
-fn drop_hint<A: Allocator>(rt: &impl Abort, table: &mut Table<A>, key: u32) {
-    holds(rt, table.find_hint(key).is_some());
-    table.drop_hint(key);
-}
-
-const FIRST: u64 = 0x1_0000_0007;
-
-const SECOND: u64 = 0x2_0000_0007;
-
-/// A change of an entry that is in the table.
-#[derive(Clone, Copy)]
-enum Step {
-    Join(u64),
-    Leave(u64),
-    DropHint(u32),
-}
-
-/// Takes a step. Returns the count that a frame has then, and 0 for a hint.
-fn take_step<A: Allocator>(rt: &impl Abort, table: &mut Table<A>, step: Step) -> u32 {
-    match step {
-        Step::Join(hash) => join(rt, table, hash),
-        Step::Leave(hash) => leave(rt, table, hash),
-        Step::DropHint(key) => {
-            drop_hint(rt, table, key);
-            0
-        }
-    }
-}
-
-type Found = (
-    [u32; 3],
-    Option<(u32, u32)>,
-    Option<(u32, u32)>,
-    Option<HintFrame>,
-);
-
-/// Compares the numbers of entries, of references and of pages of the first frame, and what is found of the first
-/// frame, the second, and the hint.
-fn finds<A: Allocator>(rt: &impl Abort, table: &Table<A>, due: Found) {
-    let found = (
-        [table.len(), table.references(), table.count(FIRST)],
-        table.find_shared(FIRST),
-        table.find_shared(SECOND),
-        table.find_hint(7),
-    );
-    equal(rt, found, due);
-}
-
-#[test]
-fn table_hint(rt: HostRuntime) {
-    let hint = HintFrame {
-        guest: 3,
-        ppn: 5,
-        mpn: 1,
-    };
-    let mut table = table_of(&rt, rt.alloc(), 2, &[Row::Hint(7, hint)]);
-    finds(&rt, &table, ([1, 0, 0], None, None, Some(hint)));
-    drop_hint(&rt, &mut table, 7);
-    finds(&rt, &table, ([0, 0, 0], None, None, None));
-    equal(&rt, table.count(7), 0);
-}
-
-const HINT: HintFrame = HintFrame {
-    guest: 3,
-    ppn: 5,
-    mpn: 2,
-};
-
-/// Steps, the count after each, and what is found then.
-const STEPS: [(Step, u32, Found); 4] = [
-    (
-        Step::Leave(SECOND),
-        1,
-        ([3, 3, 2], Some((0, 2)), Some((1, 1)), Some(HINT)),
-    ),
-    (
-        Step::Leave(SECOND),
-        0,
-        ([2, 2, 2], Some((0, 2)), None, Some(HINT)),
-    ),
-    (
-        Step::Join(FIRST),
-        3,
-        ([2, 3, 3], Some((0, 3)), None, Some(HINT)),
-    ),
-    (Step::DropHint(7), 0, ([1, 3, 3], Some((0, 3)), None, None)),
-];
-
-fn take_steps(rt: &impl Abort, table: &mut Table) {
-    for (step, count, after) in STEPS {
-        equal(rt, take_step(rt, table, step), count);
-        finds(rt, table, after);
-    }
-}
-
-// Two shared frames and a hint whose hashes have the same low 32 bits.
-#[test]
-fn one_chain(rt: HostRuntime) {
-    let entries = [
-        Row::Shared(FIRST, 0),
-        Row::Shared(SECOND, 1),
-        Row::Hint(7, HINT),
-    ];
-    let mut table = table_of(&rt, rt.alloc(), 3, &entries);
-    let whole = ([3, 4, 2], Some((0, 2)), Some((1, 2)), Some(HINT));
-    finds(&rt, &table, whole);
-    take_steps(&rt, &mut table);
 }
 
 /// Compares the count of the frame under 7, the field of its entry, and how many counts are kept elsewhere.
@@ -289,7 +140,7 @@ fn new_refused_in_turn(rt: HostRuntime) {
 // A table of the greatest capacity. Its frames are written as they are made, and its bucket heads.
 #[test]
 fn greatest_capacity(rt: HostRuntime) {
-    let table = table_of(&rt, rt.alloc(), 1_048_576, &[Row::Shared(7, 16_777_215)]);
+    let table = table_of(&rt, rt.alloc(), 1_048_576, 16_777_215);
     equal(&rt, table.bytes(), 20_971_520);
     equal(&rt, table.find_shared(7), Some((16_777_215, 2)));
     equal(&rt, table.len(), 1);
@@ -315,73 +166,4 @@ fn bytes_a_frame(rt: HostRuntime) {
         equal(&rt, bytes, want);
         holds(&rt, bytes.saturating_mul(200) < u64::from(capacity) * 4096);
     }
-}
-
-// The greatest MPN and link, and one more of each.
-#[test]
-fn packed_shared_bounds(rt: HostRuntime) {
-    for (mpn, link, is_packed) in [
-        (16_777_216, 0, false),
-        (16_777_215, 0, true),
-        (0, 8_388_608, false),
-        (0, 8_388_607, true),
-    ] {
-        holds_at(
-            &rt,
-            (mpn, link),
-            Packed::shared(0, mpn, 1, link).is_some() == is_packed,
-        );
-    }
-}
-
-// The greatest PPN and MPN, and one more of each.
-#[test]
-fn packed_hint_bounds(rt: HostRuntime) {
-    for (ppn, mpn, is_packed) in [
-        (16_777_216, 0, false),
-        (16_777_215, 0, true),
-        (0, 16_777_216, false),
-        (0, 16_777_215, true),
-    ] {
-        holds_at(
-            &rt,
-            (ppn, mpn),
-            Packed::hint(0, 0, ppn, mpn, 0).is_some() == is_packed,
-        );
-    }
-}
-
-fn reads(bytes: &[u8; 16], packed: &Option<Packed>) -> bool {
-    Packed::read(bytes) == *packed
-}
-
-// The worked frames, read: a shared frame with its count, one whose count is elsewhere, and a hint frame. It follows
-// that they are written so, since what is read is written as those bytes.
-#[test]
-fn packed_values(rt: HostRuntime) {
-    let hash = 0x0123_4567_89ab_cdef;
-    let shared = [
-        0x01, 0x23, 0x45, 0x67, 0x89, 0xab, 0xcd, 0xef, 0, 0, 5, 0, 3, 0, 0, 1,
-    ];
-    holds(&rt, reads(&shared, &Packed::shared(hash, 5, 3, 0)));
-    let wide = [
-        0x01, 0x23, 0x45, 0x67, 0x89, 0xab, 0xcd, 0xef, 0, 0, 5, 0, 0, 0, 0, 1,
-    ];
-    holds(&rt, reads(&wide, &Packed::shared(hash, 5, 0, 0)));
-    let hint = [
-        0xde, 0xad, 0xbe, 0xef, 2, 0, 1, 2, 0, 0xab, 0xcd, 0, 0, 0, 0, 0x12,
-    ];
-    holds(
-        &rt,
-        reads(&hint, &Packed::hint(0xdead_beef, 2, 0x102, 0xabcd, 9)),
-    );
-}
-
-// Tag 0 with a count is no frame.
-#[test]
-fn no_frame(rt: HostRuntime) {
-    let refused = [
-        0xde, 0xad, 0xbe, 0xef, 2, 0, 1, 2, 0, 0xab, 0xcd, 0, 1, 0, 0, 0x12,
-    ];
-    holds(&rt, reads(&refused, &None));
 }

@@ -1,7 +1,7 @@
 //! Texts that are merged, for the tests.
 use crate::checks::holds;
 use digest_text::{Cause, DigestReader, ReadFault};
-use fleet_census::{FleetFault, FleetNumbers, FleetPair, Pairs, merge};
+use fleet_census::{FleetFault, FleetNumbers, Pairs, merge};
 use std::alloc::{Allocator, Global};
 use std::process::Abort;
 
@@ -54,16 +54,4 @@ pub fn merge_texts<A: Allocator + Copy>(
     }
     holds(rt, !readers.is_empty());
     merge(memory, &mut readers, pairs).map_err(refusal_of)
-}
-
-/// Merges texts, and returns what two of the guests have in common, where there is an entry for them.
-pub fn pair_of(
-    rt: &impl Abort,
-    alloc: Global,
-    texts: &[&[u8]],
-    guest: usize,
-    other: usize,
-) -> Option<FleetPair> {
-    let found = merge_texts(rt, alloc, alloc, texts, Pairs::Counted).ok()?;
-    found.pairs.get(guest)?.get(other).copied()
 }

@@ -1,4 +1,4 @@
-//! Pages in memory, and how often they are read.
+//! Pages in memory.
 ghost use Rattle.std.specs.Prelude.{◌<◌, ◌^◌, vec_len};
 
 use crate::checks::{equal, holds};
@@ -19,8 +19,6 @@ pub struct Unreadable;
 pub struct Memory {
     pub pages: Vec<Page>,
     pub readable: u32,
-    /// How many pages were read so far.
-    pub reads: AtomicU64,
     ghost few: { vec_len pages < 2 ^ 32 },
 }
 
@@ -41,7 +39,6 @@ impl PageSource for Memory {
         if end > self.readable as usize {
             return Err(Unreadable);
         }
-        self.reads.fetch_add(into.len() as u64, Ordering::SeqCst);
         into.copy_from_slice(&self.pages[from..end]);
         Ok(())
     }
@@ -76,12 +73,7 @@ pub fn memory_of(rt: &impl Abort, alloc: Global, lasts: &[Option<u8>], readable:
     for last in lasts {
         pages.push_reserved(page_of(*last));
     }
-    let reads = AtomicU64::new(0);
-    Memory {
-        pages,
-        readable,
-        reads,
-    }
+    Memory { pages, readable }
 }
 
 /// Returns the sampling of a salt and a sample that there is.

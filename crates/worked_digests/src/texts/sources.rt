@@ -1,9 +1,8 @@
 //! Texts that are read in pieces, and reads that fail.
 use crate::checks::{holds, holds_at};
-use digest_text::{Cause, DigestReader, ReadFault};
-use guest_digests::Sample;
+use digest_text::{DigestReader, ReadFault};
 use refusing::Refusing;
-use std::alloc::{Allocator, Global};
+use std::alloc::Allocator;
 use std::io::{self, ErrorKind, Read};
 use std::process::Abort;
 
@@ -49,22 +48,6 @@ fn read_all<A: Allocator>(rt: &impl Abort, alloc: A, source: Pieces<'_>) -> Foun
     panic!(rt; "too many lines")
 }
 
-/// Reads a text in pieces: how many lines and copies it has, and the line at fault.
-pub fn read_text(
-    rt: &impl Abort,
-    alloc: Global,
-    text: &[u8],
-    most: usize,
-) -> (u64, u64, Option<(u64, Cause)>) {
-    let fails = false;
-    let (lines, copies, fault) = read_all(rt, alloc, Pieces { text, most, fails });
-    match fault {
-        None => (lines, copies, None),
-        Some(ReadFault::Line(fault)) => (lines, copies, Some((fault.line, fault.cause))),
-        Some(_) => panic!(rt; "another fault"),
-    }
-}
-
 const TEXT: &[u8] =
     b"guest,salt,pages,sample,digest,copies\nweb,7,9,4,00e10000000000000000000000000008,3\nweb,7,9,4,ad7facb2586fc6e966c004d7d1d16b00,1\n";
 
@@ -95,53 +78,4 @@ fn refused(rt: HostRuntime) {
     );
     holds(&rt, matches!(found.2, Some(ReadFault::OutOfMemory)));
     holds(&rt, heap.holds_nothing());
-}
-
-// What the lines begin with.
-fn head(rt: &impl Abort, alloc: Global) -> (u32, u64, Sample, bool) {
-    let (most, fails) = (usize::MAX, false);
-    let mut reader = DigestReader::new(
-        alloc,
-        Pieces {
-            text: TEXT,
-            most,
-            fails,
-        },
-    )
-    .ok()
-    .expect(rt, "a reader");
-    holds(rt, reader.head().is_none());
-    holds(rt, reader.next_line().is_ok());
-    let head = reader.head().expect(rt, "a head");
-    (
-        head.salt,
-        head.pages,
-        head.sample,
-        head.guest.as_bytes() == b"web".as_slice(),
-    )
-}
-
-#[test]
-fn heads(rt: HostRuntime) {
-    let (salt, pages, sample, is_web) = head(&rt, rt.alloc());
-    holds(&rt, salt == 7);
-    holds(&rt, pages == 9);
-    holds(&rt, sample.get() == 4);
-    holds(&rt, is_web);
-}
-
-// A line of more than 256 bytes, and more than a buffer of them.
-#[test]
-fn long_lines(rt: HostRuntime) {
-    for len in [256, 257, 70_000] {
-        let mut text = Vec::new(rt.alloc());
-        text.extend_from_slice(b"guest,salt,pages,sample,digest,copies\n")
-            .expect(&rt, "memory");
-        for _ in 0..len {
-            text.push(b'a').expect(&rt, "memory");
-        }
-        text.push(b'\n').expect(&rt, "memory");
-        let found = read_text(&rt, rt.alloc(), &text, 1_000);
-        holds_at(&rt, len, found == (0, 0, Some((2, Cause::Form))));
-    }
 }

@@ -89,11 +89,6 @@ fn counts<R: Threads + Abort + Sync, H: PageHash>(rt: &R, alloc: Global, hash: &
 }
 
 #[test]
-fn by_sha256(rt: HostRuntime) {
-    counts(&rt, rt.alloc(), &Sha256Hash, 4)
-}
-
-#[test]
 fn by_folding(rt: HostRuntime) {
     counts(&rt, rt.alloc(), &FoldHash, 3)
 }

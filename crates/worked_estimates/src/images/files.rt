@@ -1,6 +1,6 @@
 //! Files in memory, and the pages that images of them have.
 
-use memory_images::{FormFault, Image, ImageFault, ReadAt};
+use memory_images::{Image, ImageFault, ReadAt};
 use memory_pages::PageSource;
 use page_model::{PAGE_BYTES, Page};
 use std::alloc::{Allocator, Global};
@@ -40,12 +40,12 @@ impl ReadAt for Memory {
 }
 
 /// Returns the byte at a place of each file, outside its headers.
-pub fn byte_at(place: usize) -> u8 {
+fn byte_at(place: usize) -> u8 {
     (place % 251) as u8
 }
 
 /// Makes a file of `len` bytes, each determined by its place.
-pub fn plain_file(rt: &impl Abort, alloc: Global, len: usize) -> Memory {
+fn plain_file(rt: &impl Abort, alloc: Global, len: usize) -> Memory {
     let mut bytes = Vec::with_capacity(alloc, len).expect(rt, "memory");
     for place in 0..len {
         bytes.push(byte_at(place)).expect(rt, "memory");
@@ -57,7 +57,7 @@ pub fn plain_file(rt: &impl Abort, alloc: Global, len: usize) -> Memory {
 }
 
 /// Puts a little-endian number of `len` bytes at a place.
-pub fn put(bytes: &mut [u8], at: usize, len: usize, number: u64) {
+fn put(bytes: &mut [u8], at: usize, len: usize, number: u64) {
     let mut left = number;
     for i in 0..len {
         if let Some(byte) = bytes.get_mut(at.wrapping_add(i)) {
@@ -128,7 +128,7 @@ fn put_program_header(bytes: &mut [u8], at: usize, header: &ProgramHeader) {
 }
 
 /// Whether a page is `len` bytes of the file from a place on, and zeros behind them.
-pub fn is_page(page: &Page, from: usize, len: usize) -> bool {
+fn is_page(page: &Page, from: usize, len: usize) -> bool {
     for i in 0..PAGE_BYTES {
         let found = if i < len {
             byte_at(from.wrapping_add(i))
@@ -178,44 +178,12 @@ pub fn has_pages<A: Allocator + Sync>(
     true
 }
 
-/// Whether a raw file has these pages.
-pub fn raw_has_pages(
-    rt: &impl Abort,
-    alloc: Global,
-    file: Memory,
-    parts: &[(usize, usize)],
-) -> bool {
-    let image = Image::raw(alloc, file).expect(rt, "an image");
-    has_pages(rt, alloc, &image, parts)
-}
-
 /// Opens an image of a file.
 pub fn open<A: Allocator + Clone>(
     alloc: A,
     file: Memory,
 ) -> Result<Image<Memory, A>, ImageFault<Unreadable>> {
     Image::open(alloc, file)
-}
-
-/// Whether a file opens as an image of these pages.
-pub fn opened_has_pages(
-    rt: &impl Abort,
-    alloc: Global,
-    file: Memory,
-    parts: &[(usize, usize)],
-) -> bool {
-    let image = open(alloc, file).expect(rt, "an image");
-    has_pages(rt, alloc, &image, parts)
-}
-
-/// Whether a file is refused with this fault.
-pub fn fails(alloc: Global, file: Memory, fault: FormFault) -> bool {
-    match open(alloc, file) {
-        Err(ImageFault::Form(form)) => form == fault,
-        Err(ImageFault::Read(_)) => false,
-        Err(ImageFault::OutOfMemory) => false,
-        Ok(_) => false,
-    }
 }
 
 /// Whether a read of a file fails while it is opened.

@@ -57,14 +57,3 @@ pub const COPIES: [CopiesClass; 4] = [
         pages: 90_814,
     },
 ];
-
-/// No guest.
-pub const NOTHING: TotalNumbers = TotalNumbers {
-    pages: 0,
-    zero: 0,
-    shared: 0,
-    frames: 0,
-    reclaimed: 0,
-    zero_reclaimed: 0,
-    between: 0,
-};

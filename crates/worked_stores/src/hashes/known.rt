@@ -33,25 +33,6 @@ fn four_sha256_hashes(rt: HostRuntime) {
 }
 
 #[test]
-fn four_as_each_alone(rt: HostRuntime) {
-    let pages = [
-        page_of(1, 2, 3),
-        page_of(4, 5, 6),
-        page_of(7, 8, 9),
-        page_of(10, 11, 12),
-    ];
-    let salts = [0, 9, 0xffff_ffff, 0];
-    let hashes = Sha256Hash.hash_four(salts, &pages[0], &pages[1], &pages[2], &pages[3]);
-    for place in 0..4usize {
-        equal(
-            &rt,
-            hashes[place],
-            Sha256Hash.hash(salts[place], &pages[place]),
-        );
-    }
-}
-
-#[test]
 fn weak_hashes(rt: HostRuntime) {
     let page = page_of(0x41, 0x07, 0);
     let other = page_of(0x42, 0x08, 0);

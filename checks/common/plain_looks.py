@@ -1,0 +1,170 @@
+"""What a look does with a page and a part, in plain Python: the rules of docs/MONITOR.md, step by step.
+
+A page is idle once it was found alike as often as STILL says. Numbers of steps are those of window/pageshare_window.h.
+"""
+from __future__ import annotations
+
+import dataclasses
+
+from common.plain_page import SHOWING, WITH_SLOT, Facts, Page
+
+OVER, FIND_COPY, GLANCE, READ, COUNT, IDLE, ZEROS = range(7)
+PASS, MEET, KEEP, TO_READ = "pass", "meet", "keep", "read"
+STILL = 3
+# How often a question in vain counts at most, and how many looks apart the turns of a page are then, but for one that was asked so often.
+ASKS_MOST, APART = 3, (1, 2, 4, 8)
+# How many looks apart they are of that one where nobody says; how often more in a whole part; and how many pages have them together.
+TURNS, WHOLE_TURNS, TOGETHER = 8, 2, 64
+# Of so many turns one reads an idle page, or one over a frame in a part where nothing changes; and one question is noted.
+READ_EACH, READ_EACH_OVER, PASSING_EACH = 16, 2, 4
+# Next to nothing is one page in so many.
+CALM_PART = 16
+
+
+@dataclasses.dataclass
+class Part:
+    """What is known of a part, and of the look at it: how many looks a turn is apart, and how many pages are left out at most."""
+
+    whole: bool = False
+    rest: int = 0
+    left: int = 0
+    is_still: bool = False
+    own: int = 512
+    turns: int = 16
+    rest_most: int = 7
+    zeros: int = 70
+
+    # ---- which pages a look takes ----
+
+    def idle_apart(self) -> int:
+        turns = self.turns or TURNS
+        return max(turns * WHOLE_TURNS if self.whole else turns, self.rest + 1)
+
+    def looks_apart(self, page: Page) -> int:
+        """Of so many looks one is the page's turn."""
+        if page.looks == 0:
+            return 1
+        return self.idle_apart() if is_again(page) else APART[page.asks]
+
+    def is_in_sample(self, look: int, number: int) -> bool:
+        return (look + number) % (self.rest + 1) == 0
+
+    def takes(self, page: Page, look: int, number: int) -> bool:
+        """Whether it isn't left out: it isn't idle, is asked about often, has its turn, or is in the sample."""
+        has_turn = (look + number // TOGETHER) % self.idle_apart() == 0
+        return has_turn or not is_again(page) or self.is_in_sample(look, number)
+
+    def is_to_fetch(self, page: Page, look: int, number: int) -> bool:
+        return page.looks > 0 and not page.over and (page.looks < STILL or self.is_in_sample(look, number))
+
+    def is_in_passing(self, page: Page, look: int, number: int) -> bool:
+        turn = (look + number // TOGETHER) // self.looks_apart(page)
+        return self.whole and page.asks > 0 and turn % PASSING_EACH != 0
+
+    # ---- what it does with one ----
+
+    def act(self, page: Page, look: int, number: int) -> str:
+        """What comes of a look, if no glance says that the page has changed."""
+        if page.looks == 0 and not page.over:
+            return MEET
+        turn, rest = divmod(look + number // TOGETHER, self.looks_apart(page))
+        if rest:
+            return PASS
+        each = (READ_EACH_OVER if self.is_still else 1) if page.over else READ_EACH
+        return KEEP if is_again(page) and turn % each else TO_READ
+
+    def glances(self, page: Page, act: str, look: int, number: int) -> bool:
+        if page.over or act == MEET:
+            return False
+        return {PASS: page.looks >= STILL, KEEP: self.is_in_sample(look, number), TO_READ: True}[act]
+
+    def found(self, fingerprint: int) -> int:
+        """What an idle page with this fingerprint is."""
+        return (COUNT if self.whole else ZEROS) if fingerprint == self.zeros else IDLE
+
+    def begin(self, page: Page, facts: Facts, look: int, number: int, memory: int, is_ready: bool) -> int:
+        """What is done first. Memory is none, some, or some that is swapped out."""
+        has_memory, is_there = memory in (1, 2), memory == 1 or page.shows_past()
+        if page.given_back() and has_memory and not page.out:
+            page.same = False
+        if not page.out and has_memory and (page.belief in SHOWING or page.shows_past()):
+            return FIND_COPY
+        if not (is_there and is_ready and page.is_free(facts)):
+            return OVER
+        act = self.act(page, look, number)
+        if act == MEET or self.glances(page, act, look, number):
+            return GLANCE
+        return {PASS: OVER, KEEP: self.found(fingerprint_of(page)), TO_READ: READ}[act]
+
+    def done(self, page: Page, step: int, look: int, number: int, fingerprint: int, glance: int, is_own: bool) -> int:
+        """What comes of a step, and what is done next."""
+        if step == FIND_COPY and is_own:
+            page.written()
+            page.stop_past()
+        if step == GLANCE:
+            act = self.act(page, look, number)
+            if self.glances(page, act, look, number) and glance != page.clue:
+                act = MEET
+            if act == MEET:
+                met(page, number, glance)
+            return {PASS: OVER, MEET: OVER, KEEP: self.found(fingerprint_of(page)), TO_READ: READ}[act]
+        if step == READ:
+            read(page, fingerprint, glance)
+            return self.found(fingerprint) if page.looks >= STILL else OVER
+        if step == COUNT:
+            page.asks, page.seen = more(page.asks), True
+        return OVER
+
+    # ---- what becomes of its rest ----
+
+    def set_rest(self, changes: int, own: int) -> None:
+        """A look found so many idle pages that have changed, and so many with memory of their own. It rests longer where next to nothing has."""
+        changes += max(own - self.own, 0)
+        if changes * CALM_PART > own:
+            self.rest = self.left = 0
+        elif self.left == 0:
+            self.rest = self.left = min(self.rest * 2 + 1, self.rest_most)
+        else:
+            self.left -= 1
+        self.own, self.is_still = own, changes == 0
+
+
+def more(asks: int) -> int:
+    return min(asks + 1, ASKS_MOST)
+
+
+def is_again(page: Page) -> bool:
+    """It is idle, and was asked about in vain most often."""
+    return page.looks >= STILL and page.asks >= ASKS_MOST
+
+
+def fingerprint_of(page: Page) -> int:
+    return page.slot | page.frame << 32
+
+
+def note(page: Page, fingerprint: int) -> None:
+    """Its fingerprint, which has no place where it has a slot."""
+    if page.belief not in WITH_SLOT:
+        page.slot, page.frame = fingerprint & 0xFFFFFFFF, fingerprint >> 32
+
+
+def met(page: Page, number: int, glance: int) -> None:
+    """A glance found that it has changed, or that it is new."""
+    note(page, number if page.looks == 0 else fingerprint_of(page))
+    page.asks = more(page.asks) if 0 < page.looks < STILL else 0
+    page.clue, page.looks, page.seen = glance % 32768, 1, False
+
+
+def read(page: Page, fingerprint: int, glance: int) -> None:
+    """It was read. What has memory of its own was glanced at before, so that this counts as well."""
+    was_read, first = page.looks > (0 if page.over else 1), 1 if page.over else 2
+    if not page.over:
+        page.clue = glance % 32768
+    if was_read and fingerprint == fingerprint_of(page):
+        page.asks = 0 if page.looks < STILL else page.asks
+        page.looks = min(page.looks + 1, STILL)
+    else:
+        page.asks = more(page.asks) if was_read and page.looks < STILL else 0
+        page.looks = first
+        note(page, fingerprint)
+    page.seen = page.seen and page.looks > first

@@ -1,0 +1,72 @@
+"""Windows that come and go as chance has it, beside a list of which numbers are taken; and pins and transfers beside lists."""
+from __future__ import annotations
+
+import random
+
+from common.compared import Compared
+from common.window_library import Library, values_of
+from harness import Tally
+
+# The numbers that there may be, the windows, and the moves.
+NUMBERS, WINDOWS, MOVES = 512, 8, 5_000
+PINS, PINS_MOST, PLACES = 6, 65535, 3
+
+
+def numbers(library: Library, seen: Compared, chance: random.Random) -> None:
+    """A new window gets the least numbers in a row that are free."""
+    windows = [(0, 0)] * WINDOWS
+    for _ in range(MOVES):
+        place, count = chance.randrange(WINDOWS), 1 + chance.randrange(20)
+        windows[place] = (0, 0)
+        if chance.random() < 0.5:
+            taken = {number for base, many in windows for number in range(base, base + many)}
+            due = next(base for base in range(NUMBERS) if not taken & set(range(base, base + count)))
+            base = library.make("uint32_t")
+            seen.holds("find_numbers", library.call("find_numbers", library.array("taken", windows), WINDOWS, count, base))
+            seen.equal("a base", base.value, due)
+            windows[place] = (due, count)
+
+
+def pins(library: Library, seen: Compared, chance: random.Random) -> None:
+    """Pages are pinned and unpinned together, or not at all."""
+    table = library.array("uint16_t", [0, 0, PINS_MOST - 1, 0, 0, 0])
+    known = list(values_of(table))
+    for _ in range(MOVES):
+        first, count, by = chance.randrange(PINS + 2), chance.choice([0, 1, 2, 3, PINS]), chance.choice([1, -1])
+        due = first + count <= PINS and all(0 <= it + by <= PINS_MOST for it in known[first : first + count])
+        seen.equal("pin or unpin", library.call("pin" if by == 1 else "unpin", table, PINS, first, count), due)
+        known = [it + by if due and first <= at < first + count else it for at, it in enumerate(known)]
+        seen.equal("pins", values_of(table), tuple(known))
+
+
+def transfers(library: Library, seen: Compared, chance: random.Random) -> None:
+    """Transfers have the first free place, or are counted, and are under way of what they are of."""
+    table, elsewhere = library.array("transfer", [()] * PLACES), library.make("uint64_t")
+    known: list[tuple[int, int] | None] = [None] * PLACES
+    many = 0
+    for _ in range(MOVES):
+        begin = chance.randrange(40)
+        end = begin + chance.randrange(10)
+        if chance.random() < 0.5:
+            place = known.index(None) if None in known else PLACES
+            seen.equal("begin_transfer", library.call("begin_transfer", table, PLACES, elsewhere, begin, end), place)
+            many += place == PLACES
+            known[place : place + 1] = [(begin, end)] if place < PLACES else []
+        else:
+            place = chance.randrange(PLACES + 1)
+            library.call("end_transfer", table, PLACES, elsewhere, place)
+            many = max(many - (place == PLACES), 0)
+            known[place : place + 1] = [None] if place < PLACES else []
+        seen.equal("elsewhere", elsewhere.value, many)
+        there, at = chance.randrange(PLACES + 1), chance.randrange(40)
+        to = at + chance.randrange(6)
+        due = any(it[0] < to and at < it[1] for it in [it for it in known if it][:there])
+        seen.equal("is_in_transfer", library.call("is_in_transfer", table, PLACES, there, at, to), due)
+
+
+def run(tally: Tally, library: Library) -> None:
+    """Numbers, pins and transfers."""
+    seen, chance = Compared(tally, "numbers, pins and transfers as chance has it"), random.Random(1)
+    for part in (numbers, pins, transfers):
+        part(library, seen, chance)
+    seen.close()

@@ -1,0 +1,250 @@
+"""Pages of two parts that become what chance has it, beside a field for each fact of each page (common/plain_page.py)."""
+from __future__ import annotations
+
+import collections
+import random
+from typing import Any
+
+from common.compared import Compared
+from common.plain_page import COPIED, DONE, FACTS, LEAVING, LENT, REFUSED, UNANSWERED, UNRELEASED, Facts, Page, sums
+from common.window_library import Library, values_of
+from harness import Tally
+
+# The pages of a table, of which three are in its first part. They are made anew so many times, and each time there are so many calls.
+PAGES, LEAD = 8, 509
+ROUNDS, CALLS = 20, 1500
+# What has to come up how often, so that the calls are worth something: pages to release, lent, of zeros, of the past and shareable.
+LEAST = (5000, 2000, 1000, 300, 5000)
+SIZE = 4096
+
+
+def some_facts(chance: random.Random) -> Facts:
+    """Facts, of which most keep no page from being lent."""
+    which = chance.randrange(128)
+    return Facts(which == 0, which in (1, 2), which % 8 == 3, which in (2, 4), which == 5, which == 6, which == 7)
+
+
+def is_met(transfers: list[tuple[int, int, bool]], there: int, begin: int, end: int) -> bool:
+    """Whether one of the first transfers that are there is under way between two addresses."""
+    return any(at < end and begin < to for at, to, _ in [it for it in transfers if it[2]][:there])
+
+
+class Table:
+    """A table of pages for the library, and what is known of each page."""
+
+    def __init__(self, library: Library, seen: Compared, chance: random.Random) -> None:
+        self.library, self.seen, self.chance = library, seen, chance
+        self.pages, self.parts = library.array("page", [()] * PAGES), library.array("counts", [()] * 2)
+        self.known = [Page() for _ in range(PAGES)]
+        self.kinds: collections.Counter[int] = collections.Counter()
+
+    def part_of(self, at: int) -> int:
+        return (LEAD + at) // 512
+
+    def facts(self, facts: Facts) -> Any:
+        return self.library.make("facts", **{name: getattr(facts, name) for name in FACTS})
+
+    def call(self, name: str, at: int, *words: Any) -> Any:
+        """A call for one page, which takes its part's counts."""
+        return self.library.call(name, self.pages[at], self.parts[self.part_of(at)], *words)
+
+    def call_many(self, name: str, first: int, count: int, *words: Any) -> None:
+        """A call for pages in a row."""
+        self.seen.holds(name, self.library.call(name, self.pages, PAGES, self.parts, 2, LEAD, first, count, *words))
+
+    # ---- calls for one page ----
+
+    def choose(self, at: int) -> None:
+        facts, is_zeros = some_facts(self.chance), self.chance.random() < 0.5
+        self.seen.equal("is_free", self.library.call("is_free", self.pages[at], self.facts(facts)), self.known[at].is_free(facts))
+        self.seen.equal("choose", self.call("choose", at, self.facts(facts), is_zeros), self.known[at].choose(facts, is_zeros))
+
+    def order(self, at: int) -> None:
+        facts = some_facts(self.chance)
+        self.seen.equal("next", self.call("next", at, self.facts(facts)), self.known[at].next(facts))
+
+    def take(self, at: int) -> None:
+        """Takes an outcome, which the page's order may have or not. Of some no answer comes: then the page is written so."""
+        known, which = self.known[at], self.chance.randrange(16)
+        if which == 0 and known.ordered and known.belief in (COPIED, LEAVING):
+            known.belief, known.ordered = {COPIED: UNANSWERED, LEAVING: UNRELEASED}[known.belief], False
+            self.pages[at].belief, self.pages[at].looks = known.bytes()[3:]
+        elif which <= 4:
+            slot, frame = self.chance.randrange(2**32), self.chance.randrange(2**32)
+            self.seen.equal(LENT, self.call(LENT, at, slot, frame), known.take(LENT, slot, frame))
+        else:
+            outcome = REFUSED if which == 5 else DONE
+            self.seen.equal(outcome, self.call(outcome, at), known.take(outcome))
+
+    def hear(self, at: int) -> None:
+        self.seen.equal("written", self.call("written", at), self.known[at].written())
+
+    def note(self, at: int) -> None:
+        """Notes something of the page's content, or takes its order back."""
+        is_so, which, known = self.chance.random() < 0.5, self.chance.randrange(5), self.known[at]
+        if which == 0:
+            self.call("give_back", at, is_so)
+            known.give_back(is_so)
+        elif which == 1:
+            self.call("stop_past", at)
+            known.stop_past()
+        elif which == 2:
+            self.call("see", at, is_so)
+            known.seen = is_so
+        elif which == 3:
+            self.call("forget", at)
+            known.forget()
+        else:
+            self.library.call("withdraw", self.pages[at])
+            known.ordered = False
+
+    def look(self, at: int) -> None:
+        """What looks note of a page."""
+        known, was_held = self.known[at], self.chance.random() < 0.5
+        which = self.chance.choice(["asked", "asked_last", "ask_at_once", "held"])
+        self.call(which, at, *([was_held] if which == "held" else []))
+        known.asks = {"asked": min(known.asks + 1, 3), "asked_last": 3, "ask_at_once": 0, "held": 0 if was_held else 3}[which]
+        if which == "held":
+            known.looks = 0 if was_held else 1
+        if which == "ask_at_once":
+            known.seen = False
+
+    # ---- calls for pages in a row ----
+
+    def put(self, first: int, count: int) -> None:
+        """Something is put at the places of pages. What lies behind memory that was moved begins what was moved, if it was."""
+        known = self.known[first : first + count]
+        if self.chance.random() < 0.5:
+            frame = self.chance.choice([self.chance.randrange(2**32 - PAGES), 32768 * self.chance.randrange(4) - 2 & 0xFFFFFF])
+            self.call_many("cover", first, count, frame)
+            for behind, page in enumerate(known):
+                page.cover(frame + behind)
+        else:
+            moved = self.chance.random() < 0.5
+            self.call_many("uncover", first, count, moved)
+            for behind, page in enumerate(known):
+                page.uncover(moved, moved and behind == 0)
+        if count and first + count < PAGES:
+            self.known[first + count].begin()
+
+    def end(self, first: int, count: int) -> None:
+        """The content of pages, their places or their lender is gone."""
+        which = self.chance.choice(["unmap", "leave", *["detach"] * 6, "give_up", "give_up"])
+        self.call_many(which, first, count)
+        for page in self.known[first : first + count]:
+            getattr(page, which)()
+
+    def ask(self, first: int, count: int) -> None:
+        """What changes nothing: of each page by its own facts, and of pages in a row."""
+        chance, library = self.chance, self.library
+        pins = [chance.choice([0, 0, 0, 1]) for _ in range(chance.choice([0, 0, PAGES]))]
+        at = chance.choice([65536, 2**64 - 3 * SIZE])
+        moves = [(at + chance.randrange(PAGES * SIZE), chance.randrange(2 * SIZE), chance.random() < 0.5) for _ in range(chance.choice([0, 2]))]
+        moves = [(begin % 2**64, min(begin % 2**64 + length, 2**64 - 1), is_there) for begin, length, is_there in moves]
+        bits = [chance.random() < 0.05 for _ in range(5)]
+        table = library.make("table_facts", at=at, there=chance.randrange(3), elsewhere=chance.choice([0, 0, 0, 1]))
+        table.may_pin, table.inherited, table.locked, table.ends, table.is_over = bits
+        why = some_facts(chance)
+
+        def facts_of(page: int, why: Facts) -> Facts:
+            begin, end = min(at + page * SIZE, 2**64 - 1), min(at + (page + 1) * SIZE, 2**64 - 1)
+            pinned = why.pinned or (page < len(pins) and pins[page] > 0) or is_met(moves, table.there, begin, end)
+            return Facts(why.called, pinned, why.may_pin or bits[0] or table.elsewhere > 0, why.inherited or bits[1], why.locked or bits[2],
+                         why.leaves, why.ended or bits[3] or bits[4])
+
+        given = [table, library.array("uint16_t", pins), len(pins), library.array("transfer", moves), len(moves)]
+        found = library.make("facts")
+        library.call("find_facts", *given, self.facts(why), first, found)
+        self.seen.equal("find_facts", values_of(found), tuple(getattr(facts_of(first, why), name) for name in FACTS))
+        all_of, is_there = range(first, min(first + count, PAGES)), first + count <= PAGES
+        due = is_there and all(self.known[it].may_go_on(facts_of(it, why)) for it in all_of)
+        self.seen.equal("may_go_on", library.call("may_go_on", self.pages, PAGES, *given, self.facts(why), first, count), due)
+        due = is_there and all(self.known[it].is_movable(facts_of(it, Facts())) for it in all_of)
+        self.seen.equal("are_movable", library.call("are_movable", self.pages, PAGES, *given, first, count), due)
+        due = is_there and all(self.known[it].may_go_on(Facts()) for it in all_of)
+        self.seen.equal("may_give_up", library.call("may_give_up", self.pages, PAGES, first, count), due)
+        is_copy = chance.random() < 0.5
+        self.seen.equal("stays", library.call("stays", self.pages[first], self.facts(why), is_copy), self.known[first].stays(why, is_copy))
+
+    def ask_runs(self) -> None:
+        """How far what is so of the first page goes on."""
+        first = self.known[0]
+        here = [not it.out or it.over for it in self.known]
+        for name, due in (
+            ("alike", [(it.over, it.out) == (first.over, first.out) for it in self.known]),
+            ("here", [it == here[0] for it in here]),
+            ("before_release", [not it.to_release() or it.ordered for it in self.known]),
+        ):
+            self.seen.equal(name, self.library.call(name, self.pages, PAGES), [*due, False].index(False))
+
+    def mappings(self, first: int, count: int) -> None:
+        """How many mappings the pages take, where some parts are whole."""
+        whole = [self.chance.random() < 0.5 for _ in range(2)]
+        parts = self.library.array("part", [(it, 0, 0, 0, 0, False, False, 0) for it in whole])
+
+        def are_one(at: int) -> bool:
+            one, other = self.known[at - 1], self.known[at]
+            if one.over != other.over:
+                return False
+            if one.over:
+                return one.past == other.past and (one.clue + 1) % 32768 == other.clue
+            return one.moved == other.moved and not other.begins and whole[self.part_of(at - 1)] == whole[self.part_of(at)]
+
+        begins = [at == 0 or not are_one(at) for at in range(PAGES)]
+        due = sum(begins[first : first + count + 1])
+        words = (self.pages, PAGES, parts, 2, LEAD, first, count)
+        self.seen.equal("mappings_at", self.library.call("mappings_at", *words), due)
+        self.seen.equal("mappings_more", self.library.call("mappings_more", *words), min(count + 1, PAGES - first) - due)
+
+    # ---- all of them ----
+
+    def go_on(self) -> None:
+        """A call, after which the pages and the counts of their parts are as they are known."""
+        at, which = self.chance.randrange(PAGES), self.chance.randrange(128)
+        count = min(self.chance.randrange(PAGES + 1 - at), self.chance.choice([1, 2, 2, 8]))
+        if which < 12:
+            self.choose(at)
+        elif which < 50:
+            self.order(at)
+        elif which < 100:
+            self.take(at)
+        elif which < 102:
+            self.hear(at)
+        elif which < 106:
+            self.ask(at, self.chance.randrange(PAGES + 2))
+        elif which < 108:
+            self.mappings(at, self.chance.randrange(PAGES + 2))
+            self.ask_runs()
+        elif which < 111:
+            self.put(at, count)
+        elif which < 117:
+            self.note(at)
+        elif which < 121:
+            self.look(at)
+        elif which < 126:
+            self.choose(at)
+        else:
+            self.end(at, count)
+        self.check(which)
+
+    def check(self, which: int) -> None:
+        self.seen.equal(f"the pages after {which}", values_of(self.pages), tuple(page.bytes() for page in self.known))
+        counts = [sums(self.known[:3]), sums(self.known[3:])]
+        self.seen.equal(f"the counts after {which}", values_of(self.parts), tuple(counts))
+        self.kinds.update(kind for kind in range(5) if counts[0][kind] or counts[1][kind])
+
+
+def run(tally: Tally, library: Library) -> None:
+    """Calls for the pages of tables, each made anew."""
+    seen, chance = Compared(tally, "pages as chance has it"), random.Random(5)
+    kinds: collections.Counter[int] = collections.Counter()
+    for _ in range(ROUNDS):
+        table = Table(library, seen, chance)
+        for _ in range(CALLS):
+            table.go_on()
+            if seen.wrong > 3:
+                break
+        kinds.update(table.kinds)
+    seen.close()
+    for kind, least in enumerate(LEAST):
+        tally.holds(f"how often count {kind} of a part isn't 0", kinds[kind] > least, kinds[kind], f"more than {least}")
