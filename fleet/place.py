@@ -2,16 +2,15 @@
 """Chooses a host for each guest so that sharing reclaims more, and prints the moves (fleet/README.md).
 
     fleet/place.py [--hosts FILE] [--memory FILE] [--apart FILE] [--together FILE] [--fixed FILE] [--moves N] [--spare MIB]
-                   [--seconds S] [--json] [--plan FILE] [--svg FILE] (DIGEST .. | --contents FILE)
+                   [--json] [--plan FILE] [--svg FILE] (DIGEST .. | --contents FILE)
 
 Where the guests are now is read from their names, or from --hosts, as `pageshare fleet` does it. --memory has the hosts' memory, as
 CSV with the head host,memory, in MiB; by default a host has as much as the guests on it have now. The lines of --apart and --together
 are guests with commas between them, which may not be on one host and which must be. --fixed has a guest on each line, which stays.
 --moves is the most guests that are moved. Without --spare a host never gets more guest memory than it has; with it a host may get
-more, as long as so many MiB are left beside the frames that sharing leaves. --seconds is the time, by default 20, of which three fifths
-are for the search and the rest for a bound of what any plan could reclaim. --plan writes the placement for `pageshare fleet --hosts`,
-and --svg a picture of each host before and after. --contents is a table that fleet_dask.py wrote. Needs Debian's python3-numpy and
-python3-scipy.
+more, as long as so many MiB are left beside the frames that sharing leaves. --plan writes the placement for `pageshare fleet --hosts`,
+and --svg a picture of each host before and after. --contents is a table that fleet_dask.py wrote. greedy.py says how hosts are chosen.
+Needs Debian's python3-numpy and python3-scipy.
 """
 from __future__ import annotations
 
@@ -21,8 +20,7 @@ import csv
 import dataclasses
 import json
 import sys
-import time
-from collections.abc import Iterable, Mapping, Sequence
+from collections.abc import Callable, Iterable, Mapping, Sequence
 from typing import Any, TextIO
 
 try:
@@ -31,21 +29,15 @@ try:
 except ImportError:
     sys.exit("fleet/place.py needs numpy and scipy: apt-get install python3-numpy python3-scipy")
 
-import bounds
 import digests
+import greedy
 import guests as of_guests
 import order
 import picture
-import reachable
-from exact import Program
 from hosts import host_of, listed_hosts
-from placing import Placement, Problem
-from search import search
+from placing import Problem
 
 PAGES_OF_A_MEBIBYTE = 256
-MOST_EXACT = 30
-# The rest of the time is for the bound.
-PART_TO_SEARCH = 0.6
 
 
 def lines_of(path: str | None) -> list[list[str]]:
@@ -70,6 +62,10 @@ def table_of(path: str | None, head: list[str]) -> dict[str, str]:
     if len(found) != len(rows) - 1:
         raise ValueError(f"{path}: give each {head[0]} once")
     return found
+
+
+# The object of a plan, and each guest's host after it.
+Plan = tuple[dict[str, Any], numpy.ndarray]
 
 
 class Asked:
@@ -144,29 +140,16 @@ class Asked:
             fixed[unit], start[unit] = True, host
         return start, fixed
 
+    def limits(self) -> numpy.ndarray:
+        """The frames that each host may need while guests are moved."""
+        return self.memory - (self.words.spare or 0) * PAGES_OF_A_MEBIBYTE
+
     def spread(self, host_of: Sequence[int]) -> numpy.ndarray:
         """The host of each guest, from those of the units."""
         found = numpy.empty(len(self.guests.names), int)
         for unit, inside in enumerate(self.units):
             found[inside] = host_of[unit]
         return found
-
-
-def solved(problem: Problem, seconds: float) -> tuple[Placement, float, str]:
-    """The best placement that is found, a lower bound of its frames, and how that is known."""
-    begun = time.monotonic()
-    found = []
-    candidates = [search(problem, lambda: time.monotonic() - begun > PART_TO_SEARCH * seconds)]
-    if len(problem.start) <= MOST_EXACT:
-        host_of, proved = Program(problem).solved(max(1, seconds / 2))
-        found += [] if proved is None else [(proved, "a mixed-integer program")]
-        candidates += [] if host_of is None else [Placement(problem, host_of)]
-    sound = [one for one in candidates if one.is_sound()]
-    if not sound:
-        raise ValueError("no placement was found that holds what must hold")
-    placement = min(sound, key=Placement.key)
-    found.append(bounds.best(problem, placement.frames(), lambda: time.monotonic() - begun > seconds))
-    return placement, *max(found)
 
 
 def report(asked: Asked, moves: Iterable[tuple[int, int]], bound: float, how: str) -> dict[str, Any]:
@@ -202,63 +185,41 @@ def print_table(found: Mapping[str, Any], out: TextIO = sys.stdout) -> None:
         print(f"so this one reclaims at least {100 * (before - after) / (before - bound):.1f} % of what any such plan reclaims", file=out)
 
 
-def planned(asked: Asked) -> tuple[dict[str, Any], numpy.ndarray]:
-    """The object of the best plan that is found, and each guest's host after it."""
-    problem = asked.problem()
-    if len(asked.hosts) ** len(asked.host_of) <= reachable.MOST:
-        return planned_whole(asked, problem)
-    limits, apart = problem.memory - (problem.spare or 0), asked.groups(asked.words.apart)
+def planned(asked: Asked) -> Plan:
+    """The object of a plan, and each guest's host after it."""
+    problem, guests = asked.problem(), asked.guests
+    pool = float(guests.own_frames.sum() + guests.weight.sum())
     while True:
-        placement, bound, how = solved(problem, asked.words.seconds)
+        placement = greedy.placed(problem)
         target = asked.spread(placement.host_of)
         try:
-            moves = order.ordered(asked.guests, asked.host_of, target, limits, apart)
+            moves = order.ordered(guests, asked.host_of, target, asked.limits(), asked.groups(asked.words.apart))
         except order.NoOrder:
             # (fewer moves may have an order)
             if placement.moved == 0:
                 raise
             problem = dataclasses.replace(problem, most_moves=placement.moved // 2)
         else:
-            return report(asked, moves, bound, how), target
+            return report(asked, moves, pool, "one host with all guests"), target
 
 
-def planned_whole(asked: Asked, problem: Problem) -> tuple[dict[str, Any], numpy.ndarray]:
-    """The same for a fleet so small that all placements can be tried."""
-    limits, groups = problem.memory - (problem.spare or 0), asked.groups(asked.words.apart)
-    whole = reachable.Reachable(asked.guests, asked.host_of, limits, order.rivals_of(groups, len(asked.host_of)))
-    fixed = {guest for unit, inside in enumerate(asked.units) if problem.fixed[unit] for guest in inside if len(inside) == 1}
-
-    def holds(place: Sequence[int]) -> bool:
-        units = [[place[guest] for guest in inside] for inside in asked.units]
-        if any(len(set(hosts)) > 1 for hosts in units):
-            return False
-        placement = Placement(problem, [hosts[0] for hosts in units])
-        return (placement.host_of == problem.start)[problem.fixed].all() and placement.is_sound()
-
-    found = whole.best(holds, fixed)
-    if found is None:
-        raise ValueError("no placement was found that holds what must hold")
-    target, moves = found
-    return report(asked, moves, whole.frames(tuple(target)), "trying all placements"), target
-
-
-def words_of(arguments: Sequence[str] | None) -> argparse.Namespace:
-    words = argparse.ArgumentParser(usage=__doc__.split("\n\n")[1].strip())
+def options(usage: str) -> argparse.ArgumentParser:
+    """What the words may be."""
+    words = argparse.ArgumentParser(usage=usage)
     for name in ("hosts", "memory", "apart", "together", "fixed", "plan", "svg", "contents"):
         words.add_argument(f"--{name}")
     words.add_argument("--moves", type=int)
     words.add_argument("--spare", type=float)
-    words.add_argument("--seconds", type=float, default=20)
     words.add_argument("--json", action="store_true")
     words.add_argument("digests", nargs="*")
-    asked = words.parse_args(arguments)
-    if bool(asked.contents) == bool(asked.digests):
-        words.error("give digests, or --contents")
-    return asked
+    return words
 
 
-def main(arguments: Sequence[str] | None = None) -> int:
-    words = words_of(arguments)
+def run(options: argparse.ArgumentParser, planned: Callable[[Asked], Plan]) -> int:
+    """Prints a plan as the words ask for it."""
+    words = options.parse_args()
+    if bool(words.contents) == bool(words.digests):
+        options.error("give digests, or --contents")
     try:
         asked = Asked(words)
         found, target = planned(asked)
@@ -280,4 +241,4 @@ def main(arguments: Sequence[str] | None = None) -> int:
 
 
 if __name__ == "__main__":
-    sys.exit(main())
+    sys.exit(run(options(__doc__.split("\n\n")[1].strip()), planned))

@@ -1,7 +1,6 @@
 """Guests on hosts: what a placement needs in frames, and which moves and swaps save some. Needs numpy and scipy."""
 from __future__ import annotations
 
-import copy
 import dataclasses
 import functools
 from collections.abc import Iterable, Iterator, Sequence
@@ -49,22 +48,6 @@ class Problem:
         """What each host may hold: guests' pages, or with --spare frames."""
         return self.memory - (self.spare or 0)
 
-    def part(self, hosts: numpy.ndarray, host_of: numpy.ndarray) -> tuple[Problem, numpy.ndarray]:
-        """The problem of these hosts and the units on them, with the hosts in this order; and the units."""
-        place = {int(host): number for number, host in enumerate(hosts)}
-        units = numpy.flatnonzero(numpy.isin(host_of, hosts))
-        number = {int(unit): at for at, unit in enumerate(units)}
-        has = self.has[units]
-        holders = numpy.bincount(has.indices, minlength=has.shape[1])
-        common = numpy.flatnonzero(holders > 1)
-        return Problem(
-            has=has[:, common], weight=self.weight[common], own=self.own[units] + has @ (self.weight * (holders == 1)),
-            pages=self.pages[units], sizes=self.sizes[units], memory=self.memory[hosts], stays={},
-            start=numpy.array([place[int(host)] for host in host_of[units]]),
-            apart=[[number[unit] for unit in group if unit in number] for group in self.apart],
-            fixed=self.fixed[units], spare=self.spare, most_moves=None,
-        ), units
-
 
 class Placement:
     """Which host each unit is on, and what follows from it."""
@@ -77,12 +60,6 @@ class Placement:
         self.pages = numpy.bincount(self.host_of, problem.pages, hosts)
         self.own = numpy.bincount(self.host_of, problem.own, hosts)
         self.moved = sum(problem.moves(unit, host) for unit, host in enumerate(self.host_of))
-
-    def copied(self) -> Placement:
-        """The same placement, apart from this one."""
-        other = copy.copy(self)
-        other.__dict__.update((name, value.copy()) for name, value in vars(self).items() if isinstance(value, numpy.ndarray))
-        return other
 
     # (these two cost most of all, and aren't needed to compare placements)
     @functools.cached_property
