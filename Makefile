@@ -1,4 +1,4 @@
-.PHONY: test edits check build demo install uninstall dist package traces commands estimate fleet no-thread embed windows guests host fuzz tenants soak hints bench bench-v3
+.PHONY: packages test edits check build demo install uninstall dist package traces commands estimate fleet no-thread embed windows guests host fuzz tenants soak hints bench bench-v3
 
 # The gate is these three commands. They say how far they are and what failed, and leave the times of their steps at out/gate.tsv. On
 # a computer that has run none of it all is done from nothing.
@@ -7,9 +7,14 @@
 test:
 	tools/gate.py test
 
-# The wrong bodies that the prover must refuse, tried over what `make test` proved.
+# The wrong bodies that the prover must refuse, tried over what `make test` proved: those that are new or stand on something that changed,
+# and a tenth of the others. With ALL=1 all of them.
 edits:
-	tools/gate.py edits
+	tools/gate.py edits $(if $(ALL),--all)
+
+# The packages of Debian that `make check` needs, installed by apt-get (root).
+packages:
+	tools/gate.py packages
 
 # What isn't proved of the product, built and run over the libraries that `make test` proved: all of C, C++, Rust and packaging.
 check:
@@ -56,17 +61,9 @@ package: dist
 out/window_trace: $(SOURCES)
 	tools/build.py window_trace $@
 
-# A first look: two guests' scans meet, a thread for each; and what sharing would reclaim of two images. The program is built once,
-# and run on each case of a folder: a file is its standard input, and NAME.args has its words.
-CASES = out/demo/cases
+# A first look: two guests' scans meet, a thread for each; and what sharing would reclaim of two images.
 demo:
-	@echo 'This build is for a first look and is not proved; make build makes the proved program. It takes up to 90 s.'
-	@examples/make_images.py out/demo
-	@rm -rf $(CASES) && mkdir $(CASES)
-	@cp examples/scans-meet.script $(CASES)/run && echo run > $(CASES)/run.args
-	@touch $(CASES)/estimate && printf '%s\n' estimate $(CURDIR)/out/demo/web.raw $(CURDIR)/out/demo/database.core > $(CASES)/estimate.args
-	@cd crates/pageshare && rt try --cases $(CURDIR)/$(CASES) > $(CURDIR)/out/demo/log 2>&1 || { cat $(CURDIR)/out/demo/log; exit 1; }
-	@sed -n -f examples/demo.sed out/demo/log
+	@examples/first_look.py out/demo
 
 # What follows is run by itself. docs/TESTING.md says which of it the gate runs as well, shortened or whole.
 
@@ -161,9 +158,9 @@ HOST_LIBRARY = out/libpageshare_host.a
 WINDOW_LIBRARY = out/libpageshare_window.a
 HOST_FLAGS = -std=c11 -O2 -g -Wall -Wextra -Wconversion -Werror -pthread -Ilib/include -Iwindow -Ihost $(CFLAGS)
 HOST_LINK = -Wl,--wrap=memset
-HOST_SOURCES = $(wildcard host/*.c host/daemon/*.c) window/lines.c
+HOST_SOURCES = $(wildcard host/*.c host/daemon/*.c) window/lines.c window/lender/bus.c
 WINDOW_SOURCES = $(wildcard host/*.c host/preload/*.c window/*.c)
-HOST_HEADERS = $(wildcard host/*.h host/*/*.h window/*.h lib/include/*.h)
+HOST_HEADERS = $(wildcard host/*.h host/*/*.h window/*.h window/lender/bus.h lib/include/*.h)
 
 out/host/pageshare-host: $(HOST_SOURCES) $(HOST_HEADERS) $(HOST_LIBRARY)
 	@mkdir -p $(@D)

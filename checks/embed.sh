@@ -44,9 +44,14 @@ good() {
 leave_out() {
     skipped=$((skipped + 1))
     echo "left out: $1${2:+ (Debian\'s $2)}"
-    if [ "${NOTHING_LEFT_OUT:-}" = 1 ] && [ -n "${2:-}" ] && apt-cache policy "$2" 2> /dev/null | grep -q 'Candidate: [^(]'; then
-        lacking=$((lacking + 1))
-        echo "nothing may be left out here: there is a package $2"
+    if [ "${NOTHING_LEFT_OUT:-}" = 1 ] && [ -n "${2:-}" ]; then
+        case $(LC_ALL=C apt-cache policy "$2" 2> /dev/null) in
+        *'Candidate: ('* | '') ;;
+        *)
+            lacking=$((lacking + 1))
+            echo "nothing may be left out here: there is a package $2"
+            ;;
+        esac
     fi
 }
 

@@ -70,13 +70,21 @@ def needs(what: str, *programs: str) -> None:
             raise LeftOut(f"{what}, since there is no {program}", PACKAGES.get(pathlib.Path(program).name))
 
 
+def known_packages(names: Iterable[str]) -> set[str]:
+    """Those of these packages of Debian that this computer's apt-get could install."""
+    wanted = list(names)
+    if not wanted or shutil.which("apt-cache") is None:
+        return set()
+    how = {**os.environ, "LC_ALL": "C"}
+    words = ["apt-cache", "policy", *wanted]
+    said = subprocess.run(words, env=how, stdin=subprocess.DEVNULL, capture_output=True, text=True, check=False).stdout
+    return set(re.findall(r"(?m)^(\S+):\n.*\n  Candidate: (?!\(none\))", said))
+
+
 @functools.cache
 def has_package(package: str) -> bool:
     """Whether this computer's apt-get could install a package of Debian."""
-    if shutil.which("apt-cache") is None:
-        return False
-    said = subprocess.run(["apt-cache", "policy", package], stdin=subprocess.DEVNULL, capture_output=True, text=True, check=False).stdout
-    return bool(re.search(r"Candidate: (?!\(none\))", said))
+    return package in known_packages([package])
 
 
 def must_not_lack(package: str | None) -> bool:

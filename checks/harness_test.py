@@ -15,13 +15,14 @@ import io
 import os
 import pathlib
 import re
+import shutil
 import sys
 import types
 from collections.abc import Callable
 from unittest import mock
 
 from common import proved
-from harness import ANY, LATE, Done, LeftOut, Tally, close, counts_of, has_package, leave, needs, new_folder, parting, run, shown
+from harness import ANY, LATE, Done, LeftOut, Tally, close, counts_of, has_package, known_packages, leave, needs, new_folder, parting, run, shown
 
 # A program that repeats its standard input but for so many bytes, says its words on standard error, and ends with a status.
 ECHO = """
@@ -167,6 +168,8 @@ def left_out(plain: Plain) -> None:
     ]:
         plain.same(f"a part that lacks the package {package}, whole: {is_whole}", tallied(is_whole, package), counts)
     plain.same("a package that there isn't", has_package("no-such-package-anywhere"), False)
+    known = {"bash"} if shutil.which("apt-cache") else set()
+    plain.same("packages that there are", known_packages(["no-such-package-anywhere", "bash"]), known)
 
 
 def readable(plain: Plain) -> None:

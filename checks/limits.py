@@ -4,13 +4,15 @@
     checks/limits.py                 looks at the tree as it is
     checks/limits.py NAME=NUMBER     says what would have to change if the limit NAME had this number
 
-Code and clauses cite a limit's constant. Texts for people spell its number, as 65,536, 65536 or 65_536. LIMITS has each constant
-with its file, and the files whose texts spell it. A case fails
+Code, clauses and their comments cite a limit's constant. Its number, as 65,536, 65536 or 65_536, is spelled in documents, in the
+header for C, and in what a user sees when the limit is exceeded. LIMITS has each constant with its file, the words that such a text
+counts in, and the other files that spell it. A case fails
 
 - if a listed file doesn't spell the number that the constant has;
-- if another file spells a limit above 1,000 in the words of SPELLED, such as "1 to 65,536" or "at most 65,536";
-- if a string in a crate has another number above 1,000 in these words, such as the one that a limit had, but for those of FIXED.
-Of tests, the changelog and measurements only listed files are looked at. Prints what fails, and last 'N passed, M failed'.
+- if a string of a crate or of the library for Rust has another number before a word of a limit, such as "1 to 32,768 items" or
+  "at most 65 guests", or any number above 1,000 there that no limit has, but for FIXED;
+- if anything else of a file that isn't listed spells a limit above 1,000 in the words of SPELLED.
+Of tests, proofs, the changelog and measurements only listed files are looked at. Prints what fails, and last 'N passed, M failed'.
 """
 from __future__ import annotations
 
@@ -18,71 +20,49 @@ import argparse
 import re
 import subprocess
 import sys
-from collections.abc import Iterator, Mapping, Sequence
+import typing
+from collections.abc import Iterator, Mapping
 
 from harness import TOP, Tally
 
-# Of each constant: its file, its name, and the files whose texts spell it, those of crates without the folder `crates`.
+# Of each constant: its file, its name, what is counted, and the files that spell it, those of crates without the folder `crates`.
 LIMITS = """
-page_model/src/limits.rt MAX_ACCESS_BYTES page_model/README.md page_model/src/request.rt page_model/src/store.rt
-    page_model/src/load.rt share_rings/src/fault.rt text_words/src/fault.rt text_words/src/expect.rt text_words/specs/Expected.antt
-    command_terms/src/script_faults.rt command_terms/specs/Scripts.antt pageshare_c/src/lib.rt pageshare_c/src/answer.rt
-    lib/include/pageshare.h lib/rust/src/machine.rs lib/rust/src/error.rs docs/MODEL.md docs/FORMATS.md
-page_model/src/limits.rt MAX_GUESTS page_model/README.md page_model/src/machine_shape.rt
-    merge_core/src/fault.rt merge_machine/src/config.rt merge_run/src/run_fault.rt text_words/src/fault.rt text_words/src/expect.rt
-    text_words/specs/Expected.antt journal_text/specs/Headers.antt pageshare_c/src/lib.rt lib/include/pageshare.h
-    lib/rust/src/error.rs docs/MODEL.md docs/FORMATS.md
-    share_text/src/fault.rt share_text/specs/Faults.antt
-page_model/src/limits.rt MAX_PAGES page_model/README.md page_model/src/machine_shape.rt
-    merge_core/src/fault.rt merge_machine/src/config.rt merge_run/src/run_fault.rt text_words/src/fault.rt text_words/src/expect.rt
-    text_words/specs/Expected.antt journal_text/specs/Headers.antt share_table/README.md share_table/src/lib.rt page_bench/README.md
-    pageshare_c/src/lib.rt lib/include/pageshare.h lib/rust/src/error.rs docs/MODEL.md docs/FORMATS.md
-    checks/common/faults.py checks/fuzz.py
-    share_text/src/fault.rt share_text/specs/Faults.antt
-page_model/src/limits.rt MAX_FRAMES page_model/README.md page_model/src/machine_shape.rt machine_frames/README.md
-    machine_frames/src/lib.rt merge_core/src/fault.rt merge_machine/src/config.rt merge_run/src/run_fault.rt text_words/src/fault.rt
-    text_words/src/expect.rt text_words/specs/Expected.antt journal_text/specs/Headers.antt lent_slots/src/machine.rt
-    share_domain/src/config.rt share_domain/src/fault.rt page_bench/README.md worked_cores/README.md worked_stores/src/frames.rt
-    pageshare_c/src/lib.rt lib/include/pageshare.h lib/include/pageshare_host.h host/daemon/domain.c lib/rust/src/domain.rs
-    lib/rust/src/error.rs docs/MODEL.md docs/FORMATS.md docs/HOST.md checks/fuzz.py
-    share_text/src/fault.rt share_text/specs/Faults.antt
-page_model/src/limits.rt MAX_RING_CAPACITY share_rings/README.md share_rings/src/pair.rt merge_machine/README.md
-    merge_machine/src/config.rt merge_run/src/run_fault.rt text_words/src/fault.rt text_words/src/expect.rt
-    text_words/specs/Expected.antt script_text/specs/Texts.antt page_model/edits/one_watch_less.edit
-    merge_machine/edits/always_blocked.edit worked_rings/src/pairs.rt docs/MODEL.md docs/FORMATS.md checks/common/random_texts.py
-    checks/fuzz.py
-    share_text/src/fault.rt share_text/specs/Faults.antt
-page_model/src/limits.rt MAX_ENTRIES merge_machine/src/config.rt merge_run/src/run_fault.rt text_words/src/fault.rt
-    text_words/src/expect.rt text_words/specs/Expected.antt script_text/README.md script_text/specs/Texts.antt
-    journal_text/README.md journal_text/src/journal.rt docs/MODEL.md docs/FORMATS.md checks/fuzz.py checks/common/random_texts.py
-    share_text/src/fault.rt share_text/specs/Faults.antt
-page_model/src/limits.rt MAX_WORKERS merge_machine/src/round.rt page_digest/README.md docs/MODEL.md
-page_model/src/limits.rt MAX_WATCHES watched_machine/src/watch.rt watched_machine/README.md docs/MODEL.md
-page_model/src/limits.rt MAX_TEXT_BYTES text_words/src/fault.rt text_words/src/expect.rt text_words/specs/Expected.antt
-    journal_text/README.md journal_text/specs/Texts.antt journal_replay/README.md script_text/specs/Texts.antt
-    trace_text/specs/Texts.antt worked_texts/src/sentences.rt checks/command_cases/texts.py docs/MODEL.md docs/FORMATS.md
-    share_text/src/fault.rt
-guest_digests/src/sample.rt MAX_SAMPLE guest_digests/README.md guest_digests/specs/Samples.antt digest_text/specs/Fields.antt
-    digest_text/src/fields.rt command_words/src/digest_words.rt guest_digests/src/laws.rt docs/USING.md docs/FORMATS.md
-    worked_digests/src/lists/samples.rt checks/fleet.py
-digest_text/src/name.rt MAX_NAME_BYTES digest_text/README.md command_words/src/digest_words.rt docs/USING.md docs/FORMATS.md
-fleet_census/src/merging.rt MAX_DIGESTS fleet_census/README.md fleet_census/src/fault.rt fleet_census/edits/limit_of_65535.edit
-    command_words/src/help.rt pageshare_commands/README.md docs/USING.md docs/FORMATS.md
-command_terms/src/estimates.rt MOST_WORKERS command_terms/README.md command_words/src/help.rt docs/USING.md
-share_domain/src/config.rt MAX_MACHINES share_domain/src/fault.rt lib/include/pageshare.h lib/include/pageshare_host.h
-    lib/rust/src/domain.rs lib/rust/src/error.rs docs/HOST.md
-share_domain/src/config.rt MAX_CLIENTS share_domain/src/fault.rt lib/include/pageshare.h lib/include/pageshare_host.h
-    lib/rust/src/domain.rs lib/rust/src/error.rs
-recent_fingerprints/src/limits.rt MAX_PLACES recent_fingerprints/README.md host_sessions/src/config.rt lib/include/pageshare.h
-    lib/include/pageshare_host.h host/daemon/domain.c
-    lib/rust/src/domain.rs lib/rust/src/error.rs
-trace_text/src/trace.rt MAX_TRACE_FRAMES trace_text/src/laws.rt docs/FORMATS.md
+page_model/src/limits.rt MAX_ACCESS_BYTES bytes: lib/include/pageshare.h lib/rust/src/machine.rs docs/MODEL.md
+page_model/src/limits.rt MAX_GUESTS guests: lib/include/pageshare.h docs/MODEL.md
+page_model/src/limits.rt MAX_PAGES together slots: lib/include/pageshare.h docs/MODEL.md checks/common/faults.py checks/fuzz.py
+page_model/src/limits.rt MAX_FRAMES frames: lib/include/pageshare.h docs/MODEL.md host/daemon/domain.c checks/fuzz.py
+page_model/src/limits.rt MAX_RING_CAPACITY items requests: docs/MODEL.md page_model/edits/one_watch_less.edit
+    merge_machine/edits/always_blocked.edit checks/common/random_texts.py checks/fuzz.py
+page_model/src/limits.rt MAX_ENTRIES entries requests: docs/MODEL.md checks/common/random_texts.py checks/fuzz.py
+page_model/src/limits.rt MAX_WORKERS: docs/MODEL.md
+page_model/src/limits.rt MAX_WATCHES: docs/MODEL.md watched_machine/src/watch.rt
+page_model/src/limits.rt MAX_TEXT_BYTES bytes: docs/MODEL.md checks/command_cases/texts.py
+guest_digests/src/sample.rt MAX_SAMPLE: command_words/src/digest_words.rt digest_text/src/fields.rt guest_digests/src/laws.rt
+    docs/FORMATS.md checks/fleet.py
+digest_text/src/name.rt MAX_NAME_BYTES of: command_words/src/digest_words.rt docs/FORMATS.md
+fleet_census/src/merging.rt MAX_DIGESTS digests: command_words/src/help.rt fleet_census/edits/limit_of_65535.edit docs/USING.md
+command_terms/src/estimates.rt MOST_WORKERS: command_words/src/help.rt
+share_domain/src/config.rt MAX_MACHINES machines: lib/include/pageshare.h
+share_domain/src/config.rt MAX_CLIENTS clients: lib/include/pageshare.h
+recent_fingerprints/src/limits.rt MAX_PLACES questions: lib/include/pageshare.h host/daemon/domain.c
+trace_text/src/trace.rt MAX_TRACE_FRAMES: trace_text/src/laws.rt docs/FORMATS.md
 """
 # The bytes of a page, and the greatest numbers of 32 and of 64 bits.
 FIXED = {4096, 2**32 - 1, 2**64 - 1}
 NUMBER = r"(?<![\d.,_])(\d{1,3}(?:[,_]\d{3})+|\d+)(?![\d_]|[.,]\d)"
-SPELLED = re.compile(r"(?:\b(?:to|at most|more than|above|up to|fewer than|within the page's|may be)|\|) " + NUMBER)
+SPELLED = r"(?:\b(?:to|at most|more than|above|up to|fewer than|within the page's|may be)|\|) "
 TEXTS = re.compile(r"(?!CHANGELOG|docs/PERFORMANCE|docs/FLEETS|checks/|benches/|crates/worked_)(?!.*/proofs/).*\.(rt|antt|md|h|rs)")
+STRING = re.compile(r'"((?:[^"\\\n]|\\.)*)"')
+# The most that a string names, and what it counts: the next word, or `together`.
+COUNTED = re.compile(rf"(together )?\b(?:to|at most|more than) {NUMBER}(?: (\w+))?")
+
+
+class Limit(typing.NamedTuple):
+    name: str
+    number: int
+    source: str
+    counted: list[str]
+    files: list[str]
 
 
 def number_of(digits: str) -> int:
@@ -93,22 +73,32 @@ def place_of(file: str) -> str:
     return file if (TOP / file).is_file() else f"crates/{file}"
 
 
-def limits(changed: Mapping[str, int]) -> Iterator[tuple[str, int, str, list[str]]]:
-    """Each limit's name, its number, and the files that spell it."""
-    for line in re.sub(r"\n ", " ", LIMITS).split("\n"):
-        if line:
-            source, name, *files = line.split()
-            (value,) = re.findall(rf"pub const {name}: \w+ = ([\d_]+(?: << \d+)?);", (TOP / place_of(source)).read_text())
-            number = changed.get(name) or (int.__lshift__(*map(int, value.split(" << "))) if "<<" in value else number_of(value))
-            yield name, number, place_of(source), [place_of(it) for it in files]
+def limits(changed: Mapping[str, int]) -> Iterator[Limit]:
+    for line in re.sub(r"\n +", " ", LIMITS).strip().split("\n"):
+        head, files = line.split(":")
+        source, name, *counted = head.split()
+        (value,) = re.findall(rf"pub const {name}: \w+ = ([\d_]+(?: << \d+)?);", (TOP / place_of(source)).read_text())
+        number = int.__lshift__(*map(int, value.split(" << "))) if "<<" in value else number_of(value)
+        yield Limit(name, changed.get(name, number), place_of(source), counted, [place_of(it) for it in files.split()])
 
 
-def others(file: str, text: str, listed: Mapping[int, Sequence[str]]) -> list[int]:
-    """The numbers above 1,000 that a file spells in the words of a limit, and may not."""
-    in_strings = "\n".join(it for it in text.splitlines() if '"' in it) if file.endswith(".rt") else ""
-    unknown = {number_of(it) for it in SPELLED.findall(in_strings)} - FIXED - set(listed)
-    unlisted = {it for it in map(number_of, SPELLED.findall(text)) if file not in listed.get(it, [file])}
-    return sorted(it for it in unknown | unlisted if it > 1000)
+def in_string(text: str, known: list[Limit]) -> Iterator[int]:
+    """The numbers in a string that aren't those of the limits that it speaks of."""
+    for together, digits, word in COUNTED.findall(text):
+        number, word = number_of(digits), together.strip() or word
+        due = {it.number for it in known if word in it.counted}
+        if number not in due | FIXED and (due or number > 1000 and number not in {it.number for it in known}):
+            yield number
+
+
+def others(file: str, text: str, known: list[Limit]) -> list[int]:
+    """The numbers that a file spells in the words of a limit, and may not."""
+    has_strings = file.endswith((".rt", ".antt", ".rs"))
+    found = {it for string in STRING.findall(text) for it in in_string(string, known)} if has_strings else set()
+    spelled = {number_of(it) for it in re.findall(SPELLED + NUMBER, STRING.sub("", text) if has_strings else text)}
+    large = {it.number for it in known if it.number > 1000}
+    here = {it.number for it in known if file in (it.source, *it.files)}
+    return sorted(found | (spelled & large) - here)
 
 
 def limit_of(word: str) -> tuple[str, int]:
@@ -120,18 +110,16 @@ def limit_of(word: str) -> tuple[str, int]:
 def main() -> int:
     options = argparse.ArgumentParser(description=__doc__.splitlines()[0])
     options.add_argument("changed", metavar="NAME=NUMBER", nargs="*", type=limit_of, help="look as if this limit had this number")
-    changed = dict(options.parse_args().changed)
+    known = list(limits(dict(options.parse_args().changed)))
     tally = Tally()
-    listed: dict[int, list[str]] = {}
-    for name, number, source, files in limits(changed):
-        listed.setdefault(number, []).extend([source, *files])
-        for file in files:
-            is_spelled = number in map(number_of, re.findall(NUMBER, (TOP / file).read_text()))
-            tally.case(f"{name} in {file}", [] if is_spelled else [f"{number:,} isn't there"])
+    for limit in known:
+        for file in limit.files:
+            is_spelled = limit.number in map(number_of, re.findall(NUMBER, (TOP / file).read_text()))
+            tally.case(f"{limit.name} in {file}", [] if is_spelled else [f"{limit.number:,} isn't there"])
     tracked = subprocess.run(["git", "ls-files", "-co", "--exclude-standard"], cwd=TOP, capture_output=True, text=True, check=True)
     for file in filter(TEXTS.fullmatch, tracked.stdout.splitlines()):
-        found = others(file, (TOP / file).read_text(), listed) if (TOP / file).is_file() else []
-        tally.case(file, [f"{it:,} is spelled as a limit: list the file in checks/limits.py, or mend the number" for it in found])
+        found = others(file, (TOP / file).read_text(), known) if (TOP / file).is_file() else []
+        tally.case(file, [f"{it:,} is spelled as a limit: cite the constant, or mend the number" for it in found])
     return tally.close()
 
 

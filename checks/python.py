@@ -18,7 +18,7 @@ from harness import TOP, LeftOut, Tally, needs, run
 # Each folder, and where its modules find each other, as the scripts there do.
 FOLDERS = {
     "checks": ["checks", "checks/host", "examples", "packaging"], "tools": ["tools", "checks"],
-    "benches": ["benches", "benches/host", "checks", "checks/host", "fleet"], "packaging": ["packaging"], "fleet": ["fleet"],
+    "benches": ["benches", "benches/host", "checks", "checks/host", "fleet"], "packaging": ["packaging"], "fleet": ["fleet", "fleet/study"],
     "examples": ["examples"],
 }
 # The rules that pyproject.toml selects for ruff, but for two that ruff doesn't have.

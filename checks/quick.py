@@ -5,8 +5,8 @@
 
 PROGRAM is by default out/pageshare, and TRACER the program window_trace that was built beside it. Nothing is built here. Runs
 commands.py, 1,000 texts of fuzz.py, 200 journals of tenants.py, ten seconds of soak.py, 100 images of estimate.py, the live process
-of live.py and the traces of traces.py, and prints what they print. The last line is `N passed, M failed`, of all of them (status 0
-where all passed, else 1).
+of live.py, demo.py beside the programs of the demo that the gate left, and the traces of traces.py, and prints what they print. The
+last line is `N passed, M failed`, of all of them (status 0 where all passed, else 1).
 """
 from __future__ import annotations
 
@@ -56,6 +56,7 @@ def main() -> int:
     options.add_argument("tracer", metavar="TRACER", nargs="?")
     given = options.parse_args()
     results = [tried(check, [*words, given.program]) for check, words in CHECKS]
+    results.append(tried("demo.py", [given.program]))
     results.append(tried("traces.py", [given.tracer or beside(str(pathlib.Path(given.program).resolve()))]))
     passed, failed, skipped = map(sum, zip(*results))
     return close(passed, failed, skipped or None)

@@ -1,25 +1,27 @@
 #!/usr/bin/env python3
 """The gate, in three commands; and where its time goes.
 
+    tools/gate.py packages         installs the packages of Debian that `check` needs (`make packages`, as root)
     tools/gate.py test [--anew]    every proof, every test and the runs of the proved program (`make test`)
-    tools/gate.py edits [--anew]   the wrong bodies that the prover must refuse, and the test of the script that tries them
+    tools/gate.py edits [--all]    the wrong bodies that the prover must refuse, and the test of the script that tries them
                                    (`make edits`, after `make test`)
     tools/gate.py check            all of the product that isn't proved, built and run over the libraries that are (`make check`,
                                    after `make test`)
-    tools/gate.py sum              the ten dearest steps of all three, and how much passed and failed in them
-    tools/gate.py                  the ten dearest steps of all three, and the sums by kind
+    tools/gate.py sum              the ten dearest steps of all these, and how much passed and failed in them
+    tools/gate.py                  the ten dearest steps of all these, and the sums by kind
 
 A command runs all its steps even where one fails, and exits with status 1 where any does. On a terminal it redraws one line that
 shows how far it is; elsewhere it prints a line for each crate. Below a step's line it prints each case that failed in it. What
-failed is printed at the end, too, each with the command that repeats it alone. The last line is 'N passed, M failed'. All that the steps print is kept in out/gate-test.log, out/gate-edits.log or
-out/gate-check.log.
+failed is printed at the end, too, each with the command that repeats it alone. The last line is 'N passed, M failed'. All that the steps
+print is kept in out/gate-test.log, out/gate-edits.log or out/gate-check.log.
 
-`check` leaves out what the computer lacks, and `test` the step that needs a C compiler. They name that before the last line, which is
+`check` leaves out what the computer lacks, and `test` the steps that need a C compiler. They name that before the last line, which is
 then 'N passed, M failed, K skipped'. With NOTHING_LEFT_OUT=1 in the environment, what was left out for want of a package that Debian has
 counts as failed.
 
-On a computer that has run none of it all is done from nothing. What an earlier run there has proved or seen refused, of the same
-files, is taken from it if the kit keeps that, but with --anew.
+On a computer that has run none of it all is proved from nothing. What an earlier run there has proved, of the same files, is taken from
+it if the kit keeps that, but with --anew. Of the edits those are tried whose refusal the record doesn't have, and a tenth of the others
+(checks/edits.py); with --all it is each. `edits` and `check` may run side by side.
 
 out/gate.tsv has a line for each step of these commands: the command, the kind, the crate or the step, when it started, its wall
 seconds and its processor seconds, and of a step how much passed and failed. Those of a crate are read off /proc once a second, so
@@ -30,6 +32,7 @@ from __future__ import annotations
 import argparse
 import collections
 import contextlib
+import fcntl
 import os
 import pathlib
 import re
@@ -56,28 +59,31 @@ PROGRAM = "crates/pageshare/out/pageshare"
 
 
 class Work(typing.NamedTuple):
-    """A step of a command: the words that run it, whether they take --anew, and after how many seconds it is ended, if at all."""
+    """A step of a command: the words that run it, an option of the command that it takes, and after how many seconds it is ended, if at
+    all."""
 
     name: str
     words: list[str]
-    takes_anew: bool = False
+    takes: str = ""
     seconds: typing.Optional[int] = None
 
 
 LIBRARY = "out/libpageshare.a"
 COMMANDS = {
+    "packages": [Work("packages", ["tools/packages.py"], seconds=1200)],
     "test": [
-        Work("rt ci", ["rt", "ci"], takes_anew=True),
+        Work("rt ci", ["rt", "ci"], takes="--anew"),
         Work("runs", ["checks/quick.py", PROGRAM]),
         Work("libraries of C", ["tools/build.py", "--libraries"]),
         Work("frames of C", ["checks/frames.py"]),
+        Work("rows", ["checks/rows.py"]),
         Work("harness", ["checks/harness_test.py"]),
         Work("documents", ["checks/names.py"]),
         Work("limits", ["checks/limits.py"]),
         Work("structs of C", ["checks/structs.py"]),
         Work("map of crates", ["tools/map.py", "--check"]),
     ],
-    "edits": [Work("edits' test", ["checks/edits_test.py"]), Work("edits", ["checks/edits.py"], takes_anew=True)],
+    "edits": [Work("edits' test", ["checks/edits_test.py"]), Work("edits", ["checks/edits.py"], takes="--all")],
     # (the proofs below come from `make test`; alone this step may take as long as that)
     "check": [
         Work("libraries", ["tools/build.py", "--products"]),
@@ -92,9 +98,8 @@ COMMANDS = {
         Work("python", ["checks/python.py"], seconds=600),
     ],
 }
-# What each command takes from nothing, in processor minutes, on processors of 2.5 GHz; `check` after `make test`. That of `check` was
-# measured. Of `test` it is known that it takes an hour on four processors, and of `edits` 889 of 1,163 were measured, beside other work.
-MINUTES = {"test": 225, "edits": 160, "check": 38}
+# What each command takes from nothing, in processor minutes, on processors of 2.5 GHz; `check` after `make test`.
+MINUTES = {"packages": 2, "test": 190, "edits": 20, "check": 38}
 TICKS = os.sysconf("SC_CLK_TCK")
 # The steps of which it is counted how far they are; of the others the last line is shown.
 COUNTED = ("rt ci", "edits")
@@ -102,6 +107,7 @@ COUNTED = ("rt ci", "edits")
 DONE = re.compile(r"^rt: (\w+) (?:proved$|is kept)")
 TESTED = re.compile(r"^rt: (\w+): its tests are proved$")
 TRIED = re.compile(r"^edit (\w+)/")
+TRYING = re.compile(r"^trying (\d+) of \d+ edits")
 SECTION = re.compile(r"^== (\w+)")
 FAILED = re.compile(r"^rt: FAILED: (.*)$")
 FAILED_EDIT = re.compile(r"^FAILED: (?:edit )?(\w+)[/:]")
@@ -161,9 +167,8 @@ class Progress:
         self.name, self.log, self.begun = name, log, time.time()
         self.proved: set[str] = set()
         self.tested: set[str] = set()
-        self.edits = 0
+        self.edits = self.of_edits = 0
         self.crates = sum(":" in line.partition("#")[0] for line in (TOP / "crates.txt").read_text().splitlines())
-        self.of_edits = len([*TOP.glob("crates/*/edits/*.edit")])
         self.is_drawn = sys.stdout.isatty()
         self.section: list[str] = []
         self.sections: dict[str, list[str]] = {}
@@ -187,6 +192,8 @@ class Progress:
             self.cases.append(line)
         if self.is_drawn and self.name not in COUNTED:
             self.show(line)
+        if found := TRYING.match(line):
+            self.of_edits = int(found[1])
         if TRIED.match(line):
             self.edits += 1
             self.show(line if not self.is_drawn else "")
@@ -278,13 +285,20 @@ def read_table() -> list[list[str]]:
 
 
 def write_table(command: str, begun: float, rows: list[list[str]], steps: Mapping[tuple[str, str], Step]) -> None:
-    """Writes this command's rows in the place of those that an earlier run of it wrote."""
-    others = [row for row in read_table() if row[0] != command]
+    """Writes this command's rows in the place of those that an earlier run of it wrote. (Another command may do the same meanwhile.)"""
     own = [*rows, *([command, *key, *step.row(begun)] for key, step in sorted(steps.items()))]
-    TABLE.write_text("".join("\t".join(it) + "\n" for it in [HEAD, *others, *own]))
+    with open(TABLE.with_suffix(".lock"), "w", encoding="utf-8") as lock:
+        fcntl.flock(lock, fcntl.LOCK_EX)
+        others = [row for row in read_table() if row[0] != command]
+        TABLE.write_text("".join("\t".join(it) + "\n" for it in [HEAD, *others, *own]))
 
 
-def run_command(command: str, is_anew: bool) -> int:
+def words_of(work: Work, options: Sequence[str], keeps: bool) -> list[str]:
+    """The words of a step, with the option of its command that it takes. (A kit that keeps nothing has no word for `--anew`.)"""
+    return [*work.words, *(it for it in options if it == work.takes and (keeps or it != "--anew"))]
+
+
+def run_command(command: str, options: Sequence[str]) -> int:
     begun, watch, sums = time.time(), Watch(), [0, 0, 0]
     rows: list[list[str]] = []
     failures: list[str] = []
@@ -299,8 +313,7 @@ def run_command(command: str, is_anew: bool) -> int:
     with open(TABLE.parent / f"gate-{command}.log", "w", encoding="utf-8") as log:
         for work in COMMANDS[command]:
             watch.phase, start, before = work.name, time.time(), used_so_far()
-            # (a kit that keeps nothing has no word for it)
-            words = [*work.words, *(["--anew"] if is_anew and work.takes_anew and proved.keeps(kit) else [])]
+            words = words_of(work, options, proved.keeps(kit))
             counts, heard = run_step(work, words, log)
             proved.note_all(kit, heard.proved, rests)
             sums = [sum(pair) for pair in zip(sums, counts)]
@@ -334,7 +347,7 @@ def show() -> list[list[str]]:
 
 
 def show_sum() -> int:
-    """Prints what all commands took and did. A command that didn't run, or a step that didn't, has failed."""
+    """Prints what all commands took and did. A step that didn't run has failed."""
     steps = show()
     passed, failed, skipped = (sum(int(row[at]) for row in steps) for at in (6, 7, 8))
     wanted = {(command, work.name) for command, of in COMMANDS.items() for work in of}
@@ -347,12 +360,13 @@ def show_sum() -> int:
 def main() -> int:
     options = argparse.ArgumentParser(description=__doc__.splitlines()[0])
     options.add_argument("command", nargs="?", choices=[*COMMANDS, "sum"])
-    options.add_argument("--anew", action="store_true", help="take nothing from an earlier run")
+    options.add_argument("--anew", action="store_true", help="prove all from nothing")
+    options.add_argument("--all", action="store_true", help="try every edit, whatever the record has")
     given = options.parse_args()
-    if given.anew and given.command not in ("test", "edits"):
-        options.error("--anew goes with test and edits")
+    if given.anew and given.command != "test" or given.all and given.command != "edits":
+        options.error("--anew goes with test, and --all with edits")
     if given.command in COMMANDS:
-        return run_command(given.command, given.anew)
+        return run_command(given.command, ["--anew"] * given.anew + ["--all"] * given.all)
     if given.command == "sum":
         return show_sum()
     show()

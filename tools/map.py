@@ -1,13 +1,13 @@
 #!/usr/bin/env python3
-"""The map of crates, crates/README.md, and the index of docs/DECISIONS.md, made of crates.txt and the crates' READMEs.
+"""The map of crates, crates/README.md, made of crates.txt and the crates' READMEs.
 
-    tools/map.py           writes both
-    tools/map.py --check   says whether they are current, and whether src/checks.rt is one text in all crates of tests
+    tools/map.py           writes it
+    tools/map.py --check   says whether it is current, and whether src/checks.rt is one text in all crates of tests
 
 A layer is a comment line of crates.txt, up to a bracket. The first line of each crate's README is '# NAME: WHAT IT DOES'. A line
-'Proved in a line: WHAT.' says what is proved of the crate; a layer in which one crate has that line needs it of each. The index
-has each crate whose README has a section 'Why it is so', with the bold words that its paragraphs begin with. Prints what
-is missing, and with --check last 'N passed, M failed' (status 0 where M is 0, else 1).
+'Proved in a line: WHAT.' says what is proved of the crate; a layer in which one crate has that line needs it of each. Its
+index of decisions has each crate whose README has a section 'Why it is so', with the bold words that its paragraphs begin with.
+Prints what is missing, and with --check last 'N passed, M failed' (status 0 where M is 0, else 1).
 """
 from __future__ import annotations
 
@@ -30,14 +30,15 @@ A crate uses only the public contracts of the crates that its line in `crates.tx
 which are the layers from the bottom up. [ARCHITECTURE.md](../docs/ARCHITECTURE.md) shows how data flows through them.
 
 The right column says in a line what is proved: each clause of the crate's contracts, for all inputs, under the premises that these \
-name. A crate's README has the clauses, what is only tested, and what is neither. [PROMISE.md](../docs/PROMISE.md) has the promise of \
+name. A crate's README has its laws, what is only tested, and what is neither. [PROMISE.md](../docs/PROMISE.md) has the promise of \
 the whole, and [GLOSSARY.md](../docs/GLOSSARY.md) the words.
 """
-DECISIONS = TOP / "docs/DECISIONS.md"
 INDEX = """\
-## Index
 
-`tools/map.py` makes this table of the crates' READMEs: what the paragraphs of their section *Why it is so* begin with.
+## Decisions
+
+What the paragraphs of the section *Why it is so* in a crate's README begin with. [DECISIONS.md](../docs/DECISIONS.md) has those \
+for several crates.
 
 | crate | decided there |
 |---|---|
@@ -91,7 +92,7 @@ def drawn() -> tuple[str, int, list[str]]:
         of_layer, lacks = table([(name, *lines_of(name)) for name in names])
         text += f"\n## {heading}\n\n{of_layer}"
         crates, lacking = crates + len(names), lacking + lacks
-    return text, crates, lacking
+    return text + indexed(), crates, lacking
 
 
 def decided(name: str) -> list[str]:
@@ -103,10 +104,9 @@ def decided(name: str) -> list[str]:
 
 
 def indexed() -> str:
-    """The decisions' text with its index as it should be."""
+    """The index of decisions."""
     crates = [name for _, names in layers() for name in names]
-    rows = "".join(f"| [{it}](../crates/{it}/README.md) | {'. '.join(decided(it))} |\n" for it in crates if decided(it))
-    return DECISIONS.read_text().partition("## Index\n")[0] + INDEX + rows
+    return INDEX + "".join(f"| [{it}]({it}/README.md) | {'. '.join(decided(it))} |\n" for it in crates if decided(it))
 
 
 def differing() -> list[str]:
@@ -121,16 +121,15 @@ def main() -> int:
     options.add_argument("--check", action="store_true", help="say whether the files are current, and write none")
     is_check = options.parse_args().check
     text, crates, wrong = drawn()
-    for file, due in ((MAP, text), (DECISIONS, indexed())):
-        if not is_check:
-            file.write_text(due)
-        elif not file.is_file() or file.read_text() != due:
-            wrong.append(f"{file.relative_to(TOP)} isn't current: run tools/map.py")
+    if not is_check:
+        MAP.write_text(text)
+    elif not MAP.is_file() or MAP.read_text() != text:
+        wrong.append(f"{MAP.relative_to(TOP)} isn't current: run tools/map.py")
     if is_check:
         wrong += differing()
     print("".join(f"{it}\n" for it in wrong), end="")
     if is_check:
-        close(crates + 3 - len(wrong), len(wrong))
+        close(crates + 2 - len(wrong), len(wrong))
     return 1 if wrong else 0
 
 
