@@ -1,5 +1,5 @@
 #!/usr/bin/env python3
-"""Writes the man pages, from what the programs print for --help, the header and the documents.
+"""Writes the man pages, from what the programs print for --help, the header, docs/FORMATS.md and the texts in packaging/man/.
 
     packaging/man.py FOLDER [--program PROGRAM] [--host PROGRAM] [--date YYYY-MM-DD]
 
@@ -116,13 +116,13 @@ def write_commands(writer: Writer, program: str) -> None:
         writer.keep(page, f"pageshare-{name}", 1)
 
 
-def sections_of(text: str, level: int) -> list[tuple[str, list[str]]]:
-    """The sections of a document, each with its title and its lines, its heading among them."""
+def sections_of(text: str) -> list[tuple[str, list[str]]]:
+    """The sections of a document, headed by ##, each with its title and its lines, its heading among them."""
     found: list[tuple[str, list[str]]] = [("", [])]
     lines, is_code = text.split("\n"), False
     for line in lines:
         is_code = is_code != line.startswith("```")
-        if not is_code and line.startswith("#" * level + " "):
+        if not is_code and line.startswith("## "):
             found.append((line.lstrip("# "), []))
         found[-1][1].append(line)
     return found
@@ -130,7 +130,7 @@ def sections_of(text: str, level: int) -> list[tuple[str, list[str]]]:
 
 def write_formats(writer: Writer) -> None:
     """The texts that the program reads and writes."""
-    sections = sections_of((TOP / "docs/FORMATS.md").read_text(), 2)[1:]
+    sections = sections_of((TOP / "docs/FORMATS.md").read_text())[1:]
     for name, about, other, is_wanted in [
         ("pageshare-journal", "journals and scripts of page requests, and what the program prints of them", "pageshare-digest", False),
         ("pageshare-digest", "digests of guests' memory, and the numbers of a fleet", "pageshare-journal", True),
@@ -170,12 +170,11 @@ def write_library(writer: Writer) -> None:
 
 
 def write_host(writer: Writer, program: str) -> None:
-    """The host's page: what it prints for help, and the document on it."""
+    """The host's page: what it prints for help, and the text about it."""
     help_ = helptext.of(program)
     page = writer.page("pageshare-host", 8)
     write_help(page, "pageshare-host", help_, first_sentence(help_.about) or "shares memory between the monitors of one machine")
-    for _, lines in sections_of((TOP / "docs/HOST.md").read_text(), 2)[1:]:
-        roff.write_markdown(page, lines)
+    roff.write_markdown(page, (TOP / "packaging/man/pageshare-host.md").read_text().split("\n"))
     see_also(page, [("pageshare", 1), ("pageshare", 3)])
     writer.keep(page, "pageshare-host", 8)
     writer.name("pageshare-qemu", "pageshare-host", 8)

@@ -142,8 +142,8 @@ def write_table(page: Page, rows: list[str]) -> None:
         page.entry(f"{titles[0]} {row[0]}" if row[0][:1].isdigit() else row[0] or "\\&", text, is_plain=False)
 
 
-def write_markdown(page: Page, lines: list[str], level: int = 1) -> None:
-    """Markdown as the documents use it: headings, paragraphs, lists, tables and code. Headings of `level` + 1 become sections."""
+def write_markdown(page: Page, lines: list[str]) -> None:
+    """Markdown as the documents use it: headings, paragraphs, lists, tables and code. What ## heads becomes a section."""
     at = 0
     plain_lines: list[str] = []
 
@@ -156,7 +156,7 @@ def write_markdown(page: Page, lines: list[str], level: int = 1) -> None:
         heading = re.match(r"(#+) (.*)", line)
         if heading:
             flush()
-            page.heading(heading[2].replace("`", ""), 1 if len(heading[1]) <= level + 1 else 2)
+            page.heading(heading[2].replace("`", ""), 1 if len(heading[1]) <= 2 else 2)
         elif line.startswith("```"):
             flush()
             end = next(it for it in range(at + 1, len(lines)) if lines[it].startswith("```"))
@@ -167,8 +167,6 @@ def write_markdown(page: Page, lines: list[str], level: int = 1) -> None:
             end = next((it for it in range(at, len(lines)) if not lines[it].startswith("|")), len(lines))
             write_table(page, lines[at:end])
             at = end - 1
-        elif line.startswith("!["):
-            flush()
         else:
             plain_lines.append(line)
         at += 1

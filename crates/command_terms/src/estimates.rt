@@ -68,7 +68,7 @@ impl<'a> EstimateWords<'a> {
     }
 }
 
-/// Returns how many threads read, by how many were asked for or how many processors there are: 1 to 64.
+/// Returns how many threads read, by how many were asked for or how many processors there are: 1 to `MOST_WORKERS`.
 pub fn worker_count(wanted: u32) -> u32
     ensures { result ≡ max 1 (min wanted MOST_WORKERS) }
 {

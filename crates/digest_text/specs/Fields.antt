@@ -27,7 +27,7 @@ field_in bytes =
 unfoldable pub number_in : ℕ → List ℕ → Option ℕ
 number_in most word = result_ok (number_to most word)
 
--- a sample: a power of two from 1 to 65,536
+-- a sample: a power of two from 1 to MAX_SAMPLE
 unfoldable pub sample_in : List ℕ → Option ℕ
 sample_in word = number_in (2 ^ 16) word >>= λ n. if is_power_of_two n then Some n else None
 

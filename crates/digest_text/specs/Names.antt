@@ -8,7 +8,7 @@ abbrev pub is_name_byte : ℕ → Bool
 is_name_byte b =
     (nat_le 65 b && nat_le b 90) || (nat_le 97 b && nat_le b 122) || (nat_le 48 b && nat_le b 57) || b == 46 || b == 95 || b == 45
 
--- a guest's name: 1 to 64 of these bytes
+-- a guest's name: 1 to MAX_NAME_BYTES of these bytes
 abbrev pub is_name : List ℕ → Bool
 is_name word = nat_lt 0 (length word) && nat_le (length word) MAX_NAME_BYTES && list_all is_name_byte word
 

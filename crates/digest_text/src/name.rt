@@ -8,7 +8,7 @@ use std::marker::Model;
 /// The most bytes of a guest's name.
 pub const MAX_NAME_BYTES: usize = 64;
 
-/// The name of a guest: 1 to 64 of the characters A-Z, a-z, 0-9, `.`, `_` and `-`.
+/// The name of a guest: 1 to `MAX_NAME_BYTES` of the characters A-Z, a-z, 0-9, `.`, `_` and `-`.
 #[derive(Clone, Debug, PartialEq, Eq, Drop)]
 pub struct GuestName {
     bytes: ArrayVec<u8, MAX_NAME_BYTES>,

@@ -13,7 +13,7 @@ pub enum FleetFault {
     /// Memory was refused.
     #[error("out of memory")]
     OutOfMemory,
-    /// There are more than 65,536 files.
+    /// There are more files than `MAX_DIGESTS`.
     #[error("more than 65,536 digests")]
     TooManyDigests,
     /// The guests have more than 2^64 - 1 pages, or they are estimated to.

@@ -5,7 +5,7 @@ use Rattle.page_model.specs.Pages.{blank}
 use Rattle.page_digest.specs.Hashes.{content_digest}
 use Rattle.guest_digests.specs.declared.sample.TheConstants.{MAX_SAMPLE}
 
--- a sample is a power of two from 1 to 65,536
+-- a sample is a power of two from 1 to MAX_SAMPLE
 pub record IsSample (every : ℕ) : Type 0 where
   pub some : 1 ≤ every
   pub most : every ≤ MAX_SAMPLE

@@ -7,7 +7,7 @@ use std::marker::Model;
 /// The greatest sample.
 pub const MAX_SAMPLE: u32 = 65_536;
 
-/// A sampling rate: one in `every` contents is kept, on average. A power of two from 1 to 65,536; 1 keeps all.
+/// A sampling rate: one in `every` contents is kept, on average. A power of two from 1 to `MAX_SAMPLE`; 1 keeps all.
 #[derive(Clone, Copy, Debug, PartialEq, Eq)]
 pub struct Sample {
     every: u32,
@@ -27,7 +27,7 @@ impl Model for Sample {
 }
 
 impl Sample {
-    /// Makes a sample, or returns `None` if the number isn't a power of two from 1 to 65,536.
+    /// Makes a sample, or returns `None` if the number isn't a power of two from 1 to `MAX_SAMPLE`.
     pub fn new(every: u32) -> Option<Sample>
         ensures { MatchOption result (¬ IsSample every) (λ sample. (sample ≡ every) × IsSample every) }
     {

@@ -6,7 +6,7 @@ use share_domain::DomainConfig;
 pub struct HostConfig {
     /// The domain of all sessions. As many sessions as clients may be there at a time.
     pub domain: DomainConfig,
-    /// How many questions are remembered: 1 to 16,777,216.
+    /// How many questions are remembered: 1 to `MAX_PLACES`.
     pub recent: u32,
     /// What spreads the questions and the fingerprints of frames. Draw it at random and keep it secret.
     pub seed: u64,

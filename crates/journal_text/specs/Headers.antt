@@ -8,7 +8,7 @@ use Rattle.text_words.specs.declared.fault.TextFault.TheVariants as faults
 use Rattle.text_words.specs.Lines.{keyword}
 use Rattle.text_words.specs.Words.{◌>>=◌, is_space, word_at, nothing_at, number, number_at}
 
--- 1 to 1,048,576 frames
+-- 1 to MAX_FRAMES frames
 abbrev pub frames_in_limits : ℕ → Result ℕ Cause
 frames_in_limits n = if n == 0 || nat_lt MAX_FRAMES n then Err causes.Frames else Ok n
 
@@ -34,11 +34,11 @@ numbers (word ∷ words) = do
   ns ← numbers words
   Ok (n ∷ ns)
 
--- each guest has a page, and all together at most 1,048,576
+-- each guest has a page, and all together at most MAX_PAGES
 abbrev pub are_pages : List ℕ → Bool
 are_pages pages = list_all (nat_lt 0) pages && nat_le (sum pages) MAX_PAGES
 
--- 1 to 64 guests with their pages. The form is checked first, then the number of guests, then the pages
+-- 1 to MAX_GUESTS guests with their pages. The form is checked first, then the number of guests, then the pages
 abbrev pub pages_in_limits : List ℕ → Result (List ℕ) Cause
 pages_in_limits pages =
     if length pages == 0 then Err causes.Form

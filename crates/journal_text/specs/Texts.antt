@@ -111,7 +111,7 @@ journal_in text = do
   entries ← entries_in (replicate (length head.0.pages) false) (line_behind_head head.0.version) 0 head.1
   Ok (record { frames = head.0.frames; pages = head.0.pages; salts = head.0.salts; entries = entries })
 
--- What a journal's text says: its one journal, or its first fault. A text has at most 67,108,864 bytes, which is checked first.
+-- What a journal's text says: its one journal, or its first fault. That it has at most MAX_TEXT_BYTES is checked first.
 unfoldable pub journal_of : List ℕ → Result Journal TextFault
 journal_of text = if nat_lt MAX_TEXT_BYTES (length text) then Err faults.Long else journal_in text
 

@@ -10,7 +10,7 @@ use std::alloc::Allocator;
 /// A machine's number of frames, its guests' numbers of pages and salts, guest 0's first, and its requests, each with its guest.
 ///
 /// The machine is within the limits, with a salt for each guest, each entry is of one of its guests, and there
-/// are fewer than 16,777,216 entries.
+/// are fewer than `MAX_ENTRIES` entries.
 #[derive(Drop)]
 pub struct Journal<A: Allocator> {
     pub frames: u32,

@@ -48,8 +48,8 @@ impl<H: PageHash, A: Allocator> Model for LentSlots<H, A> {
 }
 
 impl<H: PageHash + Drop, A: Allocator + Clone> LentSlots<H, A> {
-    /// Makes `count` slots over these frames, all of them free. Pages are hashed under the salt. There are 1 to 1,048,576 slots, and
-    /// 2 to 1,048,576 frames, one of which is spare. All other memory is allocated here.
+    /// Makes `count` slots over these frames, all of them free. Pages are hashed under the salt. There are 1 to `MAX_PAGES`
+    /// slots, and 2 to `MAX_FRAMES` frames, one of which is spare. All other memory is allocated here.
     ///
     /// The slots of a client whose number is below `clients` are counted as they are lent and released, and are found without a look
     /// at those before them. That takes 8 bytes for each client. Any other client's slots are sought among all.

@@ -26,8 +26,8 @@ pub fn attend_law()
     ensures again { AttendsAgain }
 {}
 
-/// A thread does these tasks by a budget, whatever comes of them. Over any stretch after which it works for the look, it has used at most its
-/// share, its savings, its credit, what it may owe, and that task. What it used to attend to what may not wait is part of that.
+/// A thread does these tasks by a budget, whatever comes of them. In any interval after which it works for the look, it has used at most its
+/// share of the time, its savings, its credit, the debt that it may have, and that one task. Attending to what may not wait is part of that.
 pub fn share_law()
     ensures { KeepsToItsShare }
 {}

@@ -24,7 +24,7 @@ use thiserror::Error;
 /// Why there are no frames.
 #[derive(Clone, Copy, Debug, PartialEq, Eq, Error)]
 pub enum FramesFault {
-    /// The number of frames is 0 or above 1,048,576.
+    /// The number of frames is 0 or above `MAX_FRAMES`.
     #[error("ask for 1 to 1,048,576 frames")]
     Frames,
     /// The region has room for another number of pages.

@@ -8,13 +8,13 @@ use thiserror::Error;
 /// Why no core was made, in the order in which the causes are checked.
 #[derive(Clone, Copy, Debug, PartialEq, Eq, Error)]
 pub enum CoreFault {
-    /// 0 frames, or more than 1,048,576.
+    /// 0 frames, or more than `MAX_FRAMES`.
     #[error("give the machine 1 to 1,048,576 frames")]
     Frames,
-    /// No guest, more than 64 guests, or not one salt for each guest.
+    /// No guest, more than `MAX_GUESTS`, or not one salt for each guest.
     #[error("give the machine 1 to 64 guests, with a salt each")]
     Guests,
-    /// A guest with no page, or more than 1,048,576 pages in total.
+    /// A guest with no page, or more than `MAX_PAGES` in total.
     #[error("give each guest a page at least, and all together at most 1,048,576")]
     Pages,
     /// The memory for the machine was refused.

@@ -12,34 +12,34 @@ use thiserror::Error;
 /// A machine's numbers: guest i has `pages[i]` pages and the salt `salts[i]`.
 #[derive(Drop)]
 pub struct Config<A: Allocator = Global> {
-    /// The number of frames of machine memory, from 1 to 1,048,576.
+    /// The number of frames of machine memory, from 1 to `MAX_FRAMES`.
     pub frames: u32,
-    /// Each guest's number of pages: 1 to 64 guests, with at least 1 page each and at most 1,048,576 pages in total.
+    /// Each guest's number of pages: 1 to `MAX_GUESTS` guests, with at least 1 page each and at most `MAX_PAGES` in total.
     pub pages: Vec<u32, A>,
     /// Each guest's salt. Pages are shared only between guests with equal salts.
     pub salts: Vec<u32, A>,
-    /// How many items each of a guest's two rings holds, from 1 to 65,536.
+    /// How many items each of a guest's two rings holds, from 1 to `MAX_RING_CAPACITY`.
     pub ring: u32,
-    /// How many entries the journal holds, from 1 to 16,777,216.
+    /// How many entries the journal holds, from 1 to `MAX_ENTRIES`.
     pub journal: u32,
 }
 
 /// Why no machine was made, in the order in which the causes are checked.
 #[derive(Clone, Copy, Debug, PartialEq, Eq, Error)]
 pub enum Fault {
-    /// 0 frames, or more than 1,048,576.
+    /// 0 frames, or more than `MAX_FRAMES`.
     #[error("give the machine 1 to 1,048,576 frames")]
     Frames,
-    /// No guest, more than 64 guests, or not one salt for each guest.
+    /// No guest, more than `MAX_GUESTS`, or not one salt for each guest.
     #[error("give the machine 1 to 64 guests, with a salt each")]
     Guests,
-    /// A guest with no page, or more than 1,048,576 pages in total.
+    /// A guest with no page, or more than `MAX_PAGES` in total.
     #[error("give each guest a page at least, and all together at most 1,048,576")]
     Pages,
-    /// A ring of 0 items, or of more than 65,536.
+    /// A ring of 0 items, or of more than `MAX_RING_CAPACITY`.
     #[error("a ring holds 1 to 65,536 items")]
     Ring,
-    /// A journal of 0 entries, or of more than 16,777,216.
+    /// A journal of 0 entries, or of more than `MAX_ENTRIES`.
     #[error("a journal holds 1 to 16,777,216 entries")]
     Journal,
     /// The memory for the machine was refused.

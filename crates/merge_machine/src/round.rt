@@ -34,8 +34,8 @@ impl<H: PageHash, A: Allocator + Sync> Merger<H, A> {
     ///
     /// A request is taken only if a slot for its verdict is free beyond those for the verdicts that its guest is owed. The hashes
     /// of proposed pages are computed ahead, eight or four at a time. If there are enough of them, several workers compute them:
-    /// at most `workers`, 1 to 64, one of which is the calling thread. If memory or a thread is refused, the calling thread
-    /// computes them alone. `limit` is 1 to [`MAX_ROUND`](crate::MAX_ROUND).
+    /// at most `workers`, 1 to `MAX_WORKERS`, one of which is the calling thread. If memory or a thread is refused, the calling
+    /// thread computes them alone. `limit` is 1 to [`MAX_ROUND`](crate::MAX_ROUND).
     ///
     /// # Errors
     ///

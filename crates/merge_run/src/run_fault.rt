@@ -8,19 +8,19 @@ use thiserror::Error;
 /// Why a machine was not run to its end. The causes of a machine are checked in this order, and `Stopped` before memory.
 #[derive(Clone, Copy, Debug, PartialEq, Eq, Error)]
 pub enum RunFault {
-    /// 0 frames, or more than 1,048,576.
+    /// 0 frames, or more than `MAX_FRAMES`.
     #[error("give the machine 1 to 1,048,576 frames")]
     Frames,
-    /// No guest, more than 64 guests, or not one salt for each guest.
+    /// No guest, more than `MAX_GUESTS`, or not one salt for each guest.
     #[error("give the machine 1 to 64 guests, with a salt each")]
     Guests,
-    /// A guest with no page, or more than 1,048,576 pages in total.
+    /// A guest with no page, or more than `MAX_PAGES` in total.
     #[error("give each guest a page at least, and all together at most 1,048,576")]
     Pages,
-    /// A ring of 0 items, or of more than 65,536.
+    /// A ring of 0 items, or of more than `MAX_RING_CAPACITY`.
     #[error("a ring holds 1 to 65,536 items")]
     Ring,
-    /// A journal of 0 entries, or of more than 16,777,216.
+    /// A journal of 0 entries, or of more than `MAX_ENTRIES`.
     #[error("a journal holds 1 to 16,777,216 entries")]
     Journal,
     /// The memory for the run was refused, before any thread was started.

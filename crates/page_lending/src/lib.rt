@@ -1,7 +1,7 @@
 //! What it means to store a whole page, to lend it and to take it back, in the requests of the model.
 //!
-//! A monitor moves whole pages, while a request of the model stores or loads at most 64 bytes. So the calls for whole pages are
-//! stated as the requests that they stand for, and the laws here say what these come to.
+//! A monitor moves whole pages, while a request of the model stores or loads at most `MAX_ACCESS_BYTES`. So the calls for whole
+//! pages are stated as the requests that they stand for, and the laws here say what these come to.
 #![tactic(auto)]
 
 mod laws;

@@ -4,7 +4,7 @@ ghost use Rattle.std.specs.Prelude.{◌≡◌, ◌+◌, ◌≤◌};
 use crate::limits::{MAX_ACCESS_BYTES, PAGE_BYTES};
 use std::marker::Model;
 
-/// A load of 1 to 64 bytes from a place within one page.
+/// A load of 1 to `MAX_ACCESS_BYTES` bytes from a place within one page.
 #[derive(Clone, Copy, Debug, PartialEq, Eq)]
 pub struct LoadReq {
     pub(crate) ppn: u32,

@@ -8,8 +8,8 @@ use thiserror::Error;
 
 /// A machine's frames, and each guest's number of pages and salt.
 ///
-/// There are 1 to 1,048,576 frames, and 1 to 64 guests with a salt each. Each guest has at least 1 page, and all
-/// together have at most 1,048,576. Code that holds a shape needn't check that again.
+/// There are 1 to `MAX_FRAMES` frames, and 1 to `MAX_GUESTS` guests with a salt each. Each guest has at least 1 page, and all
+/// together have at most `MAX_PAGES`. Code that holds a shape needn't check that again.
 #[derive(Debug, Drop)]
 pub struct MachineShape<'a> {
     frames: u32,
@@ -32,18 +32,18 @@ impl<'a> Model for MachineShape<'a> {
 /// Why there is no machine of this shape. The causes are checked in this order.
 #[derive(Clone, Copy, Debug, PartialEq, Eq, Error)]
 pub enum ShapeFault {
-    /// 0 frames, or more than 1,048,576.
+    /// 0 frames, or more than `MAX_FRAMES`.
     #[error("give the machine 1 to 1,048,576 frames")]
     Frames,
-    /// No guest, more than 64 guests, or not one salt for each guest.
+    /// No guest, more than `MAX_GUESTS`, or not one salt for each guest.
     #[error("give the machine 1 to 64 guests, with a salt each")]
     Guests,
-    /// A guest with no page, or more than 1,048,576 pages in total.
+    /// A guest with no page, or more than `MAX_PAGES` in total.
     #[error("give each guest a page at least, and all together at most 1,048,576")]
     Pages,
 }
 
-/// Whether each guest has at least 1 page, and all together have at most 1,048,576.
+/// Whether each guest has at least 1 page, and all together have at most `MAX_PAGES`.
 fn are_pages(pages: &[u32]) -> bool
     ensures { IsTrue result ↔ ArePages pages.now }
 {

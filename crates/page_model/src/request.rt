@@ -29,7 +29,7 @@ pub enum Request {
 /// Why there is no such store or load. The causes are checked in this order.
 #[derive(Clone, Copy, Debug, PartialEq, Eq, Error)]
 pub enum RequestFault {
-    /// No bytes, or more than 64.
+    /// No bytes, or more than `MAX_ACCESS_BYTES`.
     #[error("a store or load is of 1 to 64 bytes: split a longer one")]
     Length,
     /// The last byte would be past the page's end.

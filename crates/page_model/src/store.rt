@@ -5,7 +5,7 @@ use crate::limits::{MAX_ACCESS_BYTES, PAGE_BYTES};
 use arrayvec::ArrayVec;
 use std::marker::Model;
 
-/// A store of 1 to 64 bytes to a place within one page.
+/// A store of 1 to `MAX_ACCESS_BYTES` bytes to a place within one page.
 #[derive(Clone, Debug, PartialEq, Eq, Drop)]
 pub struct StoreReq {
     pub(crate) ppn: u32,

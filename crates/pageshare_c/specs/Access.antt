@@ -5,8 +5,8 @@ use Rattle.page_model.specs.declared.request.Request.TheVariants.{Store, Load}
 use Rattle.page_model.specs.declared.request.RequestFault.{RequestFault}
 use Rattle.page_model.specs.declared.request.RequestFault.TheVariants.{Length, Crosses}
 
--- the request, which reads or writes this many bytes at a place of a page, if there is one: it has 1 to 64 bytes, and
--- stays within the page
+-- the request, which reads or writes this many bytes at a place of a page, if there is one: it has
+-- 1 to MAX_ACCESS_BYTES bytes, and stays within the page
 abbrev pub access : ℕ → ℕ → Request → Result Request RequestFault
 access at len request =
     if nat_le len 0

@@ -45,7 +45,7 @@ pub enum Refusal {
     NoGuest,
     /// The machine has counted 4,294,967,295 requests, as many as it can.
     Full,
-    /// No byte, or more than 64.
+    /// No byte, or more than `MAX_ACCESS_BYTES`.
     Length,
     /// The last byte would be past the page's end.
     Crosses,

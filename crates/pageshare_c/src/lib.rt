@@ -91,9 +91,9 @@ use std::alloc::Global;
 /// Makes a machine with `frames` frames. Guest i has `pages[i]` pages and the salt `salts[i]`.
 ///
 /// The status is `OK` if it is made, and `IN_USE` if the handle holds a machine already. Else it is `FRAMES` (0 frames, or more
-/// than 1,048,576), `GUESTS` (no guest, more than 64, or not as many salts as guests), `PAGES` (a guest with no page, or more
-/// than 1,048,576 pages in total) or `MEMORY` (memory was refused). This takes all memory that the machine needs; no other call
-/// asks for any.
+/// than `MAX_FRAMES`), `GUESTS` (no guest, more than `MAX_GUESTS`, or not as many salts as guests), `PAGES` (a guest with no
+/// page, or more than `MAX_PAGES` in total) or `MEMORY` (memory was refused). This takes all memory that the machine needs; no
+/// other call asks for any.
 #[unsafe(no_mangle)]
 pub extern "C" fn pageshare_make(
     alloc: Global,
@@ -167,7 +167,7 @@ pub extern "C" fn pageshare_propose(
     serve(alloc, machine, guest, &Ok(Request::Propose(ppn)))
 }
 
-/// Stores 1 to 64 bytes in a page, from place `at` on.
+/// Stores 1 to `MAX_ACCESS_BYTES` bytes in a page, from place `at` on.
 #[unsafe(no_mangle)]
 pub extern "C" fn pageshare_store(
     alloc: Global,
@@ -185,7 +185,8 @@ pub extern "C" fn pageshare_store(
     serve(alloc, machine, guest, &store_request(ppn, at, bytes))
 }
 
-/// Loads 1 to 64 bytes of a page into all of `room`, from place `at` on. `room` stays as it is unless the verdict is `Bytes`.
+/// Loads 1 to `MAX_ACCESS_BYTES` bytes of a page into all of `room`, from place `at` on. `room` stays as it is unless the verdict
+/// is `Bytes`.
 #[unsafe(no_mangle)]
 pub extern "C" fn pageshare_load(
     alloc: Global,

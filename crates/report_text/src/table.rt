@@ -208,7 +208,8 @@ fn push_sentences<A: Allocator, B: Allocator>(
 /// Returns what comes behind the sentence: of images, how to share their memory.
 fn end_of(source: Source) -> &'static str {
     match source {
-        Source::Images => "\ndocs/HOST.md says how to share it.\n",
+        Source::Images =>
+            "\nTo share it: man pageshare-host, or docs/HOST.md in the source tree.\n",
         Source::Digests => "\n",
     }
 }

@@ -31,11 +31,11 @@ named_number name line = do
   _ ← nothing_at n.1
   Ok n.0
 
--- rings of 1 to 65,536 items
+-- rings of 1 to MAX_RING_CAPACITY items
 abbrev pub ring_in_limits : ℕ → Result ℕ Cause
 ring_in_limits n = if n == 0 || nat_lt MAX_RING_CAPACITY n then Err causes.Ring else Ok n
 
--- a journal of 1 to 16,777,216 entries, with room for a close of each guest
+-- a journal of 1 to MAX_ENTRIES entries, with room for a close of each guest
 abbrev pub journal_in_limits : ℕ → ℕ → Result ℕ Cause
 journal_in_limits guests n =
     if n == 0 || nat_lt MAX_ENTRIES n then Err causes.Journal
@@ -85,6 +85,6 @@ script_in text = do
     scripts = scripts;
   })
 
--- What a script's text says: its script, or its first fault. A text has at most 67,108,864 bytes, which is checked first.
+-- What a script's text says: its script, or its first fault. That it has at most MAX_TEXT_BYTES is checked first.
 unfoldable pub script_of : List ℕ → Result Script TextFault
 script_of text = if nat_lt MAX_TEXT_BYTES (length text) then Err faults.Long else script_in text

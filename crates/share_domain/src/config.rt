@@ -14,13 +14,13 @@ pub const MAX_CLIENTS: u32 = 65_536;
 /// The sizes of a domain, and the salt of its pages.
 #[derive(Clone, Copy, Debug, PartialEq, Eq)]
 pub struct DomainConfig {
-    /// How many machines there are: 1 to 64.
+    /// How many machines there are: 1 to `MAX_MACHINES`.
     pub machines: u32,
-    /// How many slots each machine has: 1 to 1,048,576.
+    /// How many slots each machine has: 1 to `MAX_PAGES`.
     pub slots: u32,
-    /// How many frames each machine has: 2 to 1,048,576. One of them is spare: it is in use only within a call.
+    /// How many frames each machine has: 2 to `MAX_FRAMES`. One of them is spare: it is in use only within a call.
     pub frames: u32,
-    /// How many clients may be in at a time: 1 to 65,536.
+    /// How many clients may be in at a time: 1 to `MAX_CLIENTS`.
     pub clients: u32,
     /// The salt under which pages are hashed. Draw it at random and keep it secret, so that no client can choose pages whose
     /// hashes are equal.

@@ -29,7 +29,7 @@ use page_model::Page;
 use std::alloc::{AllocError, Allocator, Global};
 use std::marker::Model;
 
-/// A domain: one to 64 machines, whose slots belong to clients.
+/// A domain: one to `MAX_MACHINES` machines, whose slots belong to clients.
 #[derive(Drop)]
 pub struct Domain<H: PageHash, A: Allocator = Global> {
     hash: H,

@@ -7,16 +7,16 @@ use thiserror::Error;
 /// Why no domain was made, in the order in which the causes are checked.
 #[derive(Clone, Copy, Debug, PartialEq, Eq, Error)]
 pub enum DomainFault {
-    /// No machine, or more than 64.
+    /// No machine, or more than `MAX_MACHINES`.
     #[error("give the domain 1 to 64 machines")]
     Machines,
-    /// No slot, or more than 1,048,576.
+    /// No slot, or more than `MAX_PAGES`.
     #[error("give each machine 1 to 1,048,576 slots")]
     Slots,
-    /// Fewer than 2 frames, or more than 1,048,576.
+    /// Fewer than 2 frames, or more than `MAX_FRAMES`.
     #[error("give each machine 2 to 1,048,576 frames")]
     Frames,
-    /// No client, or more than 65,536.
+    /// No client, or more than `MAX_CLIENTS`.
     #[error("give the domain room for 1 to 65,536 clients")]
     Clients,
     /// The memory for the domain was refused.

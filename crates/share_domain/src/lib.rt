@@ -1,9 +1,9 @@
 //! A domain: what a host needs so that the VMM processes of one machine share memory.
 //!
-//! A domain has one to 64 machines, each a core with one guest, and clients, which come and go. A client lends pages. Each page
-//! that it lent has a slot, which is a page of one of the machines and belongs to the client until the client releases it or
-//! leaves. A page goes to the machine that its hash names, or to the machine of a frame with its bytes, so equal pages meet, and share
-//! a frame there.
+//! A domain has one to `MAX_MACHINES` machines, each a core with one guest, and clients, which come and go. A client lends pages.
+//! Each page that it lent has a slot, which is a page of one of the machines and belongs to the client until the client releases
+//! it or leaves. A page goes to the machine that its hash names, or to the machine of a frame with its bytes, so equal pages meet,
+//! and share a frame there.
 #![tactic(auto)]
 
 mod client;

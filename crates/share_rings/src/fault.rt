@@ -12,7 +12,7 @@ pub struct Busy;
 /// Why a request was not sent, in the order in which the causes are checked.
 #[derive(Clone, Copy, Debug, PartialEq, Eq, Error)]
 pub enum SendFault {
-    /// No byte, or more than 64.
+    /// No byte, or more than `MAX_ACCESS_BYTES`.
     #[error("a store or load is of 1 to 64 bytes: split a longer one")]
     Length,
     /// The last byte would be past the page's end.

@@ -14,7 +14,7 @@ use thiserror::Error;
 /// Why no pair was made, in the order in which the causes are checked.
 #[derive(Clone, Copy, Debug, PartialEq, Eq, Error)]
 pub enum RingFault {
-    /// A capacity of 0, or above 65,536.
+    /// A capacity of 0, or above `MAX_RING_CAPACITY`.
     #[error("give a ring room for 1 to 65,536 items")]
     Ring,
     /// The memory for the rings was refused.
@@ -50,7 +50,7 @@ pub fn ring_pair<A: Allocator + Copy>(
     Ok(open_pair(alloc, capacity)?)
 }
 
-/// Makes them as [`ring_pair`] does, for a capacity that is known to be from 1 to 65,536.
+/// Makes them as [`ring_pair`] does, for a capacity that is known to be from 1 to `MAX_RING_CAPACITY`.
 pub fn open_pair<A: Allocator + Copy>(
     alloc: A,
     capacity: u32,

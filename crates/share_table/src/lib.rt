@@ -32,7 +32,7 @@ use wide::WideCounts;
 
 /// The shared frames by hash, and the hint frames by key.
 ///
-/// MPNs and PPNs have 24 bits. The sum of all counts is at most 1,048,576, so at most 16 of them
+/// MPNs and PPNs have 24 bits. The sum of all counts is at most `MAX_PAGES`, so at most 16 of them
 /// are above 65,535. All memory is allocated when the table is made, and no other call allocates.
 #[derive(Drop)]
 pub struct Table<A: Allocator = Global> {

@@ -37,7 +37,7 @@ pub enum TextFault {
     /// The run was refused.
     #[error("the run was refused: expected {wanted}", wanted = expectation(self))]
     Run(RunFault),
-    /// The text has more than 67,108,864 bytes.
+    /// The text has more bytes than `MAX_TEXT_BYTES`.
     #[error("the text is too long: expected {wanted}", wanted = expectation(self))]
     Long,
 }

@@ -15,25 +15,25 @@ pub enum Cause {
     /// The words are not those that the line must have at its place.
     #[error("give the words of this line's form, with one space between them")]
     Form,
-    /// 0 frames, or more than 1,048,576.
+    /// 0 frames, or more than `MAX_FRAMES`.
     #[error("give the machine 1 to 1,048,576 frames")]
     Frames,
-    /// More than 64 guests.
+    /// More guests than `MAX_GUESTS`.
     #[error("give the pages of at most 64 guests")]
     Guests,
-    /// A guest with no page, or more than 1,048,576 pages in total.
+    /// A guest with no page, or more than `MAX_PAGES` in total.
     #[error("give each guest a page or more, and all together at most 1,048,576")]
     Pages,
-    /// A ring of 0 items, or of more than 65,536.
+    /// A ring of 0 items, or of more than `MAX_RING_CAPACITY`.
     #[error("give the rings room for 1 to 65,536 requests")]
     Ring,
-    /// A journal limit of 0 entries, or of more than 16,777,216.
+    /// A journal limit of 0 entries, or of more than `MAX_ENTRIES`.
     #[error("give the journal room for 1 to 16,777,216 requests")]
     Journal,
     /// The machine has no such guest.
     #[error("name a guest of the \"pages\" line, counted from 0")]
     NoGuest,
-    /// A store or load of no byte, or of more than 64.
+    /// A store or load of no byte, or of more than `MAX_ACCESS_BYTES`.
     #[error("store or load 1 to 64 bytes")]
     Length,
     /// A store or load past the page's end.
@@ -74,7 +74,7 @@ pub enum TextFault {
     /// A write failed, or wrote none of some bytes.
     #[error("a write failed: expected {wanted}", wanted = expectation(self))]
     Write,
-    /// The text has more than 67,108,864 bytes.
+    /// The text has more bytes than `MAX_TEXT_BYTES`.
     #[error("the text is too long: expected {wanted}", wanted = expectation(self))]
     Long,
 }

@@ -34,7 +34,7 @@ trace_in text = do
   steps ← steps_in 3 second.1
   Ok (record { pages = sizes.0; frames = sizes.1; steps = steps })
 
--- What a trace's text says, or its first fault. A text has at most 67,108,864 bytes, which is checked first.
+-- What a trace's text says, or its first fault. That it has at most MAX_TEXT_BYTES is checked first.
 unfoldable pub trace_of : List ℕ → Result Said TextFault
 trace_of text = if nat_lt (2 ^ 26) (length text) then Err faults.Long else trace_in text
 
