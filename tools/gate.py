@@ -7,7 +7,7 @@
                                    (`make edits`, after `make test`)
     tools/gate.py check            all of the product that isn't proved, built and run over the libraries that are (`make check`,
                                    after `make test`)
-    tools/gate.py sum              the ten dearest steps of all these, and how much passed and failed in them
+    tools/gate.py sum              the ten dearest steps of all these, what failed in them, and how much passed
     tools/gate.py                  the ten dearest steps of all these, and the sums by kind
 
 A command runs all its steps even where one fails, and exits with status 1 where any does. On a terminal it redraws one line that
@@ -101,6 +101,8 @@ COMMANDS = {
 # What each command takes from nothing, in processor minutes, on processors of 2.5 GHz; `check` after `make test`.
 MINUTES = {"packages": 2, "test": 190, "edits": 20, "check": 38}
 TICKS = os.sysconf("SC_CLK_TCK")
+# How much of a line of a step is printed where no terminal shows it; its log has it whole.
+LINE = 120
 # The steps of which it is counted how far they are; of the others the last line is shown.
 COUNTED = ("rt ci", "edits")
 # What the steps say of a crate that is done, of one that failed, and of each name that failed at the end.
@@ -220,7 +222,7 @@ class Progress:
         if self.is_drawn:
             print(f"\r\x1b[K{self.name}: {far}, {time.time() - self.begun:.0f} s", end="", flush=True)
         else:
-            print(f"{self.name}: {far}: {what}", flush=True)
+            print(f"{self.name}: {far}: {what[:LINE]}", flush=True)
 
     def end(self) -> None:
         if self.is_drawn:
@@ -293,6 +295,11 @@ def write_table(command: str, begun: float, rows: list[list[str]], steps: Mappin
         TABLE.write_text("".join("\t".join(it) + "\n" for it in [HEAD, *others, *own]))
 
 
+def failed_file(command: str) -> pathlib.Path:
+    """Where a command leaves what failed in it and what it left out."""
+    return TABLE.with_name(f"gate-{command}.failed")
+
+
 def words_of(work: Work, options: Sequence[str], keeps: bool) -> list[str]:
     """The words of a step, with the option of its command that it takes. (A kit that keeps nothing has no word for `--anew`.)"""
     return [*work.words, *(it for it in options if it == work.takes and (keeps or it != "--anew"))]
@@ -317,7 +324,7 @@ def run_command(command: str, options: Sequence[str]) -> int:
             counts, heard = run_step(work, words, log)
             proved.note_all(kit, heard.proved, rests)
             sums = [sum(pair) for pair in zip(sums, counts)]
-            failures += heard.failures(words) if counts[1] else []
+            failures += [*heard.cases, *heard.failures(words)] if counts[1] else []
             left_out += heard.left_out
             wall, used = time.time() - start, used_so_far() - before
             rows.append([command, "step", work.name, f"{start - begun:.0f}", f"{wall:.0f}", f"{used:.0f}", *map(str, counts)])
@@ -327,7 +334,9 @@ def run_command(command: str, options: Sequence[str]) -> int:
     watch.is_over.set()
     watch.join()
     print(f"make {command} took {time.time() - begun:.0f} s, and {used_so_far() / 60:.0f} processor minutes")
-    print("".join(f"{it}\n" for it in [*left_out, *failures]), end="")
+    ends = "".join(f"{it}\n" for it in [*left_out, *failures])
+    failed_file(command).write_text(ends)
+    print(ends, end="")
     return close(sums[0], sums[1], sums[2] if command == "check" else sums[2] or None)
 
 
@@ -352,6 +361,9 @@ def show_sum() -> int:
     passed, failed, skipped = (sum(int(row[at]) for row in steps) for at in (6, 7, 8))
     wanted = {(command, work.name) for command, of in COMMANDS.items() for work in of}
     lacking = wanted - {(row[0], row[2]) for row in steps}
+    for command in COMMANDS:
+        if failed_file(command).exists():
+            print(failed_file(command).read_text(), end="")
     for command, name in sorted(lacking):
         print(f"FAILED: {name} of `make {command}` didn't run")
     return close(passed, failed + len(lacking), skipped)
