@@ -94,6 +94,11 @@ void pageshare_window_pace(struct pageshare_window_budget *budget, uint32_t perc
 void pageshare_window_give_credit(struct pageshare_window_budget *budget, uint64_t ns);
 /* Counts what was used since the last call. Returns how many nanoseconds the thread sleeps before it calls again; 0: it may work. */
 uint64_t pageshare_window_settle(struct pageshare_window_budget *budget, uint64_t now, uint64_t spent);
+/*
+ * Returns when something is done again that doesn't wait for the budget, began at `begun` and used `took` nanoseconds of processor time: after
+ * `least` nanoseconds, or later, so that it uses at most a tenth of a share of `percent`.
+ */
+uint64_t pageshare_window_again(uint32_t percent, uint64_t begun, uint64_t took, uint64_t least);
 
 /* How many mappings windows may take in all, of so many that the system lets the process have: a tenth, and at least 4,000, are left. */
 uint64_t pageshare_window_mappings_most(uint64_t limit);

@@ -100,11 +100,25 @@ def worth(library: Library, seen: Compared) -> None:
     seen.holds("its share after that", thread.percent_since(now, spent) <= 12)
 
 
+def chores(library: Library, seen: Compared, chance: random.Random) -> None:
+    """Something that is done by the clock, with a tenth of a share: when it is done again, and what its runs use together."""
+    percent, begun, first, used = chance.choice([0, 1, 2, 50, 100, 200]), 7, 7, 0
+    for _ in range(50):
+        took, least = chance.choice([0, 1, chance.randrange(100 * MS), 2**64 - 1]), chance.choice([0, 900 * MS, 2**64 - 1])
+        share = max(min(percent, 100), 1)
+        due = min(begun + max(least, -(-took * 1000 // share)), 2**64 - 1)
+        seen.equal("a chore", library.call("again", percent, begun, took, least), due)
+        if due < 2**64 - 1:
+            used, begun = used + took, due
+        seen.holds("a tenth", 1000 * used <= share * (begun - first))
+
+
 def run(tally: Tally, library: Library) -> None:
     """Budgets by rules, and a thread."""
     seen, chance = Compared(tally, "budgets by rules"), random.Random(2)
     for _ in range(1_000):
         by_rules(library, seen, chance)
+        chores(library, seen, chance)
     seen.close()
     seen = Compared(tally, "a thread keeps to its share")
     worth(library, seen)

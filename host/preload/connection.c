@@ -25,7 +25,6 @@ enum {
     BURST_PERCENT = 25,
     HUGE_FROM = 64,    /* pages of a huge page that could be shared, until which it stays whole */
     FORGET_LOOKS = 64, /* looks that fail with nothing, after which a failure is printed again */
-    OF_SHARE = 10,     /* one part in so many of its share the thread looks at descriptors, and another it does its chores */
     REST_MOST = 7,     /* idle pages that a look leaves out for one at which it glances, where nothing changes */
     /* processor time that may be used at the burst's rate. FIRST_NS: for each page of a new window, or beside a new host; FRESH_NS: for
      * one that is new in its window; SHARED_NS: for one that was lent or given back */
@@ -287,16 +286,6 @@ static void give_credits(const struct windows_counts *now) {
 
 static void write_counts(const struct windows_counts *now);
 
-/*
- * When that is done again which began at a time, and took so much processor time. A look attends to it also while the thread owes time: if it
- * came each second and took more than the thread's share, no look would ever go on.
- */
-static uint64_t again_ns(uint64_t begun_ns, uint64_t took_ns, uint64_t least_ns) {
-    enum { PERCENTS = 100 };
-    uint64_t apart_ns = took_ns * OF_SHARE * PERCENTS / share();
-    return begun_ns + (apart_ns > least_ns ? apart_ns : least_ns);
-}
-
 /* Looks at all descriptors, if it is time. Those that came by a socket are seen here, and where pages are guarded. */
 static void find_devices(void) {
     uint64_t begun_ns = now_ns(), spent_ns = clock_ns(CLOCK_THREAD_CPUTIME_ID);
@@ -306,7 +295,7 @@ static void find_devices(void) {
     }
     ranges_found(devices_open());
     uint64_t took_ns = clock_ns(CLOCK_THREAD_CPUTIME_ID) - spent_ns;
-    my.next_scan_ns = again_ns(begun_ns, took_ns, 0);
+    my.next_scan_ns = pageshare_window_again(share(), begun_ns, took_ns, 0);
     uint64_t apart_ns = my.next_scan_ns - begun_ns;
     if (apart_ns <= retry_ns || my.was_slow) return;
     my.was_slow = true;
@@ -328,7 +317,7 @@ static void do_chores(void) {
     windows_count(my.windows, &counts);
     give_credits(&counts);
     write_counts(&counts);
-    my.next_chores_ns = again_ns(begun_ns, clock_ns(CLOCK_THREAD_CPUTIME_ID) - spent_ns, chores_ns);
+    my.next_chores_ns = pageshare_window_again(share(), begun_ns, clock_ns(CLOCK_THREAD_CPUTIME_ID) - spent_ns, chores_ns);
 }
 
 /* Whether a host listens at the socket. */

@@ -9,6 +9,7 @@ ghost use Rattle.std.specs.Prelude.{◌≡◌, if◌then◌else◌, length, not,
 ghost use Rattle.std.specs.List.{list_any, prefix_len};
 ghost use Rattle.std.specs.Option.{option_map_or};
 ghost use Rattle.work_budget.specs.Budgets.{begun, credited, paced, settled, wait_of};
+ghost use Rattle.work_budget.specs.Chores.{again_at};
 ghost use Rattle.mapping_room.specs.Rooms.{fits, most_of};
 ghost use Rattle.offered_ranges.specs.Pieces.{IsFirst, meets};
 ghost use Rattle.offered_ranges.specs.Tables.{added, can_add, can_take_out, is_of, ranges_of, taken_out};
@@ -145,6 +146,15 @@ pub extern "C" fn pageshare_window_settle(budget: &mut WindowBudget, now: u64, s
     let wait = settled.settle(now, spent);
     put(budget, &settled);
     wait
+}
+
+/// Returns when something is done again that doesn't wait for the budget, began at `begun` and used `took` nanoseconds of processor time:
+/// after `least` nanoseconds, or later, so that it uses at most a tenth of a share of so many percent.
+#[unsafe(no_mangle)]
+pub extern "C" fn pageshare_window_again(percent: u32, begun: u64, took: u64, least: u64) -> u64
+    ensures { result ≡ again_at percent begun took least }
+{
+    work_budget::again_ns(percent, begun, took, least)
 }
 
 /// Returns how many mappings windows may take in all, of so many that the system lets the process have.

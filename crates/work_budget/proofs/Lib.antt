@@ -1,3 +1,4 @@
+pub mod Again
 pub mod LetOff
 pub mod Paid
 pub mod Stretched

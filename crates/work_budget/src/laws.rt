@@ -1,5 +1,6 @@
 //! No thread that keeps to its budget uses more than its share. The functions' bodies are empty: the contract is all there is.
 ghost use Rattle.work_budget.specs.Budgets.{called};
+ghost use Rattle.work_budget.specs.Chores.{KeepsToATenth};
 ghost use Rattle.work_budget.specs.Stretches.{EveryStretch, OneOrderMore, WaitsEnough, by_order_only, LettingOffIsWrong, NothingIsLetOff};
 
 /// For all calls in any order, whatever the clocks say: the time used over these calls is at most a sum of four. It consists of
@@ -30,4 +31,10 @@ pub fn wrong_budget()
 pub fn let_off_law()
     ensures wrong { LettingOffIsWrong }
     ensures never { NothingIsLetOff }
+{}
+
+/// Something that is done whether the budget lets the thread work or not, and each time no sooner than [`again_ns`](crate::again_ns) returned:
+/// until it is done again, it has used at most a tenth of the thread's share of the time since it was first done.
+pub fn chore_law()
+    ensures { KeepsToATenth }
 {}

@@ -2,8 +2,10 @@
 #![tactic(auto)]
 
 mod budget;
+mod chores;
 mod config;
 pub mod laws;
 
 pub use budget::Budget;
+pub use chores::{OF_SHARE, again_ns};
 pub use config::{Config, Counts};
