@@ -1,9 +1,11 @@
 //! What it means that a page is idle, and that no page waits for ever. The functions' bodies are empty: the contract is all there is.
+ghost use Rattle.std.specs.Prelude.{◌≡◌};
 ghost use Rattle.idle_pages.specs.Idle.{IdleIsAlike, IdleMeansAlike, IdleOverMeansAlike};
 ghost use Rattle.idle_pages.specs.Turns.{EachHasItsTurn, EachIsNoted};
 ghost use Rattle.idle_pages.specs.Samples.{LeftOutHasNoTurn, EachIsSampled};
 ghost use Rattle.idle_pages.specs.Ways.{ChangesAreMet, IdleIsGlancedAt, GlancesBeforeReads, OverIsNeverMet, KeptIsIdle, NewIsMet, EachIsRead, StaysIsIdle};
 ghost use Rattle.idle_pages.specs.Rests.{RestsWithin, ChangesEndRests, AllAreSampled, EachIsGlancedAt};
+ghost use Rattle.idle_pages.specs.declared.look.TheConstants.{ASKS_MOST, CALM_PART, PASSING_EACH, READ_EACH, READ_EACH_OVER, TOGETHER, TURNS, WHOLE_TURNS};
 
 /// An idle page was read at least twice since it was last met or forgotten, and the last two reads found the same fingerprint. With memory
 /// of its own it is idle exactly if that is so. Over a frame it is idle exactly if the last three reads did.
@@ -52,4 +54,16 @@ pub fn rest_law()
     ensures changes { ChangesEndRests }
     ensures all { AllAreSampled }
     ensures glanced { EachIsGlancedAt }
+{}
+
+/// How often an idle page is read or noted, and how often a page that nobody else has is asked about.
+pub fn numbers_law()
+    ensures read_each { READ_EACH ≡ 16 }
+    ensures read_each_over { READ_EACH_OVER ≡ 2 }
+    ensures passing_each { PASSING_EACH ≡ 4 }
+    ensures asks_most { ASKS_MOST ≡ 3 }
+    ensures turns { TURNS ≡ 8 }
+    ensures whole_turns { WHOLE_TURNS ≡ 2 }
+    ensures together { TOGETHER ≡ 64 }
+    ensures calm_part { CALM_PART ≡ 16 }
 {}

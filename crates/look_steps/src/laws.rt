@@ -1,5 +1,7 @@
 //! That each part has its turn, once. The functions' bodies are empty: the contract is all there is.
+ghost use Rattle.std.specs.Prelude.{◌≡◌};
 ghost use Rattle.look_steps.specs.Laws.{EachComesOnce, OverIsAll, NoneIsLost, ReturnsAreDue, ReturnsComeFirst, AllComeBack, ReturnsAreFew, NoneComesAtOnce};
+ghost use Rattle.look_steps.specs.declared.step.TheConstants.{MANY_YOUNG, RETURNS_MOST, RETURN_NS};
 
 /// Whatever was asked and found, the look has come to the parts before the next one, each once and in order. Once it is over, it has come to
 /// all.
@@ -21,4 +23,11 @@ pub fn return_law()
 pub fn few_law()
     ensures few { ReturnsAreFew }
     ensures still { NoneComesAtOnce }
+{}
+
+/// A look comes back to a part with 12 young pages a second later, and to at most 64 parts at a time.
+pub fn numbers_law()
+    ensures many_young { MANY_YOUNG ≡ 12 }
+    ensures return_ns { RETURN_NS ≡ 1000000000 }
+    ensures returns_most { RETURNS_MOST ≡ 64 }
 {}

@@ -1,6 +1,8 @@
 //! What the tasks of a look are worth. The functions' bodies are empty: the contract is all there is.
+ghost use Rattle.std.specs.Prelude.{◌≡◌};
 ghost use Rattle.look_tasks.specs.Budgets.{KeepsToItsShare};
 ghost use Rattle.look_tasks.specs.Laws.{AllPartsCome, AttendsAgain, AttendsInTime, EachPartComesOnce, FoundComesFirst, ReleasesComeFirst, StandsUntilItsEnd};
+ghost use Rattle.look_tasks.specs.declared.task.TheConstants.{ATTEND_NS, BATCH, NAP_NS};
 
 /// All pages that were found are shared or given back before the look comes back to a part, before it leaves a window, and before it ends.
 pub fn found_law()
@@ -30,4 +32,11 @@ pub fn attend_law()
 /// share of the time, its savings, its credit, the debt that it may have, and that one task. Attending to what may not wait is part of that.
 pub fn share_law()
     ensures { KeepsToItsShare }
+{}
+
+/// What may not wait is attended to each second, a nap takes a tenth of one at most, and 128 pages are shared together.
+pub fn numbers_law()
+    ensures attend_ns { ATTEND_NS ≡ 1000000000 }
+    ensures nap_ns { NAP_NS ≡ 100000000 }
+    ensures batch { BATCH ≡ 128 }
 {}

@@ -1,5 +1,7 @@
 //! What a guest's owner can rely on. The functions' bodies are empty: the contract is all there is.
+ghost use Rattle.std.specs.Prelude.{◌≡◌};
 ghost use Rattle.look_times.specs.Laws.{StaysInBounds, EagerComesSooner, FoundComesInTime, MuchComesSooner, CalmComesLater, TurnsStayInBounds, LooksAreApart, PausesAreEnough};
+ghost use Rattle.look_times.specs.declared.times.TheConstants.{ASKED_LITTLE, CALM_LOOKS, EAGER_LOOKS, FOUND_LITTLE, MUCH, MUCH_PART};
 
 /// Whatever looks find, the next one comes within two and a quarter periods, and a millisecond after the last at least. After a new window or
 /// lender so many come in a quarter of a period, and so does one after a look that found much. After a look that found more than next to
@@ -21,4 +23,14 @@ pub fn turns_law()
 pub fn pause_law()
     ensures apart { LooksAreApart }
     ensures pauses { PausesAreEnough }
+{}
+
+/// What is much, and what is next to nothing; and after how many looks the time between two becomes longer, or how many come sooner.
+pub fn numbers_law()
+    ensures much { MUCH ≡ 256 }
+    ensures much_part { MUCH_PART ≡ 128 }
+    ensures found_little { FOUND_LITTLE ≡ 4 }
+    ensures asked_little { ASKED_LITTLE ≡ 32 }
+    ensures calm_looks { CALM_LOOKS ≡ 30 }
+    ensures eager_looks { EAGER_LOOKS ≡ 8 }
 {}
