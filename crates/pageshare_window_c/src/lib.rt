@@ -5,7 +5,7 @@
 //! except that its references are valid. `window/pageshare_window.h` declares the same functions in C, and says what the caller owes.
 #![tactic(auto)]
 
-ghost use Rattle.std.specs.Prelude.{◌≡◌, if◌then◌else◌, length, not, slice_get, true, false};
+ghost use Rattle.std.specs.Prelude.{◌≡◌, ◌+◌, if◌then◌else◌, length, not, slice_get, true, false};
 ghost use Rattle.std.specs.List.{list_any, prefix_len};
 ghost use Rattle.std.specs.Option.{option_map_or};
 ghost use Rattle.work_budget.specs.Budgets.{begun, credited, paced, settled, wait_of};
@@ -216,6 +216,7 @@ pub extern "C" fn pageshare_window_add_range(
 ) -> bool
     ensures added { result ≡ can_add (length ranges.old) count.old (ranges_of count.old ranges.old) begin end }
     ensures ranges { ranges_of count.new ranges.new ≡ if result then added (ranges_of count.old ranges.old) begin end said else ranges_of count.old ranges.old }
+    ensures count { count.new ≡ if result then count.old + 1 else count.old }
 {
     add(ranges, count, begin, end, said)
 }
@@ -232,6 +233,7 @@ pub extern "C" fn pageshare_window_take_out(
 ) -> bool
     ensures taken { result ≡ can_take_out (length ranges.old) count.old begin end (slice_get (ranges_of count.old ranges.old) place) }
     ensures ranges { ranges_of count.new ranges.new ≡ if result then taken_out place begin end (slice_get (ranges_of count.old ranges.old) place) (ranges_of count.old ranges.old) else ranges_of count.old ranges.old }
+    ensures count { count.new ≡ if result then length (ranges_of count.new ranges.new) else count.old }
 {
     take_out(ranges, count, place, begin, end)
 }
