@@ -117,7 +117,7 @@ BODIES = {
     "keeps an order with which nobody began": Body("pages.c", WITHDRAWN, "", ["guards"]),
     "counts all pages in the first part": Body("set.h", "return &window->counts[(page + window->lead) / PART];",
                                                "return &window->counts[page * 0];", ["parts"]),
-    "forgets slots to release": Body("set.h", "belief_of(page) <= PAGESHARE_WINDOW_UNRELEASED;",
+    "forgets slots to release": Body("set.h", "belief_of(page) <= PAGESHARE_WINDOW_LEAVING;",
                                      "belief_of(page) <= PAGESHARE_WINDOW_HOMING;", ["pages"]),
     "never says that a watch ended": Body("lend.c", ENDED, ENDED.replace(".done", ".refused"), ["guards"]),
     "takes what is watched for what was refused": Body("lend.c", WATCHED, "PAGESHARE_WINDOW_NOT_TAKEN", ["guards"]),

@@ -203,20 +203,18 @@ enum pageshare_window_belief {
     PAGESHARE_WINDOW_PRIVATE = 0,         /* nothing is lent of it, and nothing is asked */
     PAGESHARE_WINDOW_CHOSEN = 1,          /* it is to be lent */
     PAGESHARE_WINDOW_COPIED = 2,          /* its bytes are in the lender's buffer */
-    PAGESHARE_WINDOW_UNANSWERED = 3,      /* a loan was asked for, and no answer came */
-    PAGESHARE_WINDOW_LOANED = 4,          /* the host gave a slot with a frame */
-    PAGESHARE_WINDOW_HELD = 5,            /* the same, and writes wait */
-    PAGESHARE_WINDOW_EQUAL = 6,           /* it was equal to the frame, and writes wait */
-    PAGESHARE_WINDOW_LETTING_GO = 7,      /* it isn't to be shown, and writes may wait; then its slot is to be released */
-    PAGESHARE_WINDOW_SHOWN = 8,           /* the frame was mapped in its place */
-    PAGESHARE_WINDOW_HOMING_IN_PLACE = 9, /* the same, and it is to get a copy of its own where it is */
-    PAGESHARE_WINDOW_HOMING = 10,         /* the same, and it may get other memory */
-    PAGESHARE_WINDOW_LEAVING = 11,        /* it shows no frame, and its slot is to be released */
-    PAGESHARE_WINDOW_UNRELEASED = 12,     /* its slot was released, and no answer came */
-    PAGESHARE_WINDOW_ZEROS = 13,          /* its memory is to be given back, if it is zeros */
-    PAGESHARE_WINDOW_HELD_ZEROS = 14,     /* the same, and writes wait */
-    PAGESHARE_WINDOW_EQUAL_ZEROS = 15,    /* it was zeros, and writes wait */
-    PAGESHARE_WINDOW_PUTTING_BACK = 16    /* it isn't to be given back, and writes may wait */
+    PAGESHARE_WINDOW_LOANED = 3,          /* the host gave a slot with a frame */
+    PAGESHARE_WINDOW_HELD = 4,            /* the same, and writes wait */
+    PAGESHARE_WINDOW_EQUAL = 5,           /* it was equal to the frame, and writes wait */
+    PAGESHARE_WINDOW_LETTING_GO = 6,      /* it isn't to be shown, and writes may wait; then its slot is to be released */
+    PAGESHARE_WINDOW_SHOWN = 7,           /* the frame was mapped in its place */
+    PAGESHARE_WINDOW_HOMING_IN_PLACE = 8, /* the same, and it is to get a copy of its own where it is */
+    PAGESHARE_WINDOW_HOMING = 9,          /* the same, and it may get other memory */
+    PAGESHARE_WINDOW_LEAVING = 10,        /* it shows no frame, and its slot is to be released */
+    PAGESHARE_WINDOW_ZEROS = 11,          /* its memory is to be given back, if it is zeros */
+    PAGESHARE_WINDOW_HELD_ZEROS = 12,     /* the same, and writes wait */
+    PAGESHARE_WINDOW_EQUAL_ZEROS = 13,    /* it was zeros, and writes wait */
+    PAGESHARE_WINDOW_PUTTING_BACK = 14    /* it isn't to be given back, and writes may wait */
 };
 
 /* What is to be done with a page. */
@@ -224,19 +222,17 @@ enum pageshare_window_order {
     PAGESHARE_WINDOW_WAIT = 0,           /* nothing */
     PAGESHARE_WINDOW_COPY = 1,           /* copy it to the lender's buffer */
     PAGESHARE_WINDOW_LEND = 2,           /* ask the host for a loan of what is in the buffer */
-    PAGESHARE_WINDOW_FIND_LOAN = 3,      /* find out whether the host gave one */
-    PAGESHARE_WINDOW_HOLD = 4,           /* let writes wait */
-    PAGESHARE_WINDOW_COMPARE = 5,        /* compare it with its frame */
-    PAGESHARE_WINDOW_MAP = 6,            /* map its frame in its place, and let writes wait no longer */
-    PAGESHARE_WINDOW_LET_GO = 7,         /* let writes wait no longer */
-    PAGESHARE_WINDOW_COPY_IN_PLACE = 8,  /* give it a copy of its own where it is */
-    PAGESHARE_WINDOW_TAKE_HOME = 9,      /* give it other memory of its own, with what it shows */
-    PAGESHARE_WINDOW_RELEASE = 10,       /* say to the host that its slot isn't needed */
-    PAGESHARE_WINDOW_FIND_SLOT = 11,     /* find out whether the host still has its slot */
-    PAGESHARE_WINDOW_HOLD_ZEROS = 12,    /* let writes wait, since it may be zeros */
-    PAGESHARE_WINDOW_COMPARE_ZEROS = 13, /* compare it with zeros */
-    PAGESHARE_WINDOW_GIVE_BACK = 14,     /* give its memory back, which leaves zeros, and let writes wait no longer */
-    PAGESHARE_WINDOW_PUT_BACK = 15       /* let writes wait no longer: it keeps its memory */
+    PAGESHARE_WINDOW_HOLD = 3,           /* let writes wait */
+    PAGESHARE_WINDOW_COMPARE = 4,        /* compare it with its frame */
+    PAGESHARE_WINDOW_MAP = 5,            /* map its frame in its place, and let writes wait no longer */
+    PAGESHARE_WINDOW_LET_GO = 6,         /* let writes wait no longer */
+    PAGESHARE_WINDOW_COPY_IN_PLACE = 7,  /* give it a copy of its own where it is */
+    PAGESHARE_WINDOW_TAKE_HOME = 8,      /* give it other memory of its own, with what it shows */
+    PAGESHARE_WINDOW_RELEASE = 9,        /* say to the host that its slot isn't needed */
+    PAGESHARE_WINDOW_HOLD_ZEROS = 10,    /* let writes wait, since it may be zeros */
+    PAGESHARE_WINDOW_COMPARE_ZEROS = 11, /* compare it with zeros */
+    PAGESHARE_WINDOW_GIVE_BACK = 12,     /* give its memory back, which leaves zeros, and let writes wait no longer */
+    PAGESHARE_WINDOW_PUT_BACK = 13       /* let writes wait no longer: it keeps its memory */
 };
 
 /*

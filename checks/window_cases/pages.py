@@ -6,7 +6,7 @@ import random
 from typing import Any
 
 from common.compared import Compared
-from common.plain_page import COPIED, DONE, FACTS, LEAVING, LENT, REFUSED, UNANSWERED, UNRELEASED, Facts, Page, sums
+from common.plain_page import DONE, FACTS, LENT, REFUSED, Facts, Page, sums
 from common.window_library import Library, values_of
 from harness import Tally
 
@@ -64,12 +64,9 @@ class Table:
         self.seen.equal("next", self.call("next", at, self.facts(facts)), self.known[at].next(facts))
 
     def take(self, at: int) -> None:
-        """Takes an outcome, which the page's order may have or not. Of some no answer comes: then the page is written so."""
+        """Takes an outcome, which the page's order may have or not."""
         known, which = self.known[at], self.chance.randrange(16)
-        if which == 0 and known.ordered and known.belief in (COPIED, LEAVING):
-            known.belief, known.ordered = {COPIED: UNANSWERED, LEAVING: UNRELEASED}[known.belief], False
-            self.pages[at].belief, self.pages[at].looks = known.bytes()[3:]
-        elif which <= 4:
+        if which <= 4:
             slot, frame = self.chance.randrange(2**32), self.chance.randrange(2**32)
             self.seen.equal(LENT, self.call(LENT, at, slot, frame), known.take(LENT, slot, frame))
         else:

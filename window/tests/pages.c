@@ -810,7 +810,7 @@ static bool releases(page_entry page) {
     struct pageshare_window_counts part = {.releases = 1, .lent = 1};
     for (int i = 0; i < 4; i++) {
         unsigned order = pageshare_window_next(&page, &part, &facts);
-        if (order == PAGESHARE_WINDOW_RELEASE || order == PAGESHARE_WINDOW_FIND_SLOT) return true;
+        if (order == PAGESHARE_WINDOW_RELEASE) return true;
         if (order == PAGESHARE_WINDOW_WAIT) return false;
         if (!pageshare_window_done(&page, &part)) pageshare_window_refused(&page, &part);
     }

@@ -42,7 +42,7 @@ pub fn wrong_lenders()
     ensures maps_uncompared { DoneByEvents (Belief.Held 7 0) (Order.Map 0) Outcome.Done (Belief.Shown 7 0) → ⊥ }
     ensures leaves_held { DoneByEvents (Belief.Held 7 0) (Order.Compare 0) Outcome.Refused (Belief.Leaving 7) → ⊥ }
     ensures doubts_no_hold { DoneByEvents (Belief.Loaned 7 0) Order.Hold Outcome.Unknown (Belief.Leaving 7) → ⊥ }
-    ensures trusts_release { DoneByEvents (Belief.Leaving 7) (Order.Release 7) Outcome.Unknown Belief.Private → ⊥ }
+    ensures trusts_release { DoneByEvents (Belief.Leaving 7) (Order.Release 7) Outcome.Refused Belief.Private → ⊥ }
     ensures sees_no_write { StaysRight (Belief.Shown 7 0) (Belief.Leaving 7) → ⊥ }
     ensures takes_for_zeros { DoneByEvents Belief.Zeros Order.HoldZeros Outcome.Done Belief.EqualZeros → ⊥ }
     ensures forgets_slot { HeardRightly (Belief.Shown 7 0) Belief.Private → ⊥ }

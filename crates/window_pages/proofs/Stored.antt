@@ -2,7 +2,7 @@
 use Rattle.std.proofs.Common.{◌≡◌, ◌∙◌, ℕ, ◌+◌, ◌*◌, ◌/◌, ◌%◌, ◌≤◌, Bool, true, false, cond, refl, ap, arith}
 use Rattle.std.specs.Prelude.{nat_eq}
 use Rattle.page_lender.specs.declared.belief.Belief.{Belief}
-use Rattle.page_lender.specs.declared.belief.Belief.TheVariants.{Private, Chosen, Copied, Unanswered, Loaned, Held, Equal, LettingGo, Shown, Homing, Leaving, Unreleased, Zeros, HeldZeros, EqualZeros, PuttingBack}
+use Rattle.page_lender.specs.declared.belief.Belief.TheVariants.{Private, Chosen, Copied, Loaned, Held, Equal, LettingGo, Shown, Homing, Leaving, Zeros, HeldZeros, EqualZeros, PuttingBack}
 use Rattle.window_lender.specs.Packing.{kind_of, slot_in, frame_in, belief_in}
 use Rattle.window_lender.specs.declared.packed.Kind.{Kind}
 use Rattle.window_pages.specs.Bytes.{belief_byte, belief_of, digit, kind_by, kind_number, known_of, looks_byte}
@@ -15,7 +15,6 @@ belief_again : (b : Belief) (slot n : ℕ) → belief_in (kind_by (kind_number (
 belief_again Private slot n = refl
 belief_again Chosen slot n = refl
 belief_again Copied slot n = refl
-belief_again Unanswered slot n = refl
 belief_again (Loaned s m) slot n = refl
 belief_again (Held s m) slot n = refl
 belief_again (Equal s m) slot n = refl
@@ -24,17 +23,15 @@ belief_again (Shown s m) slot n = refl
 belief_again (Homing s m true) slot n = refl
 belief_again (Homing s m false) slot n = refl
 belief_again (Leaving s) slot n = refl
-belief_again (Unreleased s) slot n = refl
 belief_again Zeros slot n = refl
 belief_again HeldZeros slot n = refl
 belief_again EqualZeros slot n = refl
 belief_again PuttingBack slot n = refl
 
-number_fits : (b : Belief) → kind_number (kind_of b) ≤ 16
+number_fits : (b : Belief) → kind_number (kind_of b) ≤ 14
 number_fits Private = omega arith
 number_fits Chosen = omega arith
 number_fits Copied = omega arith
-number_fits Unanswered = omega arith
 number_fits (Loaned s m) = omega arith
 number_fits (Held s m) = omega arith
 number_fits (Equal s m) = omega arith
@@ -43,7 +40,6 @@ number_fits (Shown s m) = omega arith
 number_fits (Homing s m true) = omega arith
 number_fits (Homing s m false) = omega arith
 number_fits (Leaving s) = omega arith
-number_fits (Unreleased s) = omega arith
 number_fits Zeros = omega arith
 number_fits HeldZeros = omega arith
 number_fits EqualZeros = omega arith
@@ -58,16 +54,16 @@ digit_is true = refl
 digit_is false = refl
 
 -- a number below 32, and three digits
-low_5 : (k a b c : ℕ) → k ≤ 16 → a ≤ 1 → b ≤ 1 → c ≤ 1 → (k + 32 * a + 64 * b + 128 * c) % 32 ≡ k
+low_5 : (k a b c : ℕ) → k ≤ 14 → a ≤ 1 → b ≤ 1 → c ≤ 1 → (k + 32 * a + 64 * b + 128 * c) % 32 ≡ k
 low_5 k a b c hk ha hb hc = omega arith
 
-at_32 : (k a b c : ℕ) → k ≤ 16 → a ≤ 1 → b ≤ 1 → c ≤ 1 → (k + 32 * a + 64 * b + 128 * c) / 32 % 2 ≡ a
+at_32 : (k a b c : ℕ) → k ≤ 14 → a ≤ 1 → b ≤ 1 → c ≤ 1 → (k + 32 * a + 64 * b + 128 * c) / 32 % 2 ≡ a
 at_32 k a b c hk ha hb hc = omega arith
 
-at_64 : (k a b c : ℕ) → k ≤ 16 → a ≤ 1 → b ≤ 1 → c ≤ 1 → (k + 32 * a + 64 * b + 128 * c) / 64 % 2 ≡ b
+at_64 : (k a b c : ℕ) → k ≤ 14 → a ≤ 1 → b ≤ 1 → c ≤ 1 → (k + 32 * a + 64 * b + 128 * c) / 64 % 2 ≡ b
 at_64 k a b c hk ha hb hc = omega arith
 
-at_128 : (k a b c : ℕ) → k ≤ 16 → a ≤ 1 → b ≤ 1 → c ≤ 1 → (k + 32 * a + 64 * b + 128 * c) / 128 % 2 ≡ c
+at_128 : (k a b c : ℕ) → k ≤ 14 → a ≤ 1 → b ≤ 1 → c ≤ 1 → (k + 32 * a + 64 * b + 128 * c) / 128 % 2 ≡ c
 at_128 k a b c hk ha hb hc = omega arith
 
 -- a multiple of 16, and four digits
@@ -125,7 +121,6 @@ believed_kept : (k : Kind) (slot n x y : ℕ) → belief_in k (cond (has_slot (b
 believed_kept Kind.Private slot n x y = refl
 believed_kept Kind.Chosen slot n x y = refl
 believed_kept Kind.Copied slot n x y = refl
-believed_kept Kind.Unanswered slot n x y = refl
 believed_kept Kind.Loaned slot n x y = refl
 believed_kept Kind.Held slot n x y = refl
 believed_kept Kind.Equal slot n x y = refl
@@ -134,7 +129,6 @@ believed_kept Kind.Shown slot n x y = refl
 believed_kept Kind.HomingInPlace slot n x y = refl
 believed_kept Kind.Homing slot n x y = refl
 believed_kept Kind.Leaving slot n x y = refl
-believed_kept Kind.Unreleased slot n x y = refl
 believed_kept Kind.Zeros slot n x y = refl
 believed_kept Kind.HeldZeros slot n x y = refl
 believed_kept Kind.EqualZeros slot n x y = refl

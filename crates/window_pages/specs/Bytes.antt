@@ -9,27 +9,25 @@ use Rattle.window_pages.specs.declared.page.WindowPage.{WindowPage}
 
 -- which belief has this number; one that none has is that of a private page
 abbrev pub kind_by : ℕ → Kind
-kind_by number = if number == 1 then Kind.Chosen else (if number == 2 then Kind.Copied else (if number == 3 then Kind.Unanswered else (if number == 4 then Kind.Loaned else (if number == 5 then Kind.Held else (if number == 6 then Kind.Equal else (if number == 7 then Kind.LettingGo else (if number == 8 then Kind.Shown else (if number == 9 then Kind.HomingInPlace else (if number == 10 then Kind.Homing else (if number == 11 then Kind.Leaving else (if number == 12 then Kind.Unreleased else (if number == 13 then Kind.Zeros else (if number == 14 then Kind.HeldZeros else (if number == 15 then Kind.EqualZeros else (if number == 16 then Kind.PuttingBack else Kind.Private)))))))))))))))
+kind_by number = if number == 1 then Kind.Chosen else (if number == 2 then Kind.Copied else (if number == 3 then Kind.Loaned else (if number == 4 then Kind.Held else (if number == 5 then Kind.Equal else (if number == 6 then Kind.LettingGo else (if number == 7 then Kind.Shown else (if number == 8 then Kind.HomingInPlace else (if number == 9 then Kind.Homing else (if number == 10 then Kind.Leaving else (if number == 11 then Kind.Zeros else (if number == 12 then Kind.HeldZeros else (if number == 13 then Kind.EqualZeros else (if number == 14 then Kind.PuttingBack else Kind.Private)))))))))))))
 
 -- and which number a belief has
 abbrev pub kind_number : Kind → ℕ
 kind_number Kind.Private = 0
 kind_number Kind.Chosen = 1
 kind_number Kind.Copied = 2
-kind_number Kind.Unanswered = 3
-kind_number Kind.Loaned = 4
-kind_number Kind.Held = 5
-kind_number Kind.Equal = 6
-kind_number Kind.LettingGo = 7
-kind_number Kind.Shown = 8
-kind_number Kind.HomingInPlace = 9
-kind_number Kind.Homing = 10
-kind_number Kind.Leaving = 11
-kind_number Kind.Unreleased = 12
-kind_number Kind.Zeros = 13
-kind_number Kind.HeldZeros = 14
-kind_number Kind.EqualZeros = 15
-kind_number Kind.PuttingBack = 16
+kind_number Kind.Loaned = 3
+kind_number Kind.Held = 4
+kind_number Kind.Equal = 5
+kind_number Kind.LettingGo = 6
+kind_number Kind.Shown = 7
+kind_number Kind.HomingInPlace = 8
+kind_number Kind.Homing = 9
+kind_number Kind.Leaving = 10
+kind_number Kind.Zeros = 11
+kind_number Kind.HeldZeros = 12
+kind_number Kind.EqualZeros = 13
+kind_number Kind.PuttingBack = 14
 
 -- what is believed of a page
 abbrev pub belief_of : WindowPage → Belief

@@ -42,20 +42,18 @@ fn kind_by(number: u8) -> Kind
     match number {
         1 => Kind::Chosen,
         2 => Kind::Copied,
-        3 => Kind::Unanswered,
-        4 => Kind::Loaned,
-        5 => Kind::Held,
-        6 => Kind::Equal,
-        7 => Kind::LettingGo,
-        8 => Kind::Shown,
-        9 => Kind::HomingInPlace,
-        10 => Kind::Homing,
-        11 => Kind::Leaving,
-        12 => Kind::Unreleased,
-        13 => Kind::Zeros,
-        14 => Kind::HeldZeros,
-        15 => Kind::EqualZeros,
-        16 => Kind::PuttingBack,
+        3 => Kind::Loaned,
+        4 => Kind::Held,
+        5 => Kind::Equal,
+        6 => Kind::LettingGo,
+        7 => Kind::Shown,
+        8 => Kind::HomingInPlace,
+        9 => Kind::Homing,
+        10 => Kind::Leaving,
+        11 => Kind::Zeros,
+        12 => Kind::HeldZeros,
+        13 => Kind::EqualZeros,
+        14 => Kind::PuttingBack,
         _ => Kind::Private,
     }
 }
@@ -63,26 +61,24 @@ fn kind_by(number: u8) -> Kind
 // Returns the number of a belief.
 fn kind_number(kind: Kind) -> u8
     ensures value { result ≡ kind_number kind }
-    ensures bound { result ≤ 16 }
+    ensures bound { result ≤ 14 }
 {
     match kind {
         Kind::Private => 0,
         Kind::Chosen => 1,
         Kind::Copied => 2,
-        Kind::Unanswered => 3,
-        Kind::Loaned => 4,
-        Kind::Held => 5,
-        Kind::Equal => 6,
-        Kind::LettingGo => 7,
-        Kind::Shown => 8,
-        Kind::HomingInPlace => 9,
-        Kind::Homing => 10,
-        Kind::Leaving => 11,
-        Kind::Unreleased => 12,
-        Kind::Zeros => 13,
-        Kind::HeldZeros => 14,
-        Kind::EqualZeros => 15,
-        Kind::PuttingBack => 16,
+        Kind::Loaned => 3,
+        Kind::Held => 4,
+        Kind::Equal => 5,
+        Kind::LettingGo => 6,
+        Kind::Shown => 7,
+        Kind::HomingInPlace => 8,
+        Kind::Homing => 9,
+        Kind::Leaving => 10,
+        Kind::Zeros => 11,
+        Kind::HeldZeros => 12,
+        Kind::EqualZeros => 13,
+        Kind::PuttingBack => 14,
     }
 }
 
@@ -109,7 +105,6 @@ pub(crate) fn has_slot(belief: Belief) -> bool
         Belief::Private => false,
         Belief::Chosen => false,
         Belief::Copied => false,
-        Belief::Unanswered => false,
         Belief::Loaned(_, _) => true,
         Belief::Held(_, _) => true,
         Belief::Equal(_, _) => true,
@@ -117,7 +112,6 @@ pub(crate) fn has_slot(belief: Belief) -> bool
         Belief::Shown(_, _) => true,
         Belief::Homing(_, _, _) => true,
         Belief::Leaving(_) => true,
-        Belief::Unreleased(_) => true,
         Belief::Zeros => false,
         Belief::HeldZeros => false,
         Belief::EqualZeros => false,
