@@ -59,7 +59,7 @@ pub use looks::{
     pageshare_window_is_left_out, pageshare_window_is_to_fetch, pageshare_window_set_rest,
     pageshare_window_wake,
 };
-use mapping_room::{MappingRoom, fits};
+use mapping_room::{fits, most};
 pub use mappings::{
     pageshare_window_mappings_at, pageshare_window_mappings_more, pageshare_window_mappings_new,
 };
@@ -152,7 +152,7 @@ pub extern "C" fn pageshare_window_settle(budget: &mut WindowBudget, now: u64, s
 pub extern "C" fn pageshare_window_mappings_most(limit: u64) -> u64
     ensures { result ≡ most_of limit }
 {
-    MappingRoom::new(limit).most()
+    most(limit)
 }
 
 /// Returns whether windows may take so many mappings more, where they have taken so many, and may take so many in all. None more always
