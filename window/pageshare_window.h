@@ -16,7 +16,6 @@
  *
  *     struct pageshare_window_budget budget;
  *     pageshare_window_begin(&budget, 2, 25, now, used);            2 percent of one processor, 25 while there is a credit
- *     uint64_t wait = pageshare_window_settle(&budget, now, used);  how long the thread sleeps before it asks again; 0: it may work
  *
  * Held pages in a row, each with a byte of `row`:
  *
@@ -49,7 +48,7 @@
  *     pageshare_window_end_transfer(transfers, 128, &elsewhere, place);
  *
  * Over any stretch of calls the thread uses at most a sum of these: its share of the time that passed, what was saved before, the credit,
- * what it may owe, and the work of one call. That holds if it works only after pageshare_window_settle has returned 0.
+ * what it may owe, and the work of one task. That holds if it sleeps when pageshare_window_next_task says so.
  *
  * The caller ensures:
  * - Pointers are valid, not null, and point to a page, counts, a budget or a table that no other thread uses during the call.
@@ -92,8 +91,6 @@ void pageshare_window_begin(struct pageshare_window_budget *budget, uint32_t per
 void pageshare_window_pace(struct pageshare_window_budget *budget, uint32_t percent, uint32_t burst);
 /* Adds to the credit: processor time that may be used beyond the share, up to the burst. */
 void pageshare_window_give_credit(struct pageshare_window_budget *budget, uint64_t ns);
-/* Counts what was used since the last call. Returns how many nanoseconds the thread sleeps before it calls again; 0: it may work. */
-uint64_t pageshare_window_settle(struct pageshare_window_budget *budget, uint64_t now, uint64_t spent);
 
 /* How many mappings windows may take in all, of so many that the system lets the process have: a tenth, and at least 4,000, are left. */
 uint64_t pageshare_window_mappings_most(uint64_t limit);

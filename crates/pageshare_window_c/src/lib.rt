@@ -8,7 +8,7 @@
 ghost use Rattle.std.specs.Prelude.{◌≡◌, if◌then◌else◌, length, not, slice_get, true, false};
 ghost use Rattle.std.specs.List.{list_any, prefix_len};
 ghost use Rattle.std.specs.Option.{option_map_or};
-ghost use Rattle.work_budget.specs.Budgets.{begun, credited, paced, settled, wait_of};
+ghost use Rattle.work_budget.specs.Budgets.{begun, credited, paced};
 ghost use Rattle.mapping_room.specs.Rooms.{fits, most_of};
 ghost use Rattle.offered_ranges.specs.Pieces.{IsFirst, meets};
 ghost use Rattle.offered_ranges.specs.Tables.{added, can_add, can_take_out, is_of, ranges_of, taken_out};
@@ -133,18 +133,6 @@ pub extern "C" fn pageshare_window_give_credit(budget: &mut WindowBudget, ns: u6
     let mut credited = budget_of(budget);
     credited.give_credit(ns);
     put(budget, &credited);
-}
-
-/// Counts what was used since the last call. Returns how many nanoseconds the thread waits before it calls again, 0 if it may work.
-#[unsafe(no_mangle)]
-pub extern "C" fn pageshare_window_settle(budget: &mut WindowBudget, now: u64, spent: u64) -> u64
-    ensures ledger { ledger_of budget.new ≡ settled (ledger_of budget.old) now spent }
-    ensures wait { result ≡ wait_of (ledger_of budget.new) }
-{
-    let mut settled = budget_of(budget);
-    let wait = settled.settle(now, spent);
-    put(budget, &settled);
-    wait
 }
 
 /// Returns how many mappings windows may take in all, of so many that the system lets the process have.
