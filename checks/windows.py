@@ -102,7 +102,7 @@ BODIES = {
     "says of no page that it leaves": Body("home.c", LEAVES, "(struct pageshare_window_facts){.leaves = false}", ["leaves"]),
     "forgets why pages go home": Body("home.c", "facts = facts_with(window, page, why);", "facts = facts_of(window, page);", ["leaves"]),
     "moves copies that a device may have": Body("home.c", "&facts, own[i]);", "&facts, false);", ["pages"]),
-    "forgets transfers": Body("pages.c", ".there = ROWS_MOST,", ".there = 0,", ["leaves"]),
+    "forgets transfers": Body("transfers.c", "&& pageshare_window_pin(window->pins, window->count, first, count);", ";", ["leaves"]),
     "forgets transfers that have no place": Body("pages.c", ".elsewhere = windows->transfers_elsewhere,", ".elsewhere = 0,", ["leaves"]),
     "begins transfers of no byte": Body("transfers.c", "begin, begin + buffers[i].iov_len, &begun)", "begin, begin, &begun)", ["leaves"]),
     "notes no page that was given up": Body("home.c", "pageshare_window_give_up(", LEFT_OUT, ["pages"]),

@@ -20,7 +20,7 @@
  * Held pages in a row, each with a byte of `row`:
  *
  *     pageshare_window_begin_row(pages, 4096, parts, 8, 0, 512, row, 16, takings, 16);
- *     while (pageshare_window_next_of_row(pages, 4096, parts, 8, 0, &table, pins, 0, transfers, 128, 512, row, 16, &order),
+ *     while (pageshare_window_next_of_row(pages, 4096, parts, 8, 0, &table, pins, 0, 512, row, 16, &order),
  *            order.step != PAGESHARE_WINDOW_HOLD_OVER)
  *         pageshare_window_row_done(pages, 4096, parts, 8, 0, 512, row, 16, &order, done, refused);  once the order was carried out
  *
@@ -44,7 +44,8 @@
  *     static struct pageshare_window_transfer transfers[128];
  *     uint64_t elsewhere = 0;
  *     size_t place = pageshare_window_begin_transfer(transfers, 128, &elsewhere, begin, end);
- *     pageshare_window_is_in_transfer(transfers, 128, 1, at, end)   a device may hold what lies there; or while `elsewhere` isn't 0
+ *     pageshare_window_pin(pins, 4096, 512, 2);                     counts it at its pages: a device may hold them, or any while `elsewhere` isn't 0
+ *     pageshare_window_unpin(pins, 4096, 512, 2);
  *     pageshare_window_end_transfer(transfers, 128, &elsewhere, place);
  *
  * Over any stretch of calls the thread uses at most a sum of these: its share of the time that passed, what was saved before, the credit,
@@ -170,12 +171,6 @@ size_t pageshare_window_begin_transfer(struct pageshare_window_transfer *table, 
                                        uint64_t begin, uint64_t end);
 /* Ends a transfer, by what pageshare_window_begin_transfer returned. */
 void pageshare_window_end_transfer(struct pageshare_window_transfer *table, size_t places, uint64_t *elsewhere, size_t place);
-/*
- * Whether one of the first `there` transfers of a table is under way of bytes from `begin` on, and below `end`. Where no more than so many
- * are there, that is whether any is.
- */
-bool pageshare_window_is_in_transfer(const struct pageshare_window_transfer *table, size_t places, uint64_t there, uint64_t begin,
-                                     uint64_t end);
 /*
  * Pins `count` of a window's pages from `from` on once more, or unpins them once. `pins`: how often each of its `pages` pages was pinned.
  * Returns false, and changes nothing, if they aren't all there, if one was pinned 65,535 times, or if one isn't pinned.
@@ -332,9 +327,7 @@ size_t pageshare_window_before_release(const struct pageshare_window_page *pages
 
 /* What is so of a window and its process, as far as it keeps the window's pages from being lent. */
 struct pageshare_window_table_facts {
-    uint64_t at;        /* the address of the window's first page */
-    uint64_t there;     /* how many transfers have a place in their table */
-    uint64_t elsewhere; /* how many have none, and may be of any page */
+    uint64_t elsewhere; /* how many transfers aren't counted at their pages, and may be of any page */
     bool may_pin;       /* devices may hold memory of any page that is a copy over a frame, for all that is known */
     bool inherited;     /* a child of a fork would have the window's pages */
     bool locked;        /* memory of the process is locked */
@@ -343,11 +336,10 @@ struct pageshare_window_table_facts {
 };
 
 /*
- * Finds what is so of a page: of its window and its process, of its pins and of the transfers, and `why` besides. `pins` has how often each page was
- * pinned; none was where it has no entries.
+ * Finds what is so of a page: of its window and its process, of its pins, and `why` besides. `pins` has how often each page was pinned; none was
+ * where it has no entries.
  */
 void pageshare_window_find_facts(const struct pageshare_window_table_facts *table, const uint16_t *pins, size_t pins_count,
-                                 const struct pageshare_window_transfer *transfers, size_t places,
                                  const struct pageshare_window_facts *why, size_t page, struct pageshare_window_facts *facts);
 /*
  * Of `count` pages from `first` on. Each returns false if they aren't all there.
@@ -358,12 +350,11 @@ void pageshare_window_find_facts(const struct pageshare_window_table_facts *tabl
  */
 bool pageshare_window_may_go_on(const struct pageshare_window_page *pages, size_t pages_count,
                                 const struct pageshare_window_table_facts *table, const uint16_t *pins, size_t pins_count,
-                                const struct pageshare_window_transfer *transfers, size_t places,
                                 const struct pageshare_window_facts *why, size_t first, size_t count);
 bool pageshare_window_may_give_up(const struct pageshare_window_page *pages, size_t pages_count, size_t first, size_t count);
 bool pageshare_window_are_movable(const struct pageshare_window_page *pages, size_t pages_count,
                                   const struct pageshare_window_table_facts *table, const uint16_t *pins, size_t pins_count,
-                                  const struct pageshare_window_transfer *transfers, size_t places, size_t first, size_t count);
+                                  size_t first, size_t count);
 /*
  * What becomes of `count` pages from `first` on. `parts` has the counts of each part of 512 pages, and `lead` pages of the first part lie before
  * the table. Each returns false, and notes nothing, if the pages aren't all there, or if the table has more pages than its parts.
@@ -439,8 +430,7 @@ bool pageshare_window_begin_row(struct pageshare_window_page *pages, size_t page
                                 const uint8_t *takings, size_t takings_count);
 void pageshare_window_next_of_row(struct pageshare_window_page *pages, size_t pages_count, struct pageshare_window_counts *parts,
                                   size_t parts_count, size_t lead, const struct pageshare_window_table_facts *table,
-                                  const uint16_t *pins, size_t pins_count, const struct pageshare_window_transfer *transfers,
-                                  size_t places, size_t first, const uint8_t *row, size_t row_count,
+                                  const uint16_t *pins, size_t pins_count, size_t first, const uint8_t *row, size_t row_count,
                                   struct pageshare_window_row_order *order);
 bool pageshare_window_row_done(struct pageshare_window_page *pages, size_t pages_count, struct pageshare_window_counts *parts,
                                size_t parts_count, size_t lead, size_t first, uint8_t *row, size_t row_count,

@@ -174,7 +174,7 @@ class Life:
     def set_facts(self, place: int, facts: Facts) -> None:
         """Where a call may go on that these are for no write to the page waits, and if it must not show a frame it shows none."""
         self.facts[place] = facts
-        table, none = self.library.make("table_facts"), (self.library.array("uint16_t", []), 0, self.library.array("transfer", []), 0)
+        table, none = self.library.make("table_facts"), (self.library.array("uint16_t", []), 0)
         if not self.library.call("may_go_on", self.pages, PAGES, table, *none, self.given_facts(facts), place, 1):
             return
         page = self.window(place)
@@ -224,12 +224,11 @@ class Life:
             self.seen.holds("written", self.call("written", place))
 
     def is_movable(self, place: int, facts: Facts, only_held: bool = False) -> bool:
-        none = (self.library.array("uint16_t", []), 0, self.library.array("transfer", []), 0)
         if only_held:
             return bool(self.library.call("may_give_up", self.pages, PAGES, place, 1))
         table = self.library.make("table_facts", may_pin=facts.may_pin, inherited=facts.inherited, locked=facts.locked, ends=facts.ended)
         pins = self.library.array("uint16_t", [facts.pinned] * PAGES)
-        return not facts.called and bool(self.library.call("are_movable", self.pages, PAGES, table, pins, PAGES, *none[2:], place, 1))
+        return not facts.called and bool(self.library.call("are_movable", self.pages, PAGES, table, pins, PAGES, place, 1))
 
     def next_lender(self) -> None:
         """The lender goes and another comes, with frames of its own. Each page shows what it showed, and most writes that waited wait still."""

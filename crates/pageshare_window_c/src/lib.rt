@@ -73,8 +73,8 @@ pub use page_pins::Transfer;
 use part::next_of_part;
 pub use part::{WindowPartConfig, WindowPartLook};
 pub use pins::{
-    pageshare_window_begin_transfer, pageshare_window_end_transfer,
-    pageshare_window_is_in_transfer, pageshare_window_pin, pageshare_window_unpin,
+    pageshare_window_begin_transfer, pageshare_window_end_transfer, pageshare_window_pin,
+    pageshare_window_unpin,
 };
 pub use ranges::{pageshare_window_bounds, pageshare_window_is_all_left};
 pub use tables::{
