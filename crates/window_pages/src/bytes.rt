@@ -1,12 +1,12 @@
 //! What is known of a page, as bytes.
 ghost use Rattle.std.specs.Prelude.{◌≡◌, ◌+◌, ◌*◌, ◌/◌, ◌%◌, ◌^◌, ◌<◌, ◌≤◌, if◌then◌else◌};
 ghost use Rattle.window_lender.specs.Packing.{frame_in, slot_in};
-ghost use Rattle.window_pages.specs.Bytes.{belief_byte, belief_of, bit, digit, kind_by, kind_number, known_of, looks_byte, nibble, notes_of};
+ghost use Rattle.window_pages.specs.Bytes.{belief_byte, belief_of, bit, digit, known_of, looks_byte, nibble, notes_of};
 ghost use Rattle.window_pages.specs.Known.{has_slot, kept_by, stored};
 
 use crate::{KnownPage, PageNotes, WindowPage};
 use page_lender::Belief;
-use window_lender::{Kind, belief_of, frame_of, kind_of, slot_of};
+use window_lender::{belief_of, frame_of, number_of, slot_of};
 
 // What a clue is below.
 pub(crate) const CLUES: u16 = 32_768;
@@ -35,59 +35,12 @@ fn nibble(a: bool, b: bool, c: bool, d: bool) -> u8
     digit(a) + 2 * digit(b) + 4 * digit(c) + 8 * digit(d)
 }
 
-// Returns which belief has this number. One that none has is that of a private page.
-fn kind_by(number: u8) -> Kind
-    ensures { result ≡ kind_by number }
-{
-    match number {
-        1 => Kind::Chosen,
-        2 => Kind::Copied,
-        3 => Kind::Loaned,
-        4 => Kind::Held,
-        5 => Kind::Equal,
-        6 => Kind::LettingGo,
-        7 => Kind::Shown,
-        8 => Kind::HomingInPlace,
-        9 => Kind::Homing,
-        10 => Kind::Leaving,
-        11 => Kind::Zeros,
-        12 => Kind::HeldZeros,
-        13 => Kind::EqualZeros,
-        14 => Kind::PuttingBack,
-        _ => Kind::Private,
-    }
-}
-
-// Returns the number of a belief.
-fn kind_number(kind: Kind) -> u8
-    ensures value { result ≡ kind_number kind }
-    ensures bound { result ≤ 14 }
-{
-    match kind {
-        Kind::Private => 0,
-        Kind::Chosen => 1,
-        Kind::Copied => 2,
-        Kind::Loaned => 3,
-        Kind::Held => 4,
-        Kind::Equal => 5,
-        Kind::LettingGo => 6,
-        Kind::Shown => 7,
-        Kind::HomingInPlace => 8,
-        Kind::Homing => 9,
-        Kind::Leaving => 10,
-        Kind::Zeros => 11,
-        Kind::HeldZeros => 12,
-        Kind::EqualZeros => 13,
-        Kind::PuttingBack => 14,
-    }
-}
-
 // Returns the byte of what is believed and of what lies at the page's place.
 fn belief_byte(page: &KnownPage) -> u8
     ensures { result ≡ belief_byte page.now }
 {
     let place = 32 * digit(page.over) + 64 * digit(page.past) + 128 * digit(page.out);
-    kind_number(kind_of(page.belief)) + place
+    number_of(page.belief) + place
 }
 
 // Returns the byte of the rest, where the looks and questions stay.
@@ -174,7 +127,7 @@ impl WindowPage {
     fn believed(&self) -> Belief
         ensures { result ≡ belief_of self.now }
     {
-        belief_of(kind_by(self.belief % 32), self.slot, self.frame)
+        belief_of(self.belief % 32, self.slot, self.frame)
     }
 
     /// Returns what is known of the page, apart from what looks have found.
