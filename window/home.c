@@ -345,36 +345,3 @@ void window_forget(struct window *window, size_t first, size_t count) {
     pageshare_window_unmap(window->pages, window->count, window->counts, parts_in(window), window->lead, first, count);
     windows->counts.mappings += mappings_of(window, first, count);
 }
-
-static struct window_result pin_part(struct window *window, size_t first, size_t count) {
-    struct window_result result = settle_home(window, first, count);
-    bool waits = result.status == WINDOW_OK && !may_go_on(window, first, count, (struct pageshare_window_facts){.pinned = true});
-    return waits ? result_of(WINDOW_STUCK, EBUSY) : result;
-}
-
-/* Pins pages once more, or unpins them once, if that can be done to all. Takes the lock. */
-static enum window_status change_pins(struct window *window, size_t first, size_t count, bool more) {
-    enum window_status status = WINDOW_OK;
-    lock_set(window->windows);
-    if (window->pins == NULL) window->pins = table_make(window->count, sizeof *window->pins);
-    if (window->pins == NULL) status = WINDOW_NO_MEMORY;
-    else if (more && !pageshare_window_pin(window->pins, window->count, first, count)) status = WINDOW_TOO_MANY_PINS;
-    else if (!more && !pageshare_window_unpin(window->pins, window->count, first, count)) status = WINDOW_BAD_RANGE;
-    unlock_set(window->windows);
-    return status;
-}
-
-struct window_result window_pin(struct window *window, size_t first, size_t count) {
-    if (!is_in(window, first, count)) return result_of(WINDOW_BAD_RANGE, EINVAL);
-    enum window_status status = change_pins(window, first, count, true);
-    if (status != WINDOW_OK) return result_of(status, status == WINDOW_NO_MEMORY ? ENOMEM : EOVERFLOW);
-    struct window_result result = for_parts(window, first, count, pin_part);
-    if (result.status != WINDOW_OK) change_pins(window, first, count, false);
-    return result;
-}
-
-struct window_result window_unpin(struct window *window, size_t first, size_t count) {
-    if (!is_in(window, first, count)) return result_of(WINDOW_BAD_RANGE, EINVAL);
-    enum window_status status = change_pins(window, first, count, false);
-    return result_of(status, status == WINDOW_OK ? 0 : EINVAL);
-}

@@ -17,12 +17,6 @@ void lock_for_look(struct windows *windows) {
     pthread_mutex_lock(&windows->lock);
 }
 
-bool is_in_transfer(const struct window *window, size_t page) {
-    struct pageshare_window_transfer row = {.is_there = false};
-    const uint64_t at = (uintptr_t)address_of(window, page), rows = find_transfers(window, page, 1, &row);
-    return pageshare_window_is_in_transfer(&row, rows, rows, at, at + WINDOW_PAGE_BYTES);
-}
-
 void find_pins(struct windows *windows) {
     if (windows->find_pins == NULL || windows->pins != WINDOWS_PINS_NEVER) return;
     if (windows->find_pins(windows->find_pins_opaque) != WINDOWS_PINS_NEVER) windows->pins = WINDOWS_PINS_POSSIBLE;
@@ -36,7 +30,7 @@ uint64_t slot_number(uint32_t name) { return (uint64_t)(name / WINDOW_SLOT_RESTS
 
 /* ---- what the library decides, and hears ---- */
 
-/* Where no page was pinned yet. */
+/* Where no transfer of a page was under way yet. */
 static const uint16_t no_pins;
 
 static size_t pins_in(const struct window *window) { return window->pins != NULL ? window->count : 0; }
@@ -45,9 +39,7 @@ static const uint16_t *pins_of(const struct window *window) { return window->pin
 
 struct pageshare_window_table_facts table_of(const struct window *window) {
     const struct windows *windows = window->windows;
-    return (struct pageshare_window_table_facts){.at = (uintptr_t)window->at,
-                                                 .there = ROWS_MOST, /* (all that find_transfers finds) */
-                                                 .elsewhere = windows->transfers_elsewhere,
+    return (struct pageshare_window_table_facts){.elsewhere = windows->transfers_elsewhere,
                                                  .may_pin = windows->pins != WINDOWS_PINS_NEVER,
                                                  .inherited = !window->advice.dont_fork,
                                                  .locked = windows->is_locked,
@@ -58,9 +50,7 @@ struct pageshare_window_table_facts table_of(const struct window *window) {
 void find_facts(const struct window *window, const struct pageshare_window_table_facts *table, size_t number,
                 struct pageshare_window_facts *facts) {
     static const struct pageshare_window_facts nothing;
-    struct pageshare_window_transfer row = {.is_there = false};
-    const size_t rows = find_transfers(window, number, 1, &row);
-    pageshare_window_find_facts(table, pins_of(window), pins_in(window), &row, rows, &nothing, number, facts);
+    pageshare_window_find_facts(table, pins_of(window), pins_in(window), &nothing, number, facts);
 }
 
 struct pageshare_window_facts facts_of(const struct window *window, size_t number) {
@@ -72,10 +62,8 @@ struct pageshare_window_facts facts_of(const struct window *window, size_t numbe
 
 struct pageshare_window_facts facts_with(const struct window *window, size_t number, struct pageshare_window_facts why) {
     const struct pageshare_window_table_facts table = table_of(window);
-    struct pageshare_window_transfer row = {.is_there = false};
-    const size_t rows = find_transfers(window, number, 1, &row);
     struct pageshare_window_facts facts;
-    pageshare_window_find_facts(&table, pins_of(window), pins_in(window), &row, rows, &why, number, &facts);
+    pageshare_window_find_facts(&table, pins_of(window), pins_in(window), &why, number, &facts);
     return facts;
 }
 
@@ -101,10 +89,7 @@ bool order_release(struct window *window, size_t number) {
 
 bool may_go_on(const struct window *window, size_t first, size_t count, struct pageshare_window_facts why) {
     const struct pageshare_window_table_facts table = table_of(window);
-    struct pageshare_window_transfer rows[ROWS_MOST];
-    const size_t found = find_transfers(window, first, count, rows);
-    return pageshare_window_may_go_on(window->pages, window->count, &table, pins_of(window), pins_in(window), rows, found, &why,
-                                      first, count);
+    return pageshare_window_may_go_on(window->pages, window->count, &table, pins_of(window), pins_in(window), &why, first, count);
 }
 
 bool may_give_up(const struct window *window, size_t first, size_t count) {
@@ -113,19 +98,14 @@ bool may_give_up(const struct window *window, size_t first, size_t count) {
 
 bool are_movable(const struct window *window, size_t first, size_t count) {
     const struct pageshare_window_table_facts table = table_of(window);
-    struct pageshare_window_transfer rows[ROWS_MOST];
-    const size_t found = find_transfers(window, first, count, rows);
-    return pageshare_window_are_movable(window->pages, window->count, &table, pins_of(window), pins_in(window), rows, found,
-                                        first, count);
+    return pageshare_window_are_movable(window->pages, window->count, &table, pins_of(window), pins_in(window), first, count);
 }
 
 struct pageshare_window_row_order next_of_row(struct window *window, size_t first, const uint8_t *row, size_t count) {
     const struct pageshare_window_table_facts table = table_of(window);
-    struct pageshare_window_transfer rows[HOLD_MOST];
-    const size_t found = find_transfers(window, first, count, rows);
     struct pageshare_window_row_order order;
     pageshare_window_next_of_row(window->pages, window->count, window->counts, parts_in(window), window->lead, &table,
-                                 pins_of(window), pins_in(window), rows, found, first, row, count, &order);
+                                 pins_of(window), pins_in(window), first, row, count, &order);
     return order;
 }
 

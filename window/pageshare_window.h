@@ -16,12 +16,11 @@
  *
  *     struct pageshare_window_budget budget;
  *     pageshare_window_begin(&budget, 2, 25, now, used);            2 percent of one processor, 25 while there is a credit
- *     uint64_t wait = pageshare_window_settle(&budget, now, used);  how long the thread sleeps before it asks again; 0: it may work
  *
  * Held pages in a row, each with a byte of `row`:
  *
  *     pageshare_window_begin_row(pages, 4096, parts, 8, 0, 512, row, 16, takings, 16);
- *     while (pageshare_window_next_of_row(pages, 4096, parts, 8, 0, &table, pins, 0, transfers, 128, 512, row, 16, &order),
+ *     while (pageshare_window_next_of_row(pages, 4096, parts, 8, 0, &table, pins, 0, 512, row, 16, &order),
  *            order.step != PAGESHARE_WINDOW_HOLD_OVER)
  *         pageshare_window_row_done(pages, 4096, parts, 8, 0, 512, row, 16, &order, done, refused);  once the order was carried out
  *
@@ -45,11 +44,12 @@
  *     static struct pageshare_window_transfer transfers[128];
  *     uint64_t elsewhere = 0;
  *     size_t place = pageshare_window_begin_transfer(transfers, 128, &elsewhere, begin, end);
- *     pageshare_window_is_in_transfer(transfers, 128, 1, at, end)   a device may hold what lies there; or while `elsewhere` isn't 0
+ *     pageshare_window_pin(pins, 4096, 512, 2);                     counts it at its pages: a device may hold them, or any while `elsewhere` isn't 0
+ *     pageshare_window_unpin(pins, 4096, 512, 2);
  *     pageshare_window_end_transfer(transfers, 128, &elsewhere, place);
  *
  * Over any stretch of calls the thread uses at most a sum of these: its share of the time that passed, what was saved before, the credit,
- * what it may owe, and the work of one call. That holds if it works only after pageshare_window_settle has returned 0.
+ * what it may owe, and the work of one task. That holds if it sleeps when pageshare_window_next_task says so.
  *
  * The caller ensures:
  * - Pointers are valid, not null, and point to a page, counts, a budget or a table that no other thread uses during the call.
@@ -92,8 +92,6 @@ void pageshare_window_begin(struct pageshare_window_budget *budget, uint32_t per
 void pageshare_window_pace(struct pageshare_window_budget *budget, uint32_t percent, uint32_t burst);
 /* Adds to the credit: processor time that may be used beyond the share, up to the burst. */
 void pageshare_window_give_credit(struct pageshare_window_budget *budget, uint64_t ns);
-/* Counts what was used since the last call. Returns how many nanoseconds the thread sleeps before it calls again; 0: it may work. */
-uint64_t pageshare_window_settle(struct pageshare_window_budget *budget, uint64_t now, uint64_t spent);
 /*
  * Returns when something is done again that doesn't wait for the budget, began at `begun` and used `took` nanoseconds of processor time: after
  * `least` nanoseconds, or later, so that it uses at most a tenth of a share of `percent`.
@@ -179,12 +177,6 @@ size_t pageshare_window_begin_transfer(struct pageshare_window_transfer *table, 
 /* Ends a transfer, by what pageshare_window_begin_transfer returned. */
 void pageshare_window_end_transfer(struct pageshare_window_transfer *table, size_t places, uint64_t *elsewhere, size_t place);
 /*
- * Whether one of the first `there` transfers of a table is under way of bytes from `begin` on, and below `end`. Where no more than so many
- * are there, that is whether any is.
- */
-bool pageshare_window_is_in_transfer(const struct pageshare_window_transfer *table, size_t places, uint64_t there, uint64_t begin,
-                                     uint64_t end);
-/*
  * Pins `count` of a window's pages from `from` on once more, or unpins them once. `pins`: how often each of its `pages` pages was pinned.
  * Returns false, and changes nothing, if they aren't all there, if one was pinned 65,535 times, or if one isn't pinned.
  */
@@ -208,20 +200,18 @@ enum pageshare_window_belief {
     PAGESHARE_WINDOW_PRIVATE = 0,         /* nothing is lent of it, and nothing is asked */
     PAGESHARE_WINDOW_CHOSEN = 1,          /* it is to be lent */
     PAGESHARE_WINDOW_COPIED = 2,          /* its bytes are in the lender's buffer */
-    PAGESHARE_WINDOW_UNANSWERED = 3,      /* a loan was asked for, and no answer came */
-    PAGESHARE_WINDOW_LOANED = 4,          /* the host gave a slot with a frame */
-    PAGESHARE_WINDOW_HELD = 5,            /* the same, and writes wait */
-    PAGESHARE_WINDOW_EQUAL = 6,           /* it was equal to the frame, and writes wait */
-    PAGESHARE_WINDOW_LETTING_GO = 7,      /* it isn't to be shown, and writes may wait; then its slot is to be released */
-    PAGESHARE_WINDOW_SHOWN = 8,           /* the frame was mapped in its place */
-    PAGESHARE_WINDOW_HOMING_IN_PLACE = 9, /* the same, and it is to get a copy of its own where it is */
-    PAGESHARE_WINDOW_HOMING = 10,         /* the same, and it may get other memory */
-    PAGESHARE_WINDOW_LEAVING = 11,        /* it shows no frame, and its slot is to be released */
-    PAGESHARE_WINDOW_UNRELEASED = 12,     /* its slot was released, and no answer came */
-    PAGESHARE_WINDOW_ZEROS = 13,          /* its memory is to be given back, if it is zeros */
-    PAGESHARE_WINDOW_HELD_ZEROS = 14,     /* the same, and writes wait */
-    PAGESHARE_WINDOW_EQUAL_ZEROS = 15,    /* it was zeros, and writes wait */
-    PAGESHARE_WINDOW_PUTTING_BACK = 16    /* it isn't to be given back, and writes may wait */
+    PAGESHARE_WINDOW_LOANED = 3,          /* the host gave a slot with a frame */
+    PAGESHARE_WINDOW_HELD = 4,            /* the same, and writes wait */
+    PAGESHARE_WINDOW_EQUAL = 5,           /* it was equal to the frame, and writes wait */
+    PAGESHARE_WINDOW_LETTING_GO = 6,      /* it isn't to be shown, and writes may wait; then its slot is to be released */
+    PAGESHARE_WINDOW_SHOWN = 7,           /* the frame was mapped in its place */
+    PAGESHARE_WINDOW_HOMING_IN_PLACE = 8, /* the same, and it is to get a copy of its own where it is */
+    PAGESHARE_WINDOW_HOMING = 9,          /* the same, and it may get other memory */
+    PAGESHARE_WINDOW_LEAVING = 10,        /* it shows no frame, and its slot is to be released */
+    PAGESHARE_WINDOW_ZEROS = 11,          /* its memory is to be given back, if it is zeros */
+    PAGESHARE_WINDOW_HELD_ZEROS = 12,     /* the same, and writes wait */
+    PAGESHARE_WINDOW_EQUAL_ZEROS = 13,    /* it was zeros, and writes wait */
+    PAGESHARE_WINDOW_PUTTING_BACK = 14    /* it isn't to be given back, and writes may wait */
 };
 
 /* What is to be done with a page. */
@@ -229,19 +219,17 @@ enum pageshare_window_order {
     PAGESHARE_WINDOW_WAIT = 0,           /* nothing */
     PAGESHARE_WINDOW_COPY = 1,           /* copy it to the lender's buffer */
     PAGESHARE_WINDOW_LEND = 2,           /* ask the host for a loan of what is in the buffer */
-    PAGESHARE_WINDOW_FIND_LOAN = 3,      /* find out whether the host gave one */
-    PAGESHARE_WINDOW_HOLD = 4,           /* let writes wait */
-    PAGESHARE_WINDOW_COMPARE = 5,        /* compare it with its frame */
-    PAGESHARE_WINDOW_MAP = 6,            /* map its frame in its place, and let writes wait no longer */
-    PAGESHARE_WINDOW_LET_GO = 7,         /* let writes wait no longer */
-    PAGESHARE_WINDOW_COPY_IN_PLACE = 8,  /* give it a copy of its own where it is */
-    PAGESHARE_WINDOW_TAKE_HOME = 9,      /* give it other memory of its own, with what it shows */
-    PAGESHARE_WINDOW_RELEASE = 10,       /* say to the host that its slot isn't needed */
-    PAGESHARE_WINDOW_FIND_SLOT = 11,     /* find out whether the host still has its slot */
-    PAGESHARE_WINDOW_HOLD_ZEROS = 12,    /* let writes wait, since it may be zeros */
-    PAGESHARE_WINDOW_COMPARE_ZEROS = 13, /* compare it with zeros */
-    PAGESHARE_WINDOW_GIVE_BACK = 14,     /* give its memory back, which leaves zeros, and let writes wait no longer */
-    PAGESHARE_WINDOW_PUT_BACK = 15       /* let writes wait no longer: it keeps its memory */
+    PAGESHARE_WINDOW_HOLD = 3,           /* let writes wait */
+    PAGESHARE_WINDOW_COMPARE = 4,        /* compare it with its frame */
+    PAGESHARE_WINDOW_MAP = 5,            /* map its frame in its place, and let writes wait no longer */
+    PAGESHARE_WINDOW_LET_GO = 6,         /* let writes wait no longer */
+    PAGESHARE_WINDOW_COPY_IN_PLACE = 7,  /* give it a copy of its own where it is */
+    PAGESHARE_WINDOW_TAKE_HOME = 8,      /* give it other memory of its own, with what it shows */
+    PAGESHARE_WINDOW_RELEASE = 9,        /* say to the host that its slot isn't needed */
+    PAGESHARE_WINDOW_HOLD_ZEROS = 10,    /* let writes wait, since it may be zeros */
+    PAGESHARE_WINDOW_COMPARE_ZEROS = 11, /* compare it with zeros */
+    PAGESHARE_WINDOW_GIVE_BACK = 12,     /* give its memory back, which leaves zeros, and let writes wait no longer */
+    PAGESHARE_WINDOW_PUT_BACK = 13       /* let writes wait no longer: it keeps its memory */
 };
 
 /*
@@ -344,9 +332,7 @@ size_t pageshare_window_before_release(const struct pageshare_window_page *pages
 
 /* What is so of a window and its process, as far as it keeps the window's pages from being lent. */
 struct pageshare_window_table_facts {
-    uint64_t at;        /* the address of the window's first page */
-    uint64_t there;     /* how many transfers have a place in their table */
-    uint64_t elsewhere; /* how many have none, and may be of any page */
+    uint64_t elsewhere; /* how many transfers aren't counted at their pages, and may be of any page */
     bool may_pin;       /* devices may hold memory of any page that is a copy over a frame, for all that is known */
     bool inherited;     /* a child of a fork would have the window's pages */
     bool locked;        /* memory of the process is locked */
@@ -355,11 +341,10 @@ struct pageshare_window_table_facts {
 };
 
 /*
- * Finds what is so of a page: of its window and its process, of its pins and of the transfers, and `why` besides. `pins` has how often each page was
- * pinned; none was where it has no entries.
+ * Finds what is so of a page: of its window and its process, of its pins, and `why` besides. `pins` has how often each page was pinned; none was
+ * where it has no entries.
  */
 void pageshare_window_find_facts(const struct pageshare_window_table_facts *table, const uint16_t *pins, size_t pins_count,
-                                 const struct pageshare_window_transfer *transfers, size_t places,
                                  const struct pageshare_window_facts *why, size_t page, struct pageshare_window_facts *facts);
 /*
  * Of `count` pages from `first` on. Each returns false if they aren't all there.
@@ -370,12 +355,11 @@ void pageshare_window_find_facts(const struct pageshare_window_table_facts *tabl
  */
 bool pageshare_window_may_go_on(const struct pageshare_window_page *pages, size_t pages_count,
                                 const struct pageshare_window_table_facts *table, const uint16_t *pins, size_t pins_count,
-                                const struct pageshare_window_transfer *transfers, size_t places,
                                 const struct pageshare_window_facts *why, size_t first, size_t count);
 bool pageshare_window_may_give_up(const struct pageshare_window_page *pages, size_t pages_count, size_t first, size_t count);
 bool pageshare_window_are_movable(const struct pageshare_window_page *pages, size_t pages_count,
                                   const struct pageshare_window_table_facts *table, const uint16_t *pins, size_t pins_count,
-                                  const struct pageshare_window_transfer *transfers, size_t places, size_t first, size_t count);
+                                  size_t first, size_t count);
 /*
  * What becomes of `count` pages from `first` on. `parts` has the counts of each part of 512 pages, and `lead` pages of the first part lie before
  * the table. Each returns false, and notes nothing, if the pages aren't all there, or if the table has more pages than its parts.
@@ -451,8 +435,7 @@ bool pageshare_window_begin_row(struct pageshare_window_page *pages, size_t page
                                 const uint8_t *takings, size_t takings_count);
 void pageshare_window_next_of_row(struct pageshare_window_page *pages, size_t pages_count, struct pageshare_window_counts *parts,
                                   size_t parts_count, size_t lead, const struct pageshare_window_table_facts *table,
-                                  const uint16_t *pins, size_t pins_count, const struct pageshare_window_transfer *transfers,
-                                  size_t places, size_t first, const uint8_t *row, size_t row_count,
+                                  const uint16_t *pins, size_t pins_count, size_t first, const uint8_t *row, size_t row_count,
                                   struct pageshare_window_row_order *order);
 bool pageshare_window_row_done(struct pageshare_window_page *pages, size_t pages_count, struct pageshare_window_counts *parts,
                                size_t parts_count, size_t lead, size_t first, uint8_t *row, size_t row_count,

@@ -18,8 +18,7 @@ enum {
     HOME_MOST = 64,      /* pages that are guarded at once while they are copied home */
     FOUND_MOST = PART + WINDOW_BATCH, /* what a part has, beside less than a batch that was found before it */
     STILL = 3,                        /* looks with the same fingerprint that make a page idle */
-    ASKS_APART_MOST = 3,              /* questions about a page that were in vain are counted up to this number */
-    ROWS_MOST = PART / 2              /* rows of a part's pages of which transfers are under way */
+    ASKS_APART_MOST = 3               /* questions about a page that were in vain are counted up to this number */
 };
 
 /* In place of a frame's number: the page is zeros, and goes back to the system. */
@@ -59,7 +58,7 @@ static inline bool is_lent(const page_entry *page) {
 }
 /* Whether the host counts a slot for it. */
 static inline bool has_slot(const page_entry *page) {
-    return belief_of(page) >= PAGESHARE_WINDOW_LOANED && belief_of(page) <= PAGESHARE_WINDOW_UNRELEASED;
+    return belief_of(page) >= PAGESHARE_WINDOW_LOANED && belief_of(page) <= PAGESHARE_WINDOW_LEAVING;
 }
 /* Whether it shows a frame of a lender that is gone, as far as is known; or was given back as zeros, and has no memory since. */
 static inline bool shows_past(const page_entry *page) { return is_over(page) && is_same(page); }
@@ -84,8 +83,7 @@ struct window {
     page_entry *pages;
     struct part *parts;
     struct pageshare_window_counts *counts; /* of each part's pages */
-    uint16_t *pins;                         /* of each page; NULL: none was pinned yet */
-    uint16_t *moving;                       /* how many transfers are under way of each page; NULL: none was yet */
+    uint16_t *pins;                         /* how many transfers are under way of each page; NULL: none was yet */
     uint8_t *cleared;                       /* a bit of each page: it was given up over a frame, where it is zeros of its own */
     struct advice found;                    /* what was said of the range before it was a window */
     struct advice advice;
@@ -131,7 +129,6 @@ struct windows {
     /* Transfers by O_DIRECT that are under way, which may have pinned the pages of their memory. Each window counts them at its pages. */
     struct transfer_place *places;
     size_t places_count, places_free; /* how many there are; one more than the first free one, or 0 */
-    size_t transfers_count;           /* how many places have one */
     uint64_t transfers_elsewhere;     /* those that have no place, or aren't counted at their pages */
     size_t mappings_most, locked_kib;
     bool follows_limit;      /* nobody said how many mappings there may be: the system's limit counts, also when it is raised */
@@ -202,17 +199,14 @@ static inline bool can_lend(const struct window *window) {
     return window->advice.dont_fork && !window->ends && !window->windows->is_over;
 }
 
-/*
- * Finds rows of pages, of at most PART, of which transfers are under way: `rows` has place for as many, and at most ROWS_MOST. Returns how
- * many there are. With the lock.
- */
-size_t find_transfers(const struct window *window, size_t first, size_t count, struct pageshare_window_transfer *rows);
 /* Counts those that are under way at the pages of a new window. Returns false if that can't be. With the lock. */
 bool count_transfers(struct window *window);
 size_t bytes_of_places(const struct windows *windows);
 void free_places(struct windows *windows);
 /* Whether a transfer of a page is under way. With the lock. */
-bool is_in_transfer(const struct window *window, size_t page);
+static inline bool is_in_transfer(const struct window *window, size_t page) {
+    return window->pins != NULL && window->pins[page] > 0;
+}
 /* Whether any page with a copy over a frame may be pinned, for all that is known. With the lock. */
 static inline bool may_pin(const struct windows *windows) {
     return windows->pins != WINDOWS_PINS_NEVER || windows->transfers_elsewhere > 0;

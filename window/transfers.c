@@ -26,8 +26,8 @@ static bool count_at(struct window *window, const struct pageshare_window_transf
     size_t first, count;
     find_pages(window, transfer->begin, transfer->end, &first, &count);
     if (count == 0) return true;
-    if (window->moving == NULL) window->moving = table_make(window->count, sizeof *window->moving);
-    return window->moving != NULL && pageshare_window_pin(window->moving, window->count, first, count);
+    if (window->pins == NULL) window->pins = table_make(window->count, sizeof *window->pins);
+    return window->pins != NULL && pageshare_window_pin(window->pins, window->count, first, count);
 }
 
 /* Counts it no more, at windows before this one. */
@@ -35,7 +35,7 @@ static void count_no_more(struct windows *windows, const struct pageshare_window
     size_t first, count;
     for (struct window *window = windows->first; window != stop; window = window->next) {
         find_pages(window, transfer->begin, transfer->end, &first, &count);
-        if (count > 0) pageshare_window_unpin(window->moving, window->count, first, count);
+        if (count > 0) pageshare_window_unpin(window->pins, window->count, first, count);
     }
 }
 
@@ -86,7 +86,6 @@ static bool begin_one(struct windows *windows, uint64_t begin, uint64_t end, str
     windows->places_free = place->next;
     place->next = begun->first;
     begun->first = number;
-    windows->transfers_count++;
     return true;
 }
 
@@ -112,23 +111,9 @@ void windows_transfer_end(struct windows *windows, struct windows_transfer trans
         next = place->next;
         place->next = windows->places_free;
         windows->places_free = number;
-        windows->transfers_count--;
     }
     for (size_t i = 0; i < transfer.elsewhere; i++) pageshare_window_end_transfer(&none, 0, &windows->transfers_elsewhere, 0);
     unlock_set(windows);
-}
-
-size_t find_transfers(const struct window *window, size_t first, size_t count, struct pageshare_window_transfer *rows) {
-    size_t found = 0;
-    if (window->moving == NULL || window->windows->transfers_count == 0) return 0;
-    for (size_t page = first, end = first; page < first + count; page = end) {
-        for (end = page + 1; end < first + count && (window->moving[end] > 0) == (window->moving[page] > 0); end++) {
-        }
-        if (window->moving[page] == 0) continue;
-        rows[found++] = (struct pageshare_window_transfer){
-            .begin = (uintptr_t)address_of(window, page), .end = (uintptr_t)address_of(window, end), .is_there = true};
-    }
-    return found;
 }
 
 size_t bytes_of_places(const struct windows *windows) { return windows->places_count * sizeof *windows->places; }

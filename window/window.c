@@ -12,7 +12,6 @@ void free_window(struct window *window) {
     table_free(window->parts, parts_in(window), sizeof *window->parts);
     table_free(window->counts, parts_in(window), sizeof *window->counts);
     table_free(window->pins, window->count, sizeof *window->pins);
-    table_free(window->moving, window->count, sizeof *window->moving);
     table_free(window->cleared, bytes_of_bits(window), sizeof *window->cleared);
     table_free(window, 1, sizeof *window);
 }

@@ -32,17 +32,16 @@
 /* What a call came to. `cause` is an errno, or 0. */
 enum window_status {
     WINDOW_OK,
-    WINDOW_NO_MEMORY,     /* for tables */
-    WINDOW_NO_FAULTS,     /* no userfaultfd that write-protects shared memory (docs/INSTALL.md, Which Linux), or no right to it */
-    WINDOW_NO_PAGEMAP,    /* the system doesn't show which pages were copied */
-    WINDOW_LOCKED,        /* memory is locked (mlock, mlockall): the kernel would copy each frame that is mapped */
-    WINDOW_BAD_RANGE,     /* not whole pages, out of the window, too many pages, or in another window already */
-    WINDOW_BAD_MEMORY,    /* not private anonymous memory that is readable and writable, or not of one kind throughout */
-    WINDOW_BAD_LENDER,    /* a lender's parts are missing or out of range, or its file isn't that large */
-    WINDOW_HAS_LENDER,    /* windows_attach without windows_detach */
-    WINDOW_PINNED,        /* pages that a device may have pinned would have to leave their memory */
-    WINDOW_TOO_MANY_PINS, /* a page is pinned 65,535 times */
-    WINDOW_NO_MAPPING,    /* the system has no mapping, or no memory: the pages show what they showed */
+    WINDOW_NO_MEMORY,  /* for tables */
+    WINDOW_NO_FAULTS,  /* no userfaultfd that write-protects shared memory (docs/INSTALL.md, Which Linux), or no right to it */
+    WINDOW_NO_PAGEMAP, /* the system doesn't show which pages were copied */
+    WINDOW_LOCKED,     /* memory is locked (mlock, mlockall): the kernel would copy each frame that is mapped */
+    WINDOW_BAD_RANGE,  /* not whole pages, out of the window, too many pages, or in another window already */
+    WINDOW_BAD_MEMORY, /* not private anonymous memory that is readable and writable, or not of one kind throughout */
+    WINDOW_BAD_LENDER, /* a lender's parts are missing or out of range, or its file isn't that large */
+    WINDOW_HAS_LENDER, /* windows_attach without windows_detach */
+    WINDOW_PINNED,     /* pages that a device may have pinned would have to leave their memory */
+    WINDOW_NO_MAPPING, /* the system has no mapping, or no memory: the pages show what they showed */
     WINDOW_STUCK, /* the system refused to put pages back that were held: the next look tries again. Threads that use them wait */
     WINDOW_LENDER_FAILED, /* the lender returned `cause` */
     WINDOW_ADVICE,        /* the system refused to tell a range's memory policy, or to set its advice or policy again */
@@ -129,9 +128,6 @@ struct window_result windows_attach(struct windows *windows, const struct window
  * Pages that show its frames are lent anew when there is a lender again.
  */
 void windows_detach(struct windows *windows);
-/* Calls `each` for every slot that is not released yet, until it returns something else than 0, and returns that or 0. `shown`:
- * the page may show the slot's frame still. By the thread that looks. */
-int windows_each_slot(struct windows *windows, int (*each)(void *opaque, uint32_t page, uint64_t slot, bool shown), void *opaque);
 
 /* From now on, also for windows that there are. A window that was made with huge_from 0 keeps no huge pages. */
 void windows_tune(struct windows *windows, const struct windows_tuning *tuning);
@@ -226,13 +222,6 @@ struct window_result window_discard(struct window *window, size_t first, size_t 
 
 /* How many pages from `first` on, of at most `most` (at least 1), are all the window's or all not; and which: see window_cut. */
 size_t window_run(struct window *window, size_t first, size_t most, bool *is_its);
-
-/*
- * Pages are about to be pinned by a device, and get memory of their own until window_unpin was called as often as window_pin. A page
- * that is not pinned isn't unpinned either. Where the status isn't WINDOW_OK no page's count has changed.
- */
-struct window_result window_pin(struct window *window, size_t first, size_t count);
-struct window_result window_unpin(struct window *window, size_t first, size_t count);
 
 /*
  * Pages get memory of their own and leave the window for good. `*kept` counts those of them whose copies have to stay over frames, since

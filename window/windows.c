@@ -20,7 +20,6 @@ const char *window_status_words(enum window_status status) {
         [WINDOW_BAD_LENDER] = "the lender lacks something, or its file is too short or not sealed",
         [WINDOW_HAS_LENDER] = "a lender is attached already",
         [WINDOW_PINNED] = "pages are pinned",
-        [WINDOW_TOO_MANY_PINS] = "a page is pinned too often",
         [WINDOW_NO_MAPPING] = "the system refused a mapping or a guard",
         [WINDOW_STUCK] = "pages that were held can't be put back yet",
         [WINDOW_LENDER_FAILED] = "the lender failed",
@@ -227,28 +226,6 @@ void windows_detach(struct windows *windows) {
     unlock_set(windows);
 }
 
-typedef int each_slot(void *opaque, uint32_t page, uint64_t slot, bool shown);
-
-/* Takes the lock. */
-static int each_slot_of_part(struct window *window, size_t first, each_slot *each, void *opaque) {
-    int stopped = 0;
-    lock_for_look(window->windows);
-    for (size_t i = first; i < first + rest_of_part(window, first) && stopped == 0; i++) {
-        const page_entry *page = &window->pages[i];
-        if (has_slot(page)) stopped = each(opaque, window->base + (uint32_t)i, slot_number(page->slot), is_lent(page));
-    }
-    unlock_set(window->windows);
-    return stopped;
-}
-
-int windows_each_slot(struct windows *windows, each_slot *each, void *opaque) {
-    int stopped = 0;
-    for (struct window *window = first_window(windows); window != NULL && stopped == 0; window = window->next)
-        for (size_t first = 0; first < window->count && stopped == 0; first += rest_of_part(window, first))
-            stopped = each_slot_of_part(window, first, each, opaque);
-    return stopped;
-}
-
 void windows_tune(struct windows *windows, const struct windows_tuning *tuning) {
     lock_set(windows);
     windows->tuning = *tuning;
@@ -294,7 +271,6 @@ void windows_count(struct windows *windows, struct windows_counts *counts) {
         counts->table_bytes += sizeof *window + window->count * sizeof window->pages[0];
         counts->table_bytes += parts * (sizeof window->parts[0] + sizeof window->counts[0]) + window->count / 8;
         if (window->pins != NULL) counts->table_bytes += window->count * sizeof window->pins[0];
-        if (window->moving != NULL) counts->table_bytes += window->count * sizeof window->moving[0];
     }
     unlock_set(windows);
 }

@@ -10,7 +10,7 @@ from harness import Tally
 
 MS = 1_000_000
 SAVED_MOST, OWED_MOST, CREDIT_MOST, WAITED_FOR_MOST = 2 * MS, MS // 5, 60_000 * MS, 10_000 * MS
-LONGEST = 4 * MS
+LONGEST, NAP_MOST = 4 * MS, 100 * MS
 
 
 class Plain:
@@ -41,7 +41,22 @@ class Plain:
         return 0 if self.owed <= OWED_MOST else -(-min(self.owed, WAITED_FOR_MOST) * 100 // rate)
 
 
-def by_rules(library: Library, seen: Compared, chance: random.Random) -> None:
+class Asked:
+    """A look whose next task is to release slots, or to sleep if a budget says so: 100 ms at most."""
+
+    def __init__(self, library: Library) -> None:
+        self.next_task: Any = library.functions["next_task"]
+        self.tasks, outcome, budget = library.make("tasks"), library.make("outcome", goes_on=True), library.make("budget")
+        library.call("begin_tasks", self.tasks)
+        task = library.call("next_task", self.tasks, budget, 0, 0)
+        library.call("task_done", self.tasks, task, outcome, 2**64 - 1)
+
+    def wait(self, budget: Any, now: int, spent: int) -> int:
+        """How long the thread sleeps; 0: it may work."""
+        return int(self.next_task(self.tasks, budget, now, spent).ns)
+
+
+def by_rules(library: Library, asked: Asked, seen: Compared, chance: random.Random) -> None:
     """A budget whose clocks go on, or back, by anything."""
     percent, burst = chance.choice([0, 1, 2, 10, 100, 200]), chance.choice([0, 2, 50, 100, 200])
     now, spent = chance.choice([0, 5, 2**63]), chance.choice([0, 5, 2**62])
@@ -60,7 +75,7 @@ def by_rules(library: Library, seen: Compared, chance: random.Random) -> None:
         else:
             now = max(now + chance.choice([0, chance.randrange(MS), chance.randrange(1000 * MS), -5]), 0)
             spent = max(spent + chance.choice([0, chance.randrange(MS), chance.randrange(100 * MS), 30_000 * MS, -5]), 0)
-            seen.equal("a wait", library.call("settle", budget, now, spent), plain.settle(now, spent))
+            seen.equal("a wait", asked.wait(budget, now, spent), min(plain.settle(now, spent), NAP_MOST))
         due = (plain.time, plain.spent, plain.saved, plain.owed, plain.credit, plain.percent, plain.burst)
         seen.equal("a budget", values_of(budget), due)
 
@@ -69,7 +84,7 @@ class Thread:
     """A thread with a tenth of a processor, and half of it while a credit lasts."""
 
     def __init__(self, library: Library) -> None:
-        self.call: Any = library.functions["settle"]
+        self.asked = Asked(library)
         self.budget, self.now, self.spent, self.waits = library.make("budget"), 5, 0, 0
         self.chance = random.Random(1)
         library.call("begin", self.budget, 10, 50, 5, 0)
@@ -77,7 +92,7 @@ class Thread:
     def work(self, orders: int) -> None:
         """Does so many orders, and waits as the budget says."""
         for _ in range(orders):
-            wait = self.call(self.budget, self.now, self.spent)
+            wait = self.asked.wait(self.budget, self.now, self.spent)
             order = 0 if wait else int(self.chance.random() * LONGEST)
             self.waits += wait > 0
             self.now, self.spent = self.now + wait + order, self.spent + order
@@ -115,9 +130,9 @@ def chores(library: Library, seen: Compared, chance: random.Random) -> None:
 
 def run(tally: Tally, library: Library) -> None:
     """Budgets by rules, and a thread."""
-    seen, chance = Compared(tally, "budgets by rules"), random.Random(2)
+    seen, chance, asked = Compared(tally, "budgets by rules"), random.Random(2), Asked(library)
     for _ in range(1_000):
-        by_rules(library, seen, chance)
+        by_rules(library, asked, seen, chance)
         chores(library, seen, chance)
     seen.close()
     seen = Compared(tally, "a thread keeps to its share")

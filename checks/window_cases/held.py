@@ -123,7 +123,7 @@ class Row:
         """Asks for the next order, and carries it out with some of its pages. Returns whether there was one."""
         facts = LOCKED_FACTS if self.chance.random() < 0.1 else NONE
         table, order = self.library.make("table_facts", locked=facts.locked), self.library.make("row_order")
-        none = (self.library.array("uint16_t", []), 0, self.library.array("transfer", []), 0)
+        none = (self.library.array("uint16_t", []), 0)
         words = (self.pages, PAGES, self.parts, 2, LEAD)
         self.library.call("next_of_row", *words, table, *none, FIRST, self.row, ROW, order)
         first, count, step = due = self.next(facts)

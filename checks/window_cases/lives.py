@@ -11,9 +11,9 @@ from typing import Any, Optional
 
 from common.compared import Compared
 from common.plain_page import (
-    CHOSEN, COMPARE, COMPARE_ZEROS, COPIED, COPY_IN_PLACE, EQUAL, EQUAL_ZEROS, FACTS, FIND_LOAN, FIND_SLOT, GIVE_BACK, HELD, HELD_ZEROS, HOLD,
-    HOLD_ZEROS, HOMING, HOMING_IN_PLACE, LEAVING, LEND, LET_GO, LETTING_GO, LOANED, MAP, PRIVATE, PUT_BACK, PUTTING_BACK, RELEASE, SHOWING, SHOWN,
-    TAKE_HOME, UNANSWERED, UNRELEASED, WITH_FRAME, WITH_SLOT, ZEROS, Facts,
+    CHOSEN, COMPARE, COMPARE_ZEROS, COPIED, COPY_IN_PLACE, EQUAL, EQUAL_ZEROS, FACTS, GIVE_BACK, HELD, HELD_ZEROS, HOLD, HOLD_ZEROS, HOMING,
+    HOMING_IN_PLACE, LEND, LET_GO, LETTING_GO, LOANED, MAP, PRIVATE, PUT_BACK, PUTTING_BACK, RELEASE, SHOWING, SHOWN, TAKE_HOME, WITH_FRAME,
+    WITH_SLOT, ZEROS, Facts,
 )
 from common.plain_windows import Event, Window, Windows
 from common.window_library import Library
@@ -25,16 +25,14 @@ SEEDS, MOVES = 4, 12_000
 # The events for which an order stands, where that is done.
 EVENTS = {
     HOLD: ["guard"], HOLD_ZEROS: ["guard"], MAP: ["map"], LET_GO: ["unguard"], PUT_BACK: ["unguard"], RELEASE: ["release"],
-    FIND_SLOT: ["release"], COMPARE_ZEROS: ["copy"],
+    COMPARE_ZEROS: ["copy"],
 }
-# What may come of an order without an answer: that nothing is known of it.
-IF_UNKNOWN = {COPIED: UNANSWERED, LEAVING: UNRELEASED}
 LEAST = {"mapped": 50, "released": 100, "given back": 20, "home": 10, "withdrawn": 50, "in vain": 100, "splits": 10, "wholes": 10}
 
 
 def is_right(belief: int, frame: int, page: Window) -> bool:
     """Whether what is believed is right of a page."""
-    if belief in (PRIVATE, CHOSEN, COPIED, UNANSWERED, LOANED, ZEROS):
+    if belief in (PRIVATE, CHOSEN, COPIED, LOANED, ZEROS):
         return page.held is None and not page.is_bare() and not page.guarded
     if belief in (HELD, HELD_ZEROS, PUTTING_BACK):
         return page.held is None and not page.is_bare()
@@ -112,47 +110,39 @@ class Life:
             return page.guarded and shown == 0
         return {MAP: page.frame_fresh, GIVE_BACK: page.copy_fresh}.get(order, True)
 
-    def lends(self, place: int, order: int) -> bool:
-        """A question for a loan, or what came of one. The answer may be lost. Returns whether there was an order of that kind."""
-        if order == LEND and self.chance.random() < 0.75:
+    def lends(self, place: int) -> bool:
+        """A question for a loan, and what came of it. If its reply is lost the order stays open until the host has no loan for the page."""
+        if self.chance.random() < 0.75:
             self.slots += 1
             self.given[place] = (self.slots, self.chance.randrange(2))
-        given = self.given[place]
         if self.chance.random() < 0.25:
-            self.unknown(place)
-        elif given:
+            self.others()
+            self.given[place] = None
+        given = self.given[place]
+        if given:
             self.seen.holds("lent", self.call("lent", place, *given))
         else:
             self.seen.holds("refused", self.call("refused", place))
         return True
 
-    def unknown(self, place: int) -> None:
-        """No answer came."""
-        belief = self.belief(place)
-        self.library.call("withdraw", self.pages[place])
-        self.pages[place].belief += IF_UNKNOWN.get(belief, belief) - belief
-
-    def releases(self, place: int, order: int) -> None:
-        """A slot is released, or it is found out whether it was. The answer may be lost."""
-        if order == RELEASE:
-            self.seen.equal("the slot", self.given[place] and self.given[place][0], self.pages[place].slot)  # type: ignore[index]
-            if self.chance.random() < 0.5:
-                self.given[place] = None
-        is_gone = self.given[place] is None
+    def releases(self, place: int) -> None:
+        """A slot is released, or the host has it still. If the reply is lost the order stays open until one comes."""
+        self.seen.equal("the slot", self.given[place] and self.given[place][0], self.pages[place].slot)  # type: ignore[index]
+        is_gone = self.chance.random() < 0.5
         if is_gone:
-            self.carry_out(place, order)
+            self.given[place] = None
+            self.carry_out(place, RELEASE)
         if self.chance.random() < 0.3:
-            self.unknown(place)
-        else:
-            self.seen.holds("a release", self.call("done" if is_gone else "refused", place))
-            self.tally["released"] += is_gone
+            self.others()
+        self.seen.holds("a release", self.call("done" if is_gone else "refused", place))
+        self.tally["released"] += is_gone
 
     def finish(self, place: int, order: int) -> bool:
         """Carries out an order or not. Returns whether it was done."""
-        if order in (LEND, FIND_LOAN):
-            return self.lends(place, order)
-        if order in (RELEASE, FIND_SLOT):
-            self.releases(place, order)
+        if order == LEND:
+            return self.lends(place)
+        if order == RELEASE:
+            self.releases(place)
             return False
         can = self.can(place, order)
         if not can or self.chance.random() < 0.125:
@@ -184,7 +174,7 @@ class Life:
     def set_facts(self, place: int, facts: Facts) -> None:
         """Where a call may go on that these are for no write to the page waits, and if it must not show a frame it shows none."""
         self.facts[place] = facts
-        table, none = self.library.make("table_facts"), (self.library.array("uint16_t", []), 0, self.library.array("transfer", []), 0)
+        table, none = self.library.make("table_facts"), (self.library.array("uint16_t", []), 0)
         if not self.library.call("may_go_on", self.pages, PAGES, table, *none, self.given_facts(facts), place, 1):
             return
         page = self.window(place)
@@ -234,12 +224,11 @@ class Life:
             self.seen.holds("written", self.call("written", place))
 
     def is_movable(self, place: int, facts: Facts, only_held: bool = False) -> bool:
-        none = (self.library.array("uint16_t", []), 0, self.library.array("transfer", []), 0)
         if only_held:
             return bool(self.library.call("may_give_up", self.pages, PAGES, place, 1))
         table = self.library.make("table_facts", may_pin=facts.may_pin, inherited=facts.inherited, locked=facts.locked, ends=facts.ended)
         pins = self.library.array("uint16_t", [facts.pinned] * PAGES)
-        return not facts.called and bool(self.library.call("are_movable", self.pages, PAGES, table, pins, PAGES, *none[2:], place, 1))
+        return not facts.called and bool(self.library.call("are_movable", self.pages, PAGES, table, pins, PAGES, place, 1))
 
     def next_lender(self) -> None:
         """The lender goes and another comes, with frames of its own. Each page shows what it showed, and most writes that waited wait still."""
@@ -282,9 +271,9 @@ class Life:
             self.seen.holds("no page shows a frame unknown", belief in SHOWING or not self.window(place).is_bare())
             if belief in WITH_FRAME:
                 self.seen.equal("a loan", given, (page.slot, page.frame))
-            elif belief in WITH_SLOT and not (belief == UNRELEASED and given is None):
+            elif belief in WITH_SLOT:
                 self.seen.equal("a slot", given and given[0], page.slot)
-            elif belief not in (UNANSWERED, UNRELEASED):
+            else:
                 self.seen.equal(f"no slot at {belief}", given, None)
 
 

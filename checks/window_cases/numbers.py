@@ -40,7 +40,7 @@ def pins(library: Library, seen: Compared, chance: random.Random) -> None:
 
 
 def transfers(library: Library, seen: Compared, chance: random.Random) -> None:
-    """Transfers have the first free place, or are counted, and are under way of what they are of."""
+    """Transfers have the first free place, or are counted."""
     table, elsewhere = library.array("transfer", [()] * PLACES), library.make("uint64_t")
     known: list[tuple[int, int] | None] = [None] * PLACES
     many = 0
@@ -58,10 +58,7 @@ def transfers(library: Library, seen: Compared, chance: random.Random) -> None:
             many = max(many - (place == PLACES), 0)
             known[place : place + 1] = [None] if place < PLACES else []
         seen.equal("elsewhere", elsewhere.value, many)
-        there, at = chance.randrange(PLACES + 1), chance.randrange(40)
-        to = at + chance.randrange(6)
-        due = any(it[0] < to and at < it[1] for it in [it for it in known if it][:there])
-        seen.equal("is_in_transfer", library.call("is_in_transfer", table, PLACES, there, at, to), due)
+        seen.equal("transfers", [(it.begin, it.end) if it.is_there else None for it in table], known)
 
 
 def run(tally: Tally, library: Library) -> None:

@@ -6,7 +6,7 @@ import random
 from typing import Any
 
 from common.compared import Compared
-from common.plain_page import COPIED, DONE, FACTS, LEAVING, LENT, REFUSED, UNANSWERED, UNRELEASED, Facts, Page, sums
+from common.plain_page import DONE, FACTS, LENT, REFUSED, Facts, Page, sums
 from common.window_library import Library, values_of
 from harness import Tally
 
@@ -15,18 +15,12 @@ PAGES, LEAD = 8, 509
 ROUNDS, CALLS = 20, 1500
 # What has to come up how often, so that the calls are worth something: pages to release, lent, of zeros, of the past and shareable.
 LEAST = (5000, 2000, 1000, 300, 5000)
-SIZE = 4096
 
 
 def some_facts(chance: random.Random) -> Facts:
     """Facts, of which most keep no page from being lent."""
     which = chance.randrange(128)
     return Facts(which == 0, which in (1, 2), which % 8 == 3, which in (2, 4), which == 5, which == 6, which == 7)
-
-
-def is_met(transfers: list[tuple[int, int, bool]], there: int, begin: int, end: int) -> bool:
-    """Whether one of the first transfers that are there is under way between two addresses."""
-    return any(at < end and begin < to for at, to, _ in [it for it in transfers if it[2]][:there])
 
 
 class Table:
@@ -64,12 +58,9 @@ class Table:
         self.seen.equal("next", self.call("next", at, self.facts(facts)), self.known[at].next(facts))
 
     def take(self, at: int) -> None:
-        """Takes an outcome, which the page's order may have or not. Of some no answer comes: then the page is written so."""
+        """Takes an outcome, which the page's order may have or not."""
         known, which = self.known[at], self.chance.randrange(16)
-        if which == 0 and known.ordered and known.belief in (COPIED, LEAVING):
-            known.belief, known.ordered = {COPIED: UNANSWERED, LEAVING: UNRELEASED}[known.belief], False
-            self.pages[at].belief, self.pages[at].looks = known.bytes()[3:]
-        elif which <= 4:
+        if which <= 4:
             slot, frame = self.chance.randrange(2**32), self.chance.randrange(2**32)
             self.seen.equal(LENT, self.call(LENT, at, slot, frame), known.take(LENT, slot, frame))
         else:
@@ -138,21 +129,17 @@ class Table:
         """What changes nothing: of each page by its own facts, and of pages in a row."""
         chance, library = self.chance, self.library
         pins = [chance.choice([0, 0, 0, 1]) for _ in range(chance.choice([0, 0, PAGES]))]
-        at = chance.choice([65536, 2**64 - 3 * SIZE])
-        moves = [(at + chance.randrange(PAGES * SIZE), chance.randrange(2 * SIZE), chance.random() < 0.5) for _ in range(chance.choice([0, 2]))]
-        moves = [(begin % 2**64, min(begin % 2**64 + length, 2**64 - 1), is_there) for begin, length, is_there in moves]
         bits = [chance.random() < 0.05 for _ in range(5)]
-        table = library.make("table_facts", at=at, there=chance.randrange(3), elsewhere=chance.choice([0, 0, 0, 1]))
+        table = library.make("table_facts", elsewhere=chance.choice([0, 0, 0, 1]))
         table.may_pin, table.inherited, table.locked, table.ends, table.is_over = bits
         why = some_facts(chance)
 
         def facts_of(page: int, why: Facts) -> Facts:
-            begin, end = min(at + page * SIZE, 2**64 - 1), min(at + (page + 1) * SIZE, 2**64 - 1)
-            pinned = why.pinned or (page < len(pins) and pins[page] > 0) or is_met(moves, table.there, begin, end)
+            pinned = why.pinned or (page < len(pins) and pins[page] > 0)
             return Facts(why.called, pinned, why.may_pin or bits[0] or table.elsewhere > 0, why.inherited or bits[1], why.locked or bits[2],
                          why.leaves, why.ended or bits[3] or bits[4])
 
-        given = [table, library.array("uint16_t", pins), len(pins), library.array("transfer", moves), len(moves)]
+        given = [table, library.array("uint16_t", pins), len(pins)]
         found = library.make("facts")
         library.call("find_facts", *given, self.facts(why), first, found)
         self.seen.equal("find_facts", values_of(found), tuple(getattr(facts_of(first, why), name) for name in FACTS))

@@ -201,14 +201,17 @@ static void populate_fails(void) {
     struct window *window = window_over(&fixture, at, PAGES);
     fill(at, PAGES, 1);
     check(look_until(&fixture, PAGES) == PAGES, "all pages are lent");
+    const struct iovec buffer = {at + 3 * PAGE, PAGE};
+    const struct windows_transfer transfer = windows_transfer_begin(fixture.windows, &buffer, 1);
+    size_t kept = 0;
     planned.populates = 1;
-    struct window_result result = window_pin(window, 3, 1);
-    check(result.status == WINDOW_NO_MAPPING && result.cause == EINVAL, "window_pin returns what the system said");
-    check(window_unpin(window, 3, 1).status == WINDOW_BAD_RANGE, "the page isn't pinned");
+    struct window_result result = window_cut(window, 3, 1, NULL);
+    check(result.status == WINDOW_NO_MAPPING && result.cause == EINVAL, "window_cut returns what the system said");
     look_often(&fixture, 1);
-    check(window_page_is(window, 3) == WINDOW_PAGE_LENT && slots_of(&fixture) == PAGES, "and its slot isn't released");
-    must(window_pin(window, 3, 1), "window_pin");
-    must(window_unpin(window, 3, 1), "window_unpin");
+    check(window_page_is(window, 3) == WINDOW_PAGE_LENT && slots_of(&fixture) == PAGES, "and the page's slot isn't released");
+    must(window_cut(window, 3, 1, &kept), "window_cut");
+    check(kept == 1, "a page of a transfer gets its copy where it is");
+    windows_transfer_end(fixture.windows, transfer);
     must(window_free(window, WINDOW_DROP), "window_free");
     fixture_free(&fixture);
 }

@@ -72,8 +72,6 @@ static void bounds(void) {
     const size_t firsts[] = {PAGES, 0, PAGES - 1, SIZE_MAX, 2, SIZE_MAX / PAGE}, counts[] = {1, PAGES + 1, 2, 2, SIZE_MAX, 3};
     for (size_t i = 0; i < sizeof firsts / sizeof firsts[0]; i++) {
         check(window_discard(window, firsts[i], counts[i]).status == WINDOW_BAD_RANGE, "window_discard refuses what is outside");
-        check(window_pin(window, firsts[i], counts[i]).status == WINDOW_BAD_RANGE, "window_pin refuses it");
-        check(window_unpin(window, firsts[i], counts[i]).status == WINDOW_BAD_RANGE, "window_unpin refuses it");
         check(window_cut(window, firsts[i], counts[i], NULL).status == WINDOW_BAD_RANGE, "window_cut refuses it");
     }
     check(window_page_is(window, PAGES) == WINDOW_PAGE_OUT, "no page is behind the last one");
@@ -146,21 +144,20 @@ static void pinned(void) {
     windows_set_pins(fixture.windows, WINDOWS_PINS_NEVER);
     fill(at, PAGES, 1);
     check(look_until(&fixture, PAGES) == PAGES, "where they never do it is lent");
-    must(window_pin(window, 8, 1), "window_pin");
-    must(window_pin(window, 8, 2), "window_pin");
-    check(window_page_is(window, 8) == WINDOW_PAGE_PRIVATE, "a pinned page is private when the call returns");
+    const struct windows_transfer first = windows_transfer_begin(fixture.windows, &(struct iovec){at + 8 * PAGE, PAGE}, 1);
+    const struct windows_transfer second = windows_transfer_begin(fixture.windows, &(struct iovec){at + 8 * PAGE, 2 * PAGE}, 1);
+    memset(at + 8 * PAGE, 2, 2 * PAGE);
     if (ring_pin(&ring, at + 8 * PAGE, PAGE)) {
         look_often(&fixture, 8);
-        check(ring_read(&ring, disk, at + 8 * PAGE, PAGE) && are_bytes(at + 8 * PAGE, 'd'), "and stays so");
+        check(ring_read(&ring, disk, at + 8 * PAGE, PAGE) && are_bytes(at + 8 * PAGE, 'd'), "what is read in a transfer arrives");
         ring_unpin(&ring);
     }
-    check(window_free(window, WINDOW_TAKE_HOME).status == WINDOW_PINNED, "a window with pinned pages isn't taken home");
-    must(window_unpin(window, 8, 1), "window_unpin");
-    memset(at + 8 * PAGE, 1, PAGE);
+    check(window_free(window, WINDOW_TAKE_HOME).status == WINDOW_PINNED, "a window isn't taken home in a transfer");
+    windows_transfer_end(fixture.windows, first);
+    memset(at + 8 * PAGE, 1, 2 * PAGE);
     look_often(&fixture, 12);
-    check(window_page_is(window, 8) == WINDOW_PAGE_PRIVATE, "a page that was pinned twice is pinned still");
-    must(window_unpin(window, 8, 2), "window_unpin");
-    check(window_unpin(window, 8, 1).status == WINDOW_BAD_RANGE, "a page that isn't pinned isn't unpinned");
+    check(window_page_is(window, 8) == WINDOW_PAGE_PRIVATE, "a page of two transfers isn't lent before both have ended");
+    windows_transfer_end(fixture.windows, second);
     check(look_until(&fixture, PAGES) == PAGES, "then it is lent");
     close(disk);
     must(window_free(window, WINDOW_DROP), "window_free");
@@ -596,28 +593,15 @@ static int no_answer(void *opaque, const uint64_t *slots, size_t count) {
     return ENOTCONN;
 }
 
-struct slots {
-    size_t shown, hidden;
-};
-static int count_slot(void *opaque, uint32_t page, uint64_t slot, bool shown) {
-    struct slots *slots = opaque;
-    (void)slot;
-    check(page < PAGES, "a slot is a page's");
-    if (shown) slots->shown++;
-    else slots->hidden++;
-    return slots->shown + slots->hidden == PAGES ? 5 : 0;
-}
-
 static void lenders(void) {
     struct fixture fixture = fixture_make(&never_pinned, PAGES);
     uint8_t *at = memory(PAGES);
     struct window *window = window_over(&fixture, at, PAGES);
     fill(at, PAGES, 2);
-    struct slots slots = {0};
     check(look_until(&fixture, PAGES) == PAGES, "all pages are lent");
     must(window_discard(window, PAGES - 1, 1), "window_discard");
-    check(windows_each_slot(fixture.windows, count_slot, &slots) == 5, "each slot is passed until a call wants no more");
-    check(slots.shown == PAGES - 1 && slots.hidden == 1, "and whether its page may show its frame");
+    check(counts_of(&fixture).lent == PAGES - 1 && slots_of(&fixture) == PAGES,
+          "the slot of a page that was given up isn't released yet");
     memset(at + (PAGES - 1) * PAGE, 2, PAGE);
     windows_detach(fixture.windows);
     lender_free(fixture.lender);
@@ -810,7 +794,7 @@ static bool releases(page_entry page) {
     struct pageshare_window_counts part = {.releases = 1, .lent = 1};
     for (int i = 0; i < 4; i++) {
         unsigned order = pageshare_window_next(&page, &part, &facts);
-        if (order == PAGESHARE_WINDOW_RELEASE || order == PAGESHARE_WINDOW_FIND_SLOT) return true;
+        if (order == PAGESHARE_WINDOW_RELEASE) return true;
         if (order == PAGESHARE_WINDOW_WAIT) return false;
         if (!pageshare_window_done(&page, &part)) pageshare_window_refused(&page, &part);
     }
@@ -819,10 +803,9 @@ static bool releases(page_entry page) {
 
 /* Whether a call of the monitor may go on by a page of which this is so from then on. */
 static bool goes_on(const page_entry *page, struct pageshare_window_facts why) {
-    const struct pageshare_window_table_facts table = {.at = 0};
+    const struct pageshare_window_table_facts table = {.elsewhere = 0};
     const uint16_t pins = 0;
-    const struct pageshare_window_transfer transfer = {.is_there = false};
-    return pageshare_window_may_go_on(page, 1, &table, &pins, 1, &transfer, 1, &why, 0, 1);
+    return pageshare_window_may_go_on(page, 1, &table, &pins, 1, &why, 0, 1);
 }
 
 /* What C reads in a page's bytes is what the library says: which pages show a frame, have a slot, or are held. */

@@ -271,13 +271,9 @@ static void stays_split(void) {
     uint8_t *at = huge_memory(2);
     if (at == NULL) return left_out(&fixture);
     struct window *window = split_and_written(&fixture, at, equal);
-    must(window_pin(window, 300, 1), "window_pin");
+    const struct windows_transfer transfer = windows_transfer_begin(fixture.windows, &(struct iovec){at + 300 * PAGE + 7, 1}, 1);
     look_often(&fixture, 3);
-    check(counts_of(&fixture).made_whole == 0 && counts_of(&fixture).not_made_whole > 0, "a pinned page keeps its part split");
-    must(window_unpin(window, 300, 1), "window_unpin");
-    const struct windows_transfer transfer = windows_transfer_begin(fixture.windows, &(struct iovec){at + 7, 1}, 1);
-    look_often(&fixture, 3);
-    check(counts_of(&fixture).made_whole == 0, "so does a transfer");
+    check(counts_of(&fixture).made_whole == 0 && counts_of(&fixture).not_made_whole > 0, "a transfer keeps its part split");
     windows_transfer_end(fixture.windows, transfer);
     asked = 998; /* (the look before it is guarded is the last one that finds none) */
     look_often(&fixture, 1);

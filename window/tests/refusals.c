@@ -19,6 +19,7 @@
 #define _GNU_SOURCE
 #include "calls.h"
 #include "fixture.h"
+#include "slots.h"
 #include "strict.h"
 #include <dirent.h>
 #include <errno.h>
@@ -272,7 +273,7 @@ static int find_slot(void *lender, uint32_t page, uint64_t slot, bool shown) {
 
 static void check_slots(void) {
     strict_find_none(&run.lender);
-    int wrong = windows_each_slot(run.windows, find_slot, run.has_lender ? &run.lender : NULL);
+    int wrong = each_slot(run.windows, find_slot, run.has_lender ? &run.lender : NULL);
     check(wrong == 0, "each slot of a window was given for its page, and not released");
     if (!run.has_lender) return;
     check(strict_are_all_found(&run.lender), "each slot that was given is a window's, or was released");
@@ -433,14 +434,6 @@ static void transfer(void) {
     look_times(4);
 }
 
-static void pin(void) {
-    struct window *window = HUGE_RANGE->window;
-    bool is_pinned = window != NULL && came(window_pin(window, 100, 30), "window_pin");
-    look_times(2);
-    if (is_pinned) must(window_unpin(window, 100, 30), "window_unpin");
-    look_times(2);
-}
-
 static void give_up(void) {
     discard(HUGE_RANGE, 10, 20);
     discard(HUGE_RANGE, 190, 60);
@@ -593,7 +586,6 @@ static const struct step steps[STEPS] = {
     {"advise", advise},
     {"find copies", find_copies},
     {"transfer", transfer},
-    {"pin", pin},
     {"give up", give_up},
     {"let children", let_children},
     {"split and join", split_and_join},

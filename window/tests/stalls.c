@@ -1,5 +1,5 @@
 /*
- * How long a guest's write waits while another guest's pages are trimmed, pinned and discarded: at most 1 ms of what the writer waits
+ * How long a guest's write waits while another guest's pages are trimmed and discarded: at most 1 ms of what the writer waits
  * for others. On a busy machine a thread may lose its processor for longer, so that half of the writes' longest waits count, each the
  * longest of some. And calls of a monitor go on while the lender of a large guest goes. Prints a table, and "stalls: ok" (status 0) or
  * what isn't so (status 1).
@@ -49,7 +49,6 @@ struct matter {
 static void do_part(struct matter *matter, size_t first, size_t count) {
     switch (matter->name[0]) {
     case 'n': usleep(2000); break;
-    case 'p': must(window_pin(matter->window, first, count), "window_pin"); break;
     case 'd': must(window_discard(matter->window, first, count), "window_discard"); break;
     default: check(lender_trim(matter->fixture.lender) == 0, "a trim"); break;
     }
@@ -130,11 +129,9 @@ int main(void) {
            counts_of(&matter.fixture).lent, MANY + FEW);
     check(pthread_create(&writer, NULL, write_on, NULL) == 0, "a thread that writes");
     measure(&matter, "nothing");
-    measure(&matter, "pin");
-    for (size_t i = 0; i < MANY; i += 3) many[i * PAGE + 100] = 1;
+    for (size_t i = 0; i < MANY; i += 2) many[i * PAGE + 100] = 1; /* (both of those that are alike) */
     must(windows_look(matter.fixture.windows), "windows_look");
     measure(&matter, "trim");
-    must(window_unpin(matter.window, 0, MANY), "window_unpin");
     measure(&matter, "discard");
     atomic_store(&stop, true);
     pthread_join(writer, NULL);

@@ -18,6 +18,7 @@
 #include "check.h"
 #include "looks.h"
 #include "ring.h"
+#include "slots.h"
 #include <errno.h>
 #include <fcntl.h>
 #include <inttypes.h>
@@ -109,20 +110,18 @@ static void *write_words(void *opaque) {
 
 static atomic_bool has_shared; /* a page was lent, and one was written that had been */
 
-static int count_slot(void *slots, uint32_t page, uint64_t slot, bool shown) {
-    (void)page, (void)slot, (void)shown;
-    ++*(uint32_t *)slots;
-    return 0;
+static int count_slot(void *unused, uint32_t page, uint64_t slot, bool shown) {
+    (void)unused, (void)page, (void)slot, (void)shown;
+    return 1;
 }
 
 /* Windows have as many slots as the lender gave. By the thread that looks. */
 static void check_slots(void) {
     struct pageshare_domain_totals totals;
     struct lender_counts lent;
-    uint32_t slots = 0;
-    check(windows_each_slot(windows, count_slot, &slots) == 0, "windows_each_slot");
+    const int slots = each_slot(windows, count_slot, NULL);
     lender_count(lender, &totals, &lent);
-    check(slots == totals.slots, "windows have the lender's slots");
+    check((uint32_t)slots == totals.slots, "windows have the lender's slots");
 }
 
 static void make_lender(void) {
@@ -235,12 +234,22 @@ static void cut(struct guest *guest, uint64_t *state) {
     pthread_rwlock_unlock(&guest->lock);
 }
 
-static void pin(struct guest *guest, uint64_t *state) {
-    struct some some = choose_some(state, 16);
-    must(window_pin(guest->window, some.first, some.count), "window_pin");
-    for (uint32_t page = some.first; page < some.first + some.count; page++)
-        check(window_page_is(guest->window, page) != WINDOW_PAGE_LENT, "a pinned page is not lent");
-    must(window_unpin(guest->window, some.first, some.count), "window_unpin");
+static void pause_for(long milliseconds) {
+    const struct timespec rest = {.tv_nsec = milliseconds * 1000000};
+    nanosleep(&rest, NULL);
+}
+
+/* A transfer of some pages begins. Returns what ends it. */
+static struct windows_transfer begin_of(const struct guest *guest, struct some some) {
+    const struct iovec buffer = {address_in(guest, some.first), some.count * WINDOW_PAGE_BYTES};
+    return windows_transfer_begin(windows, &buffer, 1);
+}
+
+/* A transfer is under way for a moment. */
+static void pass(const struct guest *guest, uint64_t *state) {
+    const struct windows_transfer place = begin_of(guest, choose_some(state, 16));
+    pause_for(1);
+    windows_transfer_end(windows, place);
 }
 
 /* The range is the guest's, and gets the same advice everywhere: what was mapped in a window's place has none. */
@@ -272,17 +281,12 @@ static void fork_child(void) {
     if (child > 0) waitpid(child, NULL, 0);
 }
 
-static void pause_for(long milliseconds) {
-    const struct timespec rest = {.tv_nsec = milliseconds * 1000000};
-    nanosleep(&rest, NULL);
-}
-
 /* A device pins a page, and reads into it while others write to it before and after. */
 static void read_by_device(struct guest *guest, uint64_t *state) {
     struct ring ring;
     uint32_t page = (uint32_t)draw(state, pages);
     uint8_t *at = address_in(guest, page);
-    if (!pins_unknown) must(window_pin(guest->window, page, 1), "window_pin");
+    const struct windows_transfer place = begin_of(guest, (struct some){.first = page, .count = pins_unknown ? 0 : 1});
     has_ring = ring_pin(&ring, at, WINDOW_PAGE_BYTES);
     if (has_ring) {
         pause_for(3);
@@ -293,7 +297,7 @@ static void read_by_device(struct guest *guest, uint64_t *state) {
         ring_unpin(&ring);
         device_reads++;
     }
-    if (!pins_unknown) must(window_unpin(guest->window, page, 1), "window_unpin");
+    windows_transfer_end(windows, place);
 }
 
 /* A file is read by O_DIRECT to pages of which nothing else is known. They may be of all kinds, also such as have left. */
@@ -301,8 +305,7 @@ static void transfer(struct guest *guest, uint64_t *state) {
     enum { TIMES = 4 };
     struct some some = choose_some(state, DIRECT_MOST);
     size_t bytes = some.count * WINDOW_PAGE_BYTES;
-    const struct windows_transfer place =
-        windows_transfer_begin(windows, &(struct iovec){address_in(guest, some.first), bytes}, 1);
+    const struct windows_transfer place = begin_of(guest, some);
     pthread_rwlock_wrlock(&guest->lock);
     for (int i = 0; i < TIMES; i++)
         check(pread(direct, address_in(guest, some.first), bytes, 0) == (ssize_t)bytes, "a file is read by O_DIRECT");
@@ -347,7 +350,7 @@ static void disturb(uint64_t *state) {
     if (huge_from > 0 && draw(state, 48) == 0) say_huge(guest);
     if (what < 40) discard(guest, state);
     else if (what >= 110 && has_ring) read_by_device(guest, state);
-    else if (what < 70) pin(guest, state);
+    else if (what < 70) pass(guest, state);
     else if (what < 74) renew(guest, state);
     else if (what < 78) fork_child();
     else if (what < 88) page_out(guest, state);

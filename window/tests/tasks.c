@@ -1,7 +1,7 @@
 /*
- * A look's tasks. Between any two of them pages are written, given up, pinned, cut or unmapped, or their window or all lending ends: no byte and
- * no slot is lost. A look attends first of all and each second, and ends when it is to. One with a share of a processor sleeps, and shares all
- * the same. Prints "tasks: ok" (status 0) or what isn't so (status 1).
+ * A look's tasks. Between any two of them pages are written, given up, cut or unmapped, a transfer of them begins, or their window or all lending
+ * ends: no byte and no slot is lost. A look attends first of all and each second, and ends when it is to. One with a share of a processor sleeps,
+ * and shares all the same. Prints "tasks: ok" (status 0) or what isn't so (status 1).
  */
 #define _GNU_SOURCE
 #include "fixture.h"
@@ -22,7 +22,9 @@ struct scene {
     struct window *window; /* NULL: it has ended */
     uint8_t *at, *due;
     bool is_gone[PAGES]; /* something else lies there */
-    bool is_pinned;
+    struct windows_transfer transfer;
+    size_t lent; /* of its pages, where a transfer of them is under way */
+    bool is_moving;
 };
 
 /* Something happens to the pages from FIRST on. */
@@ -63,9 +65,17 @@ static void discard(struct scene *scene) {
     memset(scene->due + (size_t)FIRST * PAGE, 0, (size_t)COUNT * PAGE);
 }
 
-static void pin(struct scene *scene) {
-    must(window_pin(scene->window, FIRST, COUNT), "window_pin");
-    scene->is_pinned = true;
+static size_t lent_in(const struct scene *scene) {
+    size_t lent = 0;
+    for (size_t page = FIRST; page < FIRST + COUNT; page++) lent += window_page_is(scene->window, page) == WINDOW_PAGE_LENT;
+    return lent;
+}
+
+static void begin_transfer(struct scene *scene) {
+    const struct iovec buffer = {page_at(scene, FIRST), (size_t)COUNT * PAGE};
+    scene->transfer = windows_transfer_begin(scene->fixture.windows, &buffer, 1);
+    scene->lent = lent_in(scene);
+    scene->is_moving = true;
 }
 
 static void cut(struct scene *scene) {
@@ -137,9 +147,10 @@ static void check_bytes(const struct scene *scene, const char *what) {
 
 static void check_scene(struct scene *scene, const char *what) {
     check_bytes(scene, what);
-    for (size_t page = FIRST; page < FIRST + COUNT && scene->is_pinned; page++)
-        check(window_page_is(scene->window, page) != WINDOW_PAGE_LENT, "a pinned page shows no frame");
-    if (scene->is_pinned) must(window_unpin(scene->window, FIRST, COUNT), "window_unpin");
+    if (scene->is_moving) {
+        check(lent_in(scene) == scene->lent, "no page of a transfer is lent");
+        windows_transfer_end(scene->fixture.windows, scene->transfer);
+    }
     look_often(&scene->fixture, 2);
     check_bytes(scene, what);
     if (scene->window != NULL) must(window_free(scene->window, WINDOW_DROP), "window_free");
@@ -171,7 +182,7 @@ static void disturbed(const struct windows_config *config) {
         deed *deed;
     } deeds[] = {{"pages are written", write_pages},
                  {"pages are discarded", discard},
-                 {"pages are pinned", pin},
+                 {"a transfer begins", begin_transfer},
                  {"pages are cut", cut},
                  {"pages are cut and written", cut_and_write},
                  {"pages are unmapped", unmap},

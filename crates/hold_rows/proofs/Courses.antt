@@ -10,7 +10,6 @@ use Rattle.page_holds.specs.declared.place.HeldPlace.TheVariants.{Free, Guarded,
 use Rattle.page_holds.specs.declared.place.HoldStep.{HoldStep}
 use Rattle.page_holds.specs.declared.place.HoldStep.TheVariants.{Over}
 use Rattle.page_lender.specs.declared.belief.Belief.{Belief}
-use Rattle.page_pins.specs.declared.transfers.Transfer.{Transfer}
 use Rattle.window_lender.specs.Calls.{order_due}
 use Rattle.window_pages.specs.Bytes.{belief_of, known_of}
 use Rattle.window_pages.specs.Known.{bars_of, lender_of}
@@ -88,18 +87,18 @@ page_asks frames facts byte old new part after place spot a h = pick (is_asked b
   pick true e = one_asks old new part after place spot (order_due (lender_of facts (known_of old))) (bars_of facts (known_of old)) h (a.order e)
   pick false e = subst (λ v. Course frames v place spot) (sym (a.page e)) h
 
-row_asks : (frames : ℕ → List ℕ) (first lead : ℕ) (table : TableFacts) (pins : List ℕ) (transfers : List Transfer) (order : RowOrder) (old new : List WindowPage) (parts parts_new : List PartCounts)
-    (row : List ℕ) (spots : ℕ → Spot) → OrdersNext table pins transfers lead first row order old new parts parts_new →
+row_asks : (frames : ℕ → List ℕ) (first lead : ℕ) (table : TableFacts) (pins : List ℕ) (order : RowOrder) (old new : List WindowPage) (parts parts_new : List PartCounts)
+    (row : List ℕ) (spots : ℕ → Spot) → OrdersNext table pins lead first row order old new parts parts_new →
     ((n b : ℕ) (x : WindowPage) → slice_get row n ≡ Some b → slice_get old (first + n) ≡ Some x → Course frames x (place_in b) (spots n)) →
     (n b : ℕ) (x : WindowPage) → slice_get row n ≡ Some b → slice_get new (first + n) ≡ Some x → Course frames x (place_in b) (spots n)
-row_asks frames first lead table pins transfers order old new parts parts_new row spots o h n b x eb ex = pick (can_note lead first (length row) old parts) refl where
+row_asks frames first lead table pins order old new parts parts_new row spots o h n b x eb ex = pick (can_note lead first (length row) old parts) refl where
   pick : (is : Bool) → can_note lead first (length row) old parts ≡ is → Course frames x (place_in b) (spots n)
   pick false e = h n b x eb (ap (λ v. slice_get v (first + n)) (sym (o.same e)) ∙ ex)
   pick true e =
-      let r : Changed (λ m. PageBecomes (Asks (facts_there table pins transfers (first + m)) (slice_index_or row m 0))) first (length row) old new = o.asked e in
+      let r : Changed (λ m. PageBecomes (Asks (facts_there table pins (first + m)) (slice_index_or row m 0))) first (length row) old new = o.asked e in
       let p : There WindowPage old (first + n) = there_too old new (first + n) x r.length ex in
-      let i : PageBecomes (Asks (facts_there table pins transfers (first + n)) (slice_index_or row n 0)) p.its x = r.inside n p.its x (in_list row n b eb) p.is ex in
-      page_asks frames (facts_there table pins transfers (first + n)) (slice_index_or row n 0) p.its x i.part i.part_after (place_in b) (spots n) i.becomes (h n b p.its eb p.is)
+      let i : PageBecomes (Asks (facts_there table pins (first + n)) (slice_index_or row n 0)) p.its x = r.inside n p.its x (in_list row n b eb) p.is ex in
+      page_asks frames (facts_there table pins (first + n)) (slice_index_or row n 0) p.its x i.part i.part_after (place_in b) (spots n) i.becomes (h n b p.its eb p.is)
 
 -- ---- orders come out ----
 
@@ -197,8 +196,8 @@ row_written frames first pages row spots m c y bytes ec ey free at h n b x eb ex
 pub each_page_is_held : EachPageIsHeld
 each_page_is_held frames first pages row spots (begins lead old new parts parts_new before after takings bytes held r) n b x eb ex =
     row_begins frames first old new before after takings bytes held (r.pages refl) n b x eb ex
-each_page_is_held frames first pages row spots (asks lead table pins transfers order old new parts parts_new its at c o) n b x eb ex =
-    row_asks frames first lead table pins transfers order old new parts parts_new its at o (each_page_is_held frames first old its at c) n b x eb ex
+each_page_is_held frames first pages row spots (asks lead table pins order old new parts parts_new its at c o) n b x eb ex =
+    row_asks frames first lead table pins order old new parts parts_new its at o (each_page_is_held frames first old its at c) n b x eb ex
 each_page_is_held frames first pages row spots (comes_out lead begin done refused old new parts parts_new before after at next c d r) n b x eb ex =
     row_comes_out frames first begin done refused old new before after at next (r.pages refl) d (each_page_is_held frames first old before at c) n b x eb ex
 each_page_is_held frames first pages row spots (writes its bytes_of at m c y bytes course ec ey free place) n b x eb ex =

@@ -4,7 +4,6 @@ use Rattle.page_holds.specs.Laws.{Course, left_by}
 use Rattle.page_holds.specs.Memory.{Did, Spot, begun, is_at_place, is_held}
 use Rattle.page_holds.specs.Steps.{is_to_hold}
 use Rattle.page_lender.specs.Decisions.{waiting}
-use Rattle.page_pins.specs.declared.transfers.Transfer.{Transfer}
 use Rattle.window_pages.specs.Bytes.{belief_of, known_of}
 use Rattle.window_pages.specs.declared.counts.PartCounts.{PartCounts}
 use Rattle.window_pages.specs.declared.page.WindowPage.{WindowPage}
@@ -30,8 +29,8 @@ pub data RowCourse (frames : ℕ → List ℕ) (first : ℕ) : List WindowPage �
   begins : (lead : ℕ) (old new : List WindowPage) (parts parts_new : List PartCounts) (row row_new takings : List ℕ) (bytes : ℕ → List ℕ)
       → ((n : ℕ) (x : WindowPage) → n < length row → slice_get old (first + n) ≡ Some x → is_to_hold (belief_of x) ≡ true)
       → RowBegins lead first takings true old new parts parts_new row row_new → RowCourse frames first new row_new (λ n. begun (taking_at takings n) (bytes n))
-  asks : (lead : ℕ) (table : TableFacts) (pins : List ℕ) (transfers : List Transfer) (order : RowOrder) (old new : List WindowPage) (parts parts_new : List PartCounts) (row : List ℕ) (spots : ℕ → Spot)
-      → RowCourse frames first old row spots → OrdersNext table pins transfers lead first row order old new parts parts_new → RowCourse frames first new row spots
+  asks : (lead : ℕ) (table : TableFacts) (pins : List ℕ) (order : RowOrder) (old new : List WindowPage) (parts parts_new : List PartCounts) (row : List ℕ) (spots : ℕ → Spot)
+      → RowCourse frames first old row spots → OrdersNext table pins lead first row order old new parts parts_new → RowCourse frames first new row spots
   comes_out : (lead begin done refused : ℕ) (old new : List WindowPage) (parts parts_new : List PartCounts) (row row_new : List ℕ) (spots spots_new : ℕ → Spot)
       → RowCourse frames first old row spots → DidAll frames first begin done refused old row spots spots_new
       → RowCameOut lead first begin done refused true old new parts parts_new row row_new → RowCourse frames first new row_new spots_new

@@ -3,7 +3,6 @@ use Rattle.std.specs.Prelude.{◌≡◌, ℕ, ◌+◌, ◌-◌, ◌<◌, ◌≤�
 use Rattle.std.specs.Option.{option_map_or}
 use Rattle.page_holds.specs.declared.place.HoldStep.{HoldStep}
 use Rattle.page_holds.specs.declared.place.HoldStep.TheVariants.{Over, Compare, CompareZeros, Map, GiveBack, PutBack, EndWatch}
-use Rattle.page_pins.specs.declared.transfers.Transfer.{Transfer}
 use Rattle.window_pages.specs.Bytes.{belief_of}
 use Rattle.window_pages.specs.Runs.{goes_on}
 use Rattle.window_pages.specs.declared.counts.PartCounts.{PartCounts}
@@ -71,13 +70,13 @@ pub record IsNext (first : ℕ) (pages : List WindowPage) (row : List ℕ) (orde
   pub run : rank order.step < 6 → IsRun order.step first order.first order.count pages row
 
 -- what is so of the page at a place
-abbrev pub facts_there : TableFacts → List ℕ → List Transfer → ℕ → WindowFacts
-facts_there table pins transfers place = facts_at table pins transfers (only_called false) place
+abbrev pub facts_there : TableFacts → List ℕ → ℕ → WindowFacts
+facts_there table pins place = facts_at table pins (only_called false) place
 
 -- Each page of the row that isn't stuck, and to which writes may wait, gets its order by its facts, and this is the row's next order then. It is that,
 -- exactly if the row's pages are there and each page of the table has a part. Else nothing changes, and it is over.
-pub record OrdersNext (table : TableFacts) (pins : List ℕ) (transfers : List Transfer) (lead first : ℕ) (row : List ℕ) (order : RowOrder) (old new : List WindowPage) (parts parts_new : List PartCounts) : Type 0 where
-  pub asked : can_note lead first (length row) old parts ≡ true → Changed (λ n. PageBecomes (Asks (facts_there table pins transfers (first + n)) (slice_index_or row n 0))) first (length row) old new
+pub record OrdersNext (table : TableFacts) (pins : List ℕ) (lead first : ℕ) (row : List ℕ) (order : RowOrder) (old new : List WindowPage) (parts parts_new : List PartCounts) : Type 0 where
+  pub asked : can_note lead first (length row) old parts ≡ true → Changed (λ n. PageBecomes (Asks (facts_there table pins (first + n)) (slice_index_or row n 0))) first (length row) old new
   pub next : can_note lead first (length row) old parts ≡ true → IsNext first new row order
   pub counted : Counted lead old parts → Counted lead new parts_new
   pub over : can_note lead first (length row) old parts ≡ false → order ≡ record { step = Over; first = 0; count = 0 }

@@ -10,7 +10,6 @@ use crate::bytes::{is_stuck, place_in};
 pub use crate::run::RowOrder;
 use crate::run::{OVER, order_of};
 use page_holds::step;
-use page_pins::Transfer;
 use window_pages::{PartCounts, WindowFacts, WindowPage};
 use window_tables::{PART, TableFacts, can_note, facts_of};
 
@@ -63,17 +62,16 @@ fn ask_each(
     lead: usize,
     table: &TableFacts,
     pins: &[u16],
-    transfers: &[Transfer],
     first: usize,
     row: &[u8],
 )
     requires within { first + length row.now ≤ length pages.old }
     requires parts { has_parts lead pages.old parts.old ≡ true }
-    ensures pages { Changed (λ n. PageBecomes (Asks (facts_there table.now pins.now transfers.now (first + n)) (slice_index_or row.now n 0))) first (length row.now) pages.old pages.new }
+    ensures pages { Changed (λ n. PageBecomes (Asks (facts_there table.now pins.now (first + n)) (slice_index_or row.now n 0))) first (length row.now) pages.old pages.new }
     ensures counted { Counted lead pages.old parts.old → Counted lead pages.new parts.new }
 {
     for n in 0..row.len() {
-        let facts = facts_of(table, pins, transfers, &NO_FACTS, first + n);
+        let facts = facts_of(table, pins, &NO_FACTS, first + n);
         ask_at(pages, parts, lead, first + n, &facts, row[n]);
     }
 }
@@ -88,16 +86,15 @@ pub fn next(
     lead: usize,
     table: &TableFacts,
     pins: &[u16],
-    transfers: &[Transfer],
     first: usize,
     row: &[u8],
 ) -> RowOrder
-    ensures { OrdersNext table.now pins.now transfers.now lead first row.now result pages.old pages.new parts.old parts.new }
+    ensures { OrdersNext table.now pins.now lead first row.now result pages.old pages.new parts.old parts.new }
 {
     let can = can_note(pages, parts, lead, first, row.len());
     if !can {
         return OVER;
     }
-    ask_each(pages, parts, lead, table, pins, transfers, first, row);
+    ask_each(pages, parts, lead, table, pins, first, row);
     order_of(pages, first, row)
 }

@@ -3,9 +3,6 @@ use Rattle.std.specs.Prelude.{◌≡◌, ℕ, ◌+◌, Bool, true, false, not, �
 use Rattle.idle_pages.specs.declared.look.PageLooks.{PageLooks}
 use Rattle.idle_pages.specs.declared.look.TheConstants.{STILL, ASKS_MOST}
 
-abbrev pub new_page : PageLooks
-new_page = record { fingerprint = 0; clue = 0; looks = 0; asks = 0 }
-
 -- the next number, up to the most
 abbrev pub next_up_to : ℕ → ℕ → ℕ
 next_up_to n most = if nat_lt n most then n + 1 else most

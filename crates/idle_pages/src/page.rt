@@ -1,6 +1,6 @@
 //! When a page is idle.
 ghost use Rattle.std.specs.Prelude.{◌≡◌};
-ghost use Rattle.idle_pages.specs.Idle.{new_page, next_up_to, is_idle, is_again, is_young, glanced_by, is_hot, asks_then, met, is_read, again, anew, read, asked, asked_last, due, forgotten, lent, held};
+ghost use Rattle.idle_pages.specs.Idle.{next_up_to, is_idle, is_again, is_young, glanced_by, is_hot, asks_then, met, is_read, again, anew, read, asked, asked_last, due, held};
 
 use crate::{ASKS_MOST, PageLooks, STILL};
 
@@ -12,18 +12,6 @@ fn next_up_to(number: u8, most: u8) -> u8
 }
 
 impl PageLooks {
-    /// A page of which nothing is known.
-    pub fn new() -> PageLooks
-        ensures { result ≡ new_page }
-    {
-        PageLooks {
-            fingerprint: 0,
-            clue: 0,
-            looks: 0,
-            asks: 0,
-        }
-    }
-
     /// Returns whether the page is idle.
     pub fn is_idle(&self) -> bool
         ensures { result ≡ is_idle self.now }
@@ -152,22 +140,6 @@ impl PageLooks {
         ensures { self.new ≡ due self.old }
     {
         self.asks = 0;
-    }
-
-    /// Learns that the page's content is another one, for example since it was given up.
-    pub fn forget(&mut self)
-        ensures { self.new ≡ forgotten self.old }
-    {
-        let unknown = PageLooks::new();
-        self.looks = unknown.looks;
-        self.asks = unknown.asks;
-    }
-
-    /// Learns that a loan of the page was got.
-    pub fn lent(&mut self)
-        ensures { self.new ≡ lent self.old }
-    {
-        self.looks = 0;
     }
 
     /// Learns that the page was to be held, and whether it was. One that wasn't, since a device may have pinned it, is tried again later.

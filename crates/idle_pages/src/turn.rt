@@ -1,6 +1,6 @@
 //! Which looks ask about a page, or read it.
 ghost use Rattle.std.specs.Prelude.{◌≡◌, ◌≤◌};
-ghost use Rattle.idle_pages.specs.Turns.{power, turns_of, idle_apart, looks_apart, turn_at, has_turn, is_turn_of_idle, is_asked_in_passing};
+ghost use Rattle.idle_pages.specs.Turns.{power, turns_of, idle_apart, looks_apart, turn_at, is_turn_of_idle, is_asked_in_passing};
 
 use crate::{LookConfig, PASSING_EACH, PageLooks, PartLooks, TOGETHER, TURNS, WHOLE_TURNS};
 
@@ -74,13 +74,6 @@ impl PageLooks {
         } else {
             power(self.asks)
         }
-    }
-
-    /// Returns whether it is the turn of page `number` at this look.
-    pub fn has_turn(&self, config: &LookConfig, part: &PartLooks, look: u32, number: u32) -> bool
-        ensures { result ≡ has_turn config.now part.now self.now look number }
-    {
-        turn_at(look, number) % self.looks_apart(config, part) == 0
     }
 
     /// Returns whether others mustn't find the page by the question about it. Those of a whole part are found at their first question, and

@@ -7,7 +7,7 @@ use Rattle.share_domain.specs.declared.holding.Slot.{Slot}
 use Rattle.share_domain.specs.Domains.{DomainView, held_in, region_frame}
 use Rattle.window_domains.specs.Agreement.{frame_by, HasHeld}
 use Rattle.window_domains.proofs.Frames.{the}
-use Rattle.page_lender.specs.declared.belief.Belief.TheVariants.{Private, Chosen, Copied, Unanswered, Loaned, Held, Equal, LettingGo, Shown, Homing, Leaving, Unreleased, Zeros, HeldZeros, EqualZeros, PuttingBack}
+use Rattle.page_lender.specs.declared.belief.Belief.TheVariants.{Private, Chosen, Copied, Loaned, Held, Equal, LettingGo, Shown, Homing, Leaving, Zeros, HeldZeros, EqualZeros, PuttingBack}
 use Rattle.lender_domains.specs.Owned.{Owns, SlotsByBelief, AccountsByBelief}
 use Rattle.lender_domains.proofs.Lists.{held_at, has_at}
 
@@ -34,7 +34,6 @@ pub slots_by_belief : SlotsByBelief
 slots_by_belief number d client_of given slots w p Private own held a o b e f = no_frame d held (has_at d slots p held a.are_held f) (sym (held_at d slots w.pages p b.page held a.holds b.there f) ∙ b.fits.holds)
 slots_by_belief number d client_of given slots w p Chosen own held a o b e f = no_frame d held (has_at d slots p held a.are_held f) (sym (held_at d slots w.pages p b.page held a.holds b.there f) ∙ b.fits.holds)
 slots_by_belief number d client_of given slots w p Copied own held a o b e f = no_frame d held (has_at d slots p held a.are_held f) (sym (held_at d slots w.pages p b.page held a.holds b.there f) ∙ b.fits.holds)
-slots_by_belief number d client_of given slots w p Unanswered own held a o b e f = no_frame d held (has_at d slots p held a.are_held f) (sym (held_at d slots w.pages p b.page held a.holds b.there f) ∙ b.fits.holds)
 slots_by_belief number d client_of given slots w p (Loaned slot n) own held a o b e f = no_frame d held (has_at d slots p held a.are_held f) (sym (held_at d slots w.pages p b.page held a.holds b.there f) ∙ b.fits.holds)
 slots_by_belief number d client_of given slots w p (Held slot n) own held a o b e f = no_frame d held (has_at d slots p held a.are_held f) (sym (held_at d slots w.pages p b.page held a.holds b.there f) ∙ b.fits.holds)
 slots_by_belief number d client_of given slots w p (Equal slot n) own held a o b e f = own_frame d client_of given slots p n own held o e f (sym (held_at d slots w.pages p b.page held a.holds b.there f) ∙ b.fits.holds)
@@ -42,7 +41,6 @@ slots_by_belief number d client_of given slots w p (LettingGo slot) own held a o
 slots_by_belief number d client_of given slots w p (Shown slot n) own held a o b e f = own_frame d client_of given slots p n own held o e f (sym (held_at d slots w.pages p b.page held a.holds b.there f) ∙ b.fits.holds)
 slots_by_belief number d client_of given slots w p (Homing slot n in_place) own held a o b e f = own_frame d client_of given slots p n own held o e f (sym (held_at d slots w.pages p b.page held a.holds b.there f) ∙ b.fits.holds)
 slots_by_belief number d client_of given slots w p (Leaving slot) own held a o b e f = either d client_of given slots p own held o e f
-slots_by_belief number d client_of given slots w p (Unreleased slot) own held a o b e f = either d client_of given slots p own held o e f
 slots_by_belief number d client_of given slots w p Zeros own held a o b e f = no_frame d held (has_at d slots p held a.are_held f) (sym (held_at d slots w.pages p b.page held a.holds b.there f) ∙ b.fits.holds)
 slots_by_belief number d client_of given slots w p HeldZeros own held a o b e f = no_frame d held (has_at d slots p held a.are_held f) (sym (held_at d slots w.pages p b.page held a.holds b.there f) ∙ b.fits.holds)
 slots_by_belief number d client_of given slots w p EqualZeros own held a o b e f = no_frame d held (has_at d slots p held a.are_held f) (sym (held_at d slots w.pages p b.page held a.holds b.there f) ∙ b.fits.holds)
@@ -52,14 +50,10 @@ none_named : (name : Slot → ℕ) (own : Option Slot) → option_map name own �
 none_named name None h = refl
 none_named name (Some slot) h = cc
 
-one_named : (name : Slot → ℕ) (own : Option Slot) (slot : ℕ) → ((other : ℕ) → option_map name own ≡ Some other → other ≡ slot) → (other : Slot) → own ≡ Some other → name other ≡ slot
-one_named name own slot h other e = h (name other) (ap (λ (o : Option Slot). option_map name o) e)
-
 pub accounts_by_belief : AccountsByBelief
 accounts_by_belief name Private own r = none_named name own r
 accounts_by_belief name Chosen own r = none_named name own r
 accounts_by_belief name Copied own r = none_named name own r
-accounts_by_belief name Unanswered own r = tt
 accounts_by_belief name (Loaned slot n) own r = r
 accounts_by_belief name (Held slot n) own r = r
 accounts_by_belief name (Equal slot n) own r = r
@@ -67,7 +61,6 @@ accounts_by_belief name (LettingGo slot) own r = r
 accounts_by_belief name (Shown slot n) own r = r
 accounts_by_belief name (Homing slot n in_place) own r = r
 accounts_by_belief name (Leaving slot) own r = r
-accounts_by_belief name (Unreleased slot) own r = one_named name own slot r
 accounts_by_belief name Zeros own r = none_named name own r
 accounts_by_belief name HeldZeros own r = none_named name own r
 accounts_by_belief name EqualZeros own r = none_named name own r

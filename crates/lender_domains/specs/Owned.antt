@@ -13,9 +13,8 @@ use Rattle.window_domains.specs.Agreement.{Agrees, Plays}
 use Rattle.window_domains.specs.Calls.{releases}
 use Rattle.page_lender.specs.Decisions.{account}
 use Rattle.page_lender.specs.Events.{Believes}
-use Rattle.page_lender.specs.Slots.{IsRightOf}
 use Rattle.page_lender.specs.declared.belief.Belief.{Belief}
-use Rattle.page_lender.specs.declared.belief.Belief.TheVariants.{Private, Chosen, Copied, Unanswered, Loaned, Held, Equal, LettingGo, Shown, Homing, Leaving, Unreleased, Zeros, HeldZeros, EqualZeros, PuttingBack}
+use Rattle.page_lender.specs.declared.belief.Belief.TheVariants.{Private, Chosen, Copied, Loaned, Held, Equal, LettingGo, Shown, Homing, Leaving, Zeros, HeldZeros, EqualZeros, PuttingBack}
 
 -- `given` says which slot the domain has for each page, if any, and `slots` by which slot a page holds a frame, if by any. Each slot that the
 -- domain has for a page is held by the page's client. No two pages have one. A page holds a frame only by its own.
@@ -29,7 +28,6 @@ abbrev pub HoldsBy : Belief → Option Slot → Option Slot → Type 0
 HoldsBy Private given held = held ≡ None
 HoldsBy Chosen given held = held ≡ None
 HoldsBy Copied given held = held ≡ None
-HoldsBy Unanswered given held = held ≡ None
 HoldsBy (Loaned slot n) given held = held ≡ None
 HoldsBy (Held slot n) given held = held ≡ None
 HoldsBy (Equal slot n) given held = held ≡ given
@@ -37,7 +35,6 @@ HoldsBy (LettingGo slot) given held = (held ≡ None) ⊎ (held ≡ given)
 HoldsBy (Shown slot n) given held = held ≡ given
 HoldsBy (Homing slot n in_place) given held = held ≡ given
 HoldsBy (Leaving slot) given held = (held ≡ None) ⊎ (held ≡ given)
-HoldsBy (Unreleased slot) given held = (held ≡ None) ⊎ (held ≡ given)
 HoldsBy Zeros given held = held ≡ None
 HoldsBy HeldZeros given held = held ≡ None
 HoldsBy EqualZeros given held = held ≡ None
@@ -54,7 +51,6 @@ abbrev pub HasBy : (Slot → ℕ) → Belief → Option Slot → Type 0
 HasBy name Private own = own ≡ None
 HasBy name Chosen own = own ≡ None
 HasBy name Copied own = own ≡ None
-HasBy name Unanswered own = Unit {0}
 HasBy name (Loaned slot n) own = option_map name own ≡ Some slot
 HasBy name (Held slot n) own = option_map name own ≡ Some slot
 HasBy name (Equal slot n) own = option_map name own ≡ Some slot
@@ -62,7 +58,6 @@ HasBy name (LettingGo slot) own = option_map name own ≡ Some slot
 HasBy name (Shown slot n) own = option_map name own ≡ Some slot
 HasBy name (Homing slot n in_place) own = option_map name own ≡ Some slot
 HasBy name (Leaving slot) own = option_map name own ≡ Some slot
-HasBy name (Unreleased slot) own = (other : Slot) → own ≡ Some other → name other ≡ slot
 HasBy name Zeros own = own ≡ None
 HasBy name HeldZeros own = own ≡ None
 HasBy name EqualZeros own = own ≡ None
@@ -70,7 +65,7 @@ HasBy name PuttingBack own = own ≡ None
 
 -- Slots have numbers, by any numbering. Where the account is right of the number of the page's slot, so is this.
 abbrev pub AccountsByBelief : Type 0
-AccountsByBelief = (name : Slot → ℕ) (belief : Belief) (own : Option Slot) → IsRightOf (account belief) (option_map name own) → HasBy name belief own
+AccountsByBelief = (name : Slot → ℕ) (belief : Belief) (own : Option Slot) → option_map name own ≡ account belief → HasBy name belief own
 
 -- A loan for page p, which had none, whether its lender hears of it or not: the domain has its slot for p, and each other page has what it had.
 abbrev pub LendsOwn : Type 0

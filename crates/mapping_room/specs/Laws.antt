@@ -1,30 +1,31 @@
 -- What is left to a process's own code.
-use Rattle.std.specs.Prelude.{◌≡◌, ℕ, ◌+◌, ◌*◌, ◌≤◌, true, List, [], ◌∷◌}
-use Rattle.mapping_room.specs.Rooms.{Room, spare_of, most_of, has_room, empty, taken_by, given_back}
+use Rattle.std.specs.Prelude.{◌≡◌, ℕ, ◌+◌, ◌-◌, ◌*◌, ◌≤◌, true, if◌then◌else◌, List, [], ◌∷◌}
+use Rattle.mapping_room.specs.Rooms.{spare_of, most_of, fits}
 
--- Where mappings were taken, enough are left of the limit.
+-- Where mappings are taken, enough are left of the limit.
 abbrev pub LeavesEnough : Type 0
-LeavesEnough = (r : Room) (count : ℕ) → 1 ≤ count → has_room r count ≡ true → (taken_by r count).taken + spare_of r.limit ≤ r.limit
+LeavesEnough = (limit taken count : ℕ) → 1 ≤ count → fits (most_of limit) taken count ≡ true → taken + count + spare_of limit ≤ limit
 
 -- And that is a tenth, rounded down, and at least 4,000.
 abbrev pub LeavesATenth : Type 0
 LeavesATenth =
-    (r : Room) (count : ℕ) → 1 ≤ count → has_room r count ≡ true →
-    ((taken_by r count).taken + 4000 ≤ r.limit) × (10 * (taken_by r count).taken ≤ 9 * r.limit + 9)
+    (limit taken count : ℕ) → 1 ≤ count → fits (most_of limit) taken count ≡ true →
+    (taken + count + 4000 ≤ limit) × (10 * (taken + count) ≤ 9 * limit + 9)
 
--- mappings are taken, if they may be made, or given back
+-- mappings are taken, if they fit, or given back
 pub data Move : Type 0 where
   takes : ℕ → Move
   gives : ℕ → Move
 
-abbrev pub moved : Room → Move → Room
-moved r (takes count) = taken_by r count
-moved r (gives count) = given_back r count
+-- how many are taken then, of so many at most
+abbrev pub moved : ℕ → ℕ → Move → ℕ
+moved most taken (takes count) = if fits most taken count then taken + count else taken
+moved most taken (gives count) = taken - count
 
-abbrev pub after : Room → List Move → Room
-after r [] = r
-after r (m ∷ ms) = after (moved r m) ms
+abbrev pub after : ℕ → ℕ → List Move → ℕ
+after most taken [] = taken
+after most taken (m ∷ ms) = after most (moved most taken m) ms
 
 -- From none on, no more are taken than may be.
 abbrev pub StaysWithin : Type 0
-StaysWithin = (limit : ℕ) (ms : List Move) → (after (empty limit) ms).taken ≤ most_of limit
+StaysWithin = (limit : ℕ) (ms : List Move) → after (most_of limit) 0 ms ≤ most_of limit

@@ -4,4 +4,4 @@
 pub mod laws;
 mod room;
 
-pub use room::{MappingRoom, SPARE_LEAST, SPARE_PART, fits};
+pub use room::{SPARE_LEAST, SPARE_PART, fits, most};

@@ -4,7 +4,7 @@ use Rattle.std.specs.Prelude.{unwrap_or, if◌then◌else◌}
 use Rattle.page_lender.specs.Decisions.{KeepsLoan, AtEqual, AtEqualZeros, due, led_to, prepared, stage_of}
 use Rattle.page_lender.specs.declared.bars.Bars.{Bars}
 use Rattle.page_lender.specs.declared.belief.Belief.{Belief}
-use Rattle.page_lender.specs.declared.belief.Belief.TheVariants.{Private, Chosen, Copied, Unanswered, Loaned, Held, Equal, LettingGo, Shown, Homing, Leaving, Unreleased, Zeros, HeldZeros, EqualZeros, PuttingBack}
+use Rattle.page_lender.specs.declared.belief.Belief.TheVariants.{Private, Chosen, Copied, Loaned, Held, Equal, LettingGo, Shown, Homing, Leaving, Zeros, HeldZeros, EqualZeros, PuttingBack}
 use Rattle.page_lender.specs.declared.order.Outcome.{Outcome}
 use Rattle.page_lender.specs.declared.order.Outcome.TheVariants.{Done, Refused as NotDone}
 use Rattle.window_pages.specs.Bytes.{belief_of, known_of}
@@ -35,7 +35,6 @@ frame_found : (frames : ℕ → List ℕ) (slot n : ℕ) (y : Belief) (bytes : L
 frame_found frames slot n Private bytes s k f = cc
 frame_found frames slot n Chosen bytes s k f = cc
 frame_found frames slot n Copied bytes s k f = cc
-frame_found frames slot n Unanswered bytes s k f = cc
 frame_found frames slot n (Loaned its m) bytes s k f = cc
 frame_found frames slot n (Held its m) bytes s k f = cc
 frame_found frames slot n (Equal its m) bytes s k f =
@@ -45,7 +44,6 @@ frame_found frames slot n (LettingGo its) bytes s k f = cc
 frame_found frames slot n (Shown its m) bytes s k f = cc
 frame_found frames slot n (Homing its m in_place) bytes s k f = cc
 frame_found frames slot n (Leaving its) bytes s k f = cc
-frame_found frames slot n (Unreleased its) bytes s k f = cc
 frame_found frames slot n Zeros bytes s k f = cc
 frame_found frames slot n HeldZeros bytes s k f = cc
 frame_found frames slot n EqualZeros bytes s k f = cc
@@ -56,7 +54,6 @@ zeros_found : (frames : ℕ → List ℕ) (y : Belief) (bytes : List ℕ) → st
 zeros_found frames Private bytes s f = cc
 zeros_found frames Chosen bytes s f = cc
 zeros_found frames Copied bytes s f = cc
-zeros_found frames Unanswered bytes s f = cc
 zeros_found frames (Loaned its m) bytes s f = cc
 zeros_found frames (Held its m) bytes s f = cc
 zeros_found frames (Equal its m) bytes s f = cc
@@ -64,7 +61,6 @@ zeros_found frames (LettingGo its) bytes s f = cc
 zeros_found frames (Shown its m) bytes s f = cc
 zeros_found frames (Homing its m in_place) bytes s f = cc
 zeros_found frames (Leaving its) bytes s f = cc
-zeros_found frames (Unreleased its) bytes s f = cc
 zeros_found frames Zeros bytes s f = cc
 zeros_found frames HeldZeros bytes s f = cc
 zeros_found frames EqualZeros bytes s f = cc
@@ -136,7 +132,6 @@ found_right : (frames : ℕ → List ℕ) (b y : Belief) (place : HeldPlace) (is
 found_right frames Private y place is_done x z d t r bytes f = others_right frames Private y place is_done x z refl d t r bytes f
 found_right frames Chosen y place is_done x z d t r bytes f = others_right frames Chosen y place is_done x z refl d t r bytes f
 found_right frames Copied y place is_done x z d t r bytes f = others_right frames Copied y place is_done x z refl d t r bytes f
-found_right frames Unanswered y place is_done x z d t r bytes f = others_right frames Unanswered y place is_done x z refl d t r bytes f
 found_right frames (Loaned slot n) y place is_done x z d t r bytes f = others_right frames (Loaned slot n) y place is_done x z refl d t r bytes f
 found_right frames (Held slot n) y place is_done x z d t r bytes f = held_right frames slot n y place Compare is_done x z refl d t r bytes f
 found_right frames (Equal slot n) y place is_done x z d t r bytes f = others_right frames (Equal slot n) y place is_done x z refl d t r bytes f
@@ -144,7 +139,6 @@ found_right frames (LettingGo slot) y place is_done x z d t r bytes f = others_r
 found_right frames (Shown slot n) y place is_done x z d t r bytes f = others_right frames (Shown slot n) y place is_done x z refl d t r bytes f
 found_right frames (Homing slot n in_place) y place is_done x z d t r bytes f = others_right frames (Homing slot n in_place) y place is_done x z refl d t r bytes f
 found_right frames (Leaving slot) y place is_done x z d t r bytes f = others_right frames (Leaving slot) y place is_done x z refl d t r bytes f
-found_right frames (Unreleased slot) y place is_done x z d t r bytes f = others_right frames (Unreleased slot) y place is_done x z refl d t r bytes f
 found_right frames Zeros y place is_done x z d t r bytes f = others_right frames Zeros y place is_done x z refl d t r bytes f
 found_right frames HeldZeros y place is_done x z d t r bytes f = zeros_right frames y place CompareZeros is_done x z refl d t r bytes f
 found_right frames EqualZeros y place is_done x z d t r bytes f = others_right frames EqualZeros y place is_done x z refl d t r bytes f
@@ -168,7 +162,6 @@ begun_found : (frames : ℕ → List ℕ) (b y : Belief) (outcome : Option Outco
 begun_found frames Private y o bytes h t f = cc
 begun_found frames Chosen y o bytes h t f = cc
 begun_found frames Copied y o bytes h t f = cc
-begun_found frames Unanswered y o bytes h t f = cc
 begun_found frames (Loaned slot n) y o bytes h t f = let none : found_of frames (Loaned slot n) ≡ Some bytes = found_before frames o (Loaned slot n) y bytes refl t f in cc
 begun_found frames (Held slot n) y o bytes h t f = cc
 begun_found frames (Equal slot n) y o bytes h t f = cc
@@ -176,7 +169,6 @@ begun_found frames (LettingGo slot) y o bytes h t f = cc
 begun_found frames (Shown slot n) y o bytes h t f = cc
 begun_found frames (Homing slot n in_place) y o bytes h t f = cc
 begun_found frames (Leaving slot) y o bytes h t f = cc
-begun_found frames (Unreleased slot) y o bytes h t f = cc
 begun_found frames Zeros y o bytes h t f = let none : found_of frames Zeros ≡ Some bytes = found_before frames o Zeros y bytes refl t f in cc
 begun_found frames HeldZeros y o bytes h t f = cc
 begun_found frames EqualZeros y o bytes h t f = cc
@@ -192,7 +184,6 @@ written_found : (frames : ℕ → List ℕ) (b : Belief) (bytes : List ℕ) → 
 written_found frames Private bytes h f = cc
 written_found frames Chosen bytes h f = cc
 written_found frames Copied bytes h f = cc
-written_found frames Unanswered bytes h f = cc
 written_found frames (Loaned slot n) bytes h f = cc
 written_found frames (Held slot n) bytes h f = cc
 written_found frames (Equal slot n) bytes h f = cc
@@ -200,7 +191,6 @@ written_found frames (LettingGo slot) bytes h f = cc
 written_found frames (Shown slot n) bytes h f = cc
 written_found frames (Homing slot n in_place) bytes h f = cc
 written_found frames (Leaving slot) bytes h f = cc
-written_found frames (Unreleased slot) bytes h f = cc
 written_found frames Zeros bytes h f = cc
 written_found frames HeldZeros bytes h f = cc
 written_found frames EqualZeros bytes h f = cc

@@ -1,10 +1,10 @@
 -- What is believed of a page in a hold fits its bytes, whatever comes of a step.
 use Rattle.std.proofs.Common.{◌≡◌, ◌∙◌, ℕ, Bool, true, false, List, Option, Some, None, refl, ap, sym}
 use Rattle.std.specs.Prelude.{unwrap_or, if◌then◌else◌}
-use Rattle.page_lender.specs.Decisions.{KeepsLoan, Stage, AtPrivate, AtChosen, AtCopied, AtUnanswered, AtLoaned, AtHeld, AtEqual, AtLettingGo, AtShown, AtHoming, AtLeaving, AtUnreleased, AtZeros, AtHeldZeros, AtEqualZeros, AtPuttingBack, aim, doubt, due, fallback, is_barred, led_to, must_own, prepared, stage_of}
+use Rattle.page_lender.specs.Decisions.{KeepsLoan, Stage, AtPrivate, AtChosen, AtCopied, AtLoaned, AtHeld, AtEqual, AtLettingGo, AtShown, AtHoming, AtLeaving, AtZeros, AtHeldZeros, AtEqualZeros, AtPuttingBack, aim, doubt, due, fallback, is_barred, led_to, must_own, prepared, stage_of}
 use Rattle.page_lender.specs.declared.bars.Bars.{Bars}
 use Rattle.page_lender.specs.declared.belief.Belief.{Belief}
-use Rattle.page_lender.specs.declared.belief.Belief.TheVariants.{Private, Chosen, Copied, Unanswered, Loaned, Held, Equal, LettingGo, Shown, Homing, Leaving, Unreleased, Zeros, HeldZeros, EqualZeros, PuttingBack}
+use Rattle.page_lender.specs.declared.belief.Belief.TheVariants.{Private, Chosen, Copied, Loaned, Held, Equal, LettingGo, Shown, Homing, Leaving, Zeros, HeldZeros, EqualZeros, PuttingBack}
 use Rattle.page_lender.specs.declared.order.Order.{Order}
 use Rattle.page_lender.specs.declared.order.Outcome.{Outcome}
 use Rattle.page_lender.specs.declared.order.Outcome.TheVariants.{Done, Lent, Unknown, Refused as NotDone}
@@ -23,7 +23,6 @@ abbrev pub found_of : (ℕ → List ℕ) → Belief → Option (List ℕ)
 found_of frames Private = None
 found_of frames Chosen = None
 found_of frames Copied = None
-found_of frames Unanswered = None
 found_of frames (Loaned slot n) = None
 found_of frames (Held slot n) = None
 found_of frames (Equal slot n) = Some (frames n)
@@ -31,7 +30,6 @@ found_of frames (LettingGo slot) = None
 found_of frames (Shown slot n) = None
 found_of frames (Homing slot n in_place) = None
 found_of frames (Leaving slot) = None
-found_of frames (Unreleased slot) = None
 found_of frames Zeros = None
 found_of frames HeldZeros = None
 found_of frames EqualZeros = Some zeros
@@ -68,7 +66,6 @@ abbrev pub finds : Stage → Bool
 finds AtPrivate = false
 finds AtChosen = false
 finds AtCopied = false
-finds AtUnanswered = false
 finds AtLoaned = false
 finds AtHeld = false
 finds AtEqual = true
@@ -76,7 +73,6 @@ finds AtLettingGo = false
 finds AtShown = false
 finds AtHoming = false
 finds AtLeaving = false
-finds AtUnreleased = false
 finds AtZeros = false
 finds AtHeldZeros = false
 finds AtEqualZeros = true
@@ -86,7 +82,6 @@ pub not_found : (frames : ℕ → List ℕ) (b : Belief) (bytes : List ℕ) → 
 not_found frames Private bytes e f = cc
 not_found frames Chosen bytes e f = cc
 not_found frames Copied bytes e f = cc
-not_found frames Unanswered bytes e f = cc
 not_found frames (Loaned slot n) bytes e f = cc
 not_found frames (Held slot n) bytes e f = cc
 not_found frames (Equal slot n) bytes e f = cc
@@ -94,7 +89,6 @@ not_found frames (LettingGo slot) bytes e f = cc
 not_found frames (Shown slot n) bytes e f = cc
 not_found frames (Homing slot n in_place) bytes e f = cc
 not_found frames (Leaving slot) bytes e f = cc
-not_found frames (Unreleased slot) bytes e f = cc
 not_found frames Zeros bytes e f = cc
 not_found frames HeldZeros bytes e f = cc
 not_found frames EqualZeros bytes e f = cc
@@ -104,7 +98,6 @@ pub fallback_finds_none : (order : Order) → finds (fallback order) ≡ false
 fallback_finds_none Order.Wait = refl
 fallback_finds_none Order.Copy = refl
 fallback_finds_none Order.Lend = refl
-fallback_finds_none Order.FindLoan = refl
 fallback_finds_none Order.Hold = refl
 fallback_finds_none (Order.Compare n) = refl
 fallback_finds_none (Order.Map n) = refl
@@ -112,7 +105,6 @@ fallback_finds_none Order.LetGo = refl
 fallback_finds_none Order.CopyInPlace = refl
 fallback_finds_none Order.TakeHome = refl
 fallback_finds_none (Order.Release slot) = refl
-fallback_finds_none (Order.FindSlot slot) = refl
 fallback_finds_none Order.HoldZeros = refl
 fallback_finds_none Order.CompareZeros = refl
 fallback_finds_none Order.GiveBack = refl
@@ -122,7 +114,6 @@ pub doubt_finds_none : (order : Order) → finds (doubt order) ≡ false
 doubt_finds_none Order.Wait = refl
 doubt_finds_none Order.Copy = refl
 doubt_finds_none Order.Lend = refl
-doubt_finds_none Order.FindLoan = refl
 doubt_finds_none Order.Hold = refl
 doubt_finds_none (Order.Compare n) = refl
 doubt_finds_none (Order.Map n) = refl
@@ -130,7 +121,6 @@ doubt_finds_none Order.LetGo = refl
 doubt_finds_none Order.CopyInPlace = refl
 doubt_finds_none Order.TakeHome = refl
 doubt_finds_none (Order.Release slot) = refl
-doubt_finds_none (Order.FindSlot slot) = refl
 doubt_finds_none Order.HoldZeros = refl
 doubt_finds_none Order.CompareZeros = refl
 doubt_finds_none Order.GiveBack = refl
@@ -141,7 +131,6 @@ abbrev pub is_compared : Belief → Bool
 is_compared Private = false
 is_compared Chosen = false
 is_compared Copied = false
-is_compared Unanswered = false
 is_compared (Loaned slot n) = false
 is_compared (Held slot n) = true
 is_compared (Equal slot n) = false
@@ -149,7 +138,6 @@ is_compared (LettingGo slot) = false
 is_compared (Shown slot n) = false
 is_compared (Homing slot n in_place) = false
 is_compared (Leaving slot) = false
-is_compared (Unreleased slot) = false
 is_compared Zeros = false
 is_compared HeldZeros = true
 is_compared EqualZeros = false
@@ -159,7 +147,6 @@ aim_finds_none : (b : Belief) → is_compared b ≡ false → finds (aim (due b)
 aim_finds_none Private e = refl
 aim_finds_none Chosen e = refl
 aim_finds_none Copied e = refl
-aim_finds_none Unanswered e = refl
 aim_finds_none (Loaned slot n) e = refl
 aim_finds_none (Held slot n) e = cc
 aim_finds_none (Equal slot n) e = refl
@@ -168,7 +155,6 @@ aim_finds_none (Shown slot n) e = refl
 aim_finds_none (Homing slot n true) e = refl
 aim_finds_none (Homing slot n false) e = refl
 aim_finds_none (Leaving slot) e = refl
-aim_finds_none (Unreleased slot) e = refl
 aim_finds_none Zeros e = refl
 aim_finds_none HeldZeros e = cc
 aim_finds_none EqualZeros e = refl
@@ -191,7 +177,6 @@ prepared_found frames Copied bars bytes f = pick (is_barred bars) f where
   pick : (t : Bool) → found_of frames (if t then Private else Copied) ≡ Some bytes → found_of frames Copied ≡ Some bytes
   pick true f = cc
   pick false f = f
-prepared_found frames Unanswered bars bytes f = f
 prepared_found frames (Loaned slot n) bars bytes f = pick (is_barred bars) f where
   pick : (t : Bool) → found_of frames (if t then Leaving slot else Loaned slot n) ≡ Some bytes → found_of frames (Loaned slot n) ≡ Some bytes
   pick true f = cc
@@ -214,7 +199,6 @@ prepared_found frames (Homing slot n in_place) bars bytes f = pick (must_own bar
   pick true f = cc
   pick false f = cc
 prepared_found frames (Leaving slot) bars bytes f = f
-prepared_found frames (Unreleased slot) bars bytes f = f
 prepared_found frames Zeros bars bytes f = pick (is_barred bars) f where
   pick : (t : Bool) → found_of frames (if t then Private else Zeros) ≡ Some bytes → found_of frames Zeros ≡ Some bytes
   pick true f = cc
@@ -259,7 +243,6 @@ map_found : (frames : ℕ → List ℕ) (b : Belief) (place : HeldPlace) → ste
 map_found frames Private place e = absurd (parted_maps place e)
 map_found frames Chosen place e = absurd (parted_maps place e)
 map_found frames Copied place e = absurd (parted_maps place e)
-map_found frames Unanswered place e = absurd (parted_maps place e)
 map_found frames (Loaned slot n) place e = absurd (parted_maps place e)
 map_found frames (Held slot n) place e = cc
 map_found frames (Equal slot n) place e = refl
@@ -267,7 +250,6 @@ map_found frames (LettingGo slot) place e = absurd (parted_maps place e)
 map_found frames (Shown slot n) place e = absurd (parted_maps place e)
 map_found frames (Homing slot n in_place) place e = absurd (parted_maps place e)
 map_found frames (Leaving slot) place e = absurd (parted_maps place e)
-map_found frames (Unreleased slot) place e = absurd (parted_maps place e)
 map_found frames Zeros place e = absurd (parted_maps place e)
 map_found frames HeldZeros place e = cc
 map_found frames EqualZeros place e = absurd (zeros_parted_maps place e)
@@ -278,7 +260,6 @@ given_found : (frames : ℕ → List ℕ) (b : Belief) (place : HeldPlace) → s
 given_found frames Private place e = absurd (parted_gives place e)
 given_found frames Chosen place e = absurd (parted_gives place e)
 given_found frames Copied place e = absurd (parted_gives place e)
-given_found frames Unanswered place e = absurd (parted_gives place e)
 given_found frames (Loaned slot n) place e = absurd (parted_gives place e)
 given_found frames (Held slot n) place e = cc
 given_found frames (Equal slot n) place e = cc
@@ -286,7 +267,6 @@ given_found frames (LettingGo slot) place e = absurd (parted_gives place e)
 given_found frames (Shown slot n) place e = absurd (parted_gives place e)
 given_found frames (Homing slot n in_place) place e = absurd (parted_gives place e)
 given_found frames (Leaving slot) place e = absurd (parted_gives place e)
-given_found frames (Unreleased slot) place e = absurd (parted_gives place e)
 given_found frames Zeros place e = absurd (parted_gives place e)
 given_found frames HeldZeros place e = cc
 given_found frames EqualZeros place e = refl
@@ -297,7 +277,6 @@ aside_found : (frames : ℕ → List ℕ) (b : Belief) → step_of b Aside ≡ E
 aside_found frames Private e = cc
 aside_found frames Chosen e = cc
 aside_found frames Copied e = cc
-aside_found frames Unanswered e = cc
 aside_found frames (Loaned slot n) e = cc
 aside_found frames (Held slot n) e = cc
 aside_found frames (Equal slot n) e = cc
@@ -305,7 +284,6 @@ aside_found frames (LettingGo slot) e = cc
 aside_found frames (Shown slot n) e = cc
 aside_found frames (Homing slot n in_place) e = cc
 aside_found frames (Leaving slot) e = cc
-aside_found frames (Unreleased slot) e = cc
 aside_found frames Zeros e = cc
 aside_found frames HeldZeros e = cc
 aside_found frames EqualZeros e = refl
@@ -328,7 +306,6 @@ put_from_aside : (b : Belief) (place : HeldPlace) → step_of b place ≡ PutBac
 put_from_aside Private place e = parted_puts place e
 put_from_aside Chosen place e = parted_puts place e
 put_from_aside Copied place e = parted_puts place e
-put_from_aside Unanswered place e = parted_puts place e
 put_from_aside (Loaned slot n) place e = parted_puts place e
 put_from_aside (Held slot n) place e = cc
 put_from_aside (Equal slot n) place e = cc
@@ -336,7 +313,6 @@ put_from_aside (LettingGo slot) place e = parted_puts place e
 put_from_aside (Shown slot n) place e = parted_puts place e
 put_from_aside (Homing slot n in_place) place e = parted_puts place e
 put_from_aside (Leaving slot) place e = parted_puts place e
-put_from_aside (Unreleased slot) place e = parted_puts place e
 put_from_aside Zeros place e = parted_puts place e
 put_from_aside HeldZeros place e = cc
 put_from_aside EqualZeros place e = zeros_parted_puts place e

@@ -1,9 +1,9 @@
 -- Each step of a hold leaves fewer steps.
 use Rattle.std.proofs.Common.{◌≡◌, ◌∙◌, ℕ, ◌<◌, Bool, true, false, ◌&&◌, Some, None, refl, ap, sym, subst, arith}
 use Rattle.std.specs.Prelude.{if◌then◌else◌}
-use Rattle.page_lender.specs.Decisions.{Stage, AtPrivate, AtChosen, AtCopied, AtUnanswered, AtLoaned, AtHeld, AtEqual, AtLettingGo, AtShown, AtHoming, AtLeaving, AtUnreleased, AtZeros, AtHeldZeros, AtEqualZeros, AtPuttingBack, due, is_outcome, led_to, stage_of, waiting}
+use Rattle.page_lender.specs.Decisions.{Stage, AtPrivate, AtChosen, AtCopied, AtLoaned, AtHeld, AtEqual, AtLettingGo, AtShown, AtHoming, AtLeaving, AtZeros, AtHeldZeros, AtEqualZeros, AtPuttingBack, due, is_outcome, led_to, stage_of, waiting}
 use Rattle.page_lender.specs.declared.belief.Belief.{Belief}
-use Rattle.page_lender.specs.declared.belief.Belief.TheVariants.{Private, Chosen, Copied, Unanswered, Loaned, Held, Equal, LettingGo, Shown, Homing, Leaving, Unreleased, Zeros, HeldZeros, EqualZeros, PuttingBack}
+use Rattle.page_lender.specs.declared.belief.Belief.TheVariants.{Private, Chosen, Copied, Loaned, Held, Equal, LettingGo, Shown, Homing, Leaving, Zeros, HeldZeros, EqualZeros, PuttingBack}
 use Rattle.page_lender.specs.declared.order.Outcome.{Outcome}
 use Rattle.page_lender.specs.declared.order.Outcome.TheVariants.{Done, Refused as NotDone}
 use Rattle.window_pages.specs.Bytes.{belief_of, known_of}
@@ -21,7 +21,6 @@ abbrev step_at : Stage → HeldPlace → HoldStep
 step_at AtPrivate place = parted place
 step_at AtChosen place = parted place
 step_at AtCopied place = parted place
-step_at AtUnanswered place = parted place
 step_at AtLoaned place = parted place
 step_at AtHeld place = Compare
 step_at AtEqual place = Map
@@ -29,7 +28,6 @@ step_at AtLettingGo place = parted place
 step_at AtShown place = parted place
 step_at AtHoming place = parted place
 step_at AtLeaving place = parted place
-step_at AtUnreleased place = parted place
 step_at AtZeros place = parted place
 step_at AtHeldZeros place = CompareZeros
 step_at AtEqualZeros place = zeros_parted place
@@ -39,7 +37,6 @@ step_is : (y : Belief) (place : HeldPlace) → step_of y place ≡ step_at (stag
 step_is Private place = refl
 step_is Chosen place = refl
 step_is Copied place = refl
-step_is Unanswered place = refl
 step_is (Loaned slot n) place = refl
 step_is (Held slot n) place = refl
 step_is (Equal slot n) place = refl
@@ -47,7 +44,6 @@ step_is (LettingGo slot) place = refl
 step_is (Shown slot n) place = refl
 step_is (Homing slot n in_place) place = refl
 step_is (Leaving slot) place = refl
-step_is (Unreleased slot) place = refl
 step_is Zeros place = refl
 step_is HeldZeros place = refl
 step_is EqualZeros place = refl
@@ -139,7 +135,6 @@ less : (b y : Belief) (place : HeldPlace) (is_done : Bool) → Leads b y (step_o
 less Private y place is_done l g = quiet_less Private y place is_done refl (λ at. refl) l g
 less Chosen y place is_done l g = quiet_less Chosen y place is_done refl (λ at. refl) l g
 less Copied y place is_done l g = quiet_less Copied y place is_done refl (λ at. refl) l g
-less Unanswered y place is_done l g = quiet_less Unanswered y place is_done refl (λ at. refl) l g
 less (Loaned slot n) y place is_done l g = quiet_less (Loaned slot n) y place is_done refl (λ at. refl) l g
 less (Held slot n) y place true l g = less_at y AtEqual place 4 (l.turns Done refl) (omega arith)
 less (Held slot n) y place false l g = less_at y AtLettingGo place 4 (l.turns NotDone refl) (few_parted place 4 (omega arith))
@@ -149,7 +144,6 @@ less (LettingGo slot) y place is_done l g = going_less slot y place is_done l g
 less (Shown slot n) y place is_done l g = quiet_less (Shown slot n) y place is_done refl (λ at. refl) l g
 less (Homing slot n in_place) y place is_done l g = quiet_less (Homing slot n in_place) y place is_done refl (λ at. refl) l g
 less (Leaving slot) y place is_done l g = quiet_less (Leaving slot) y place is_done refl (λ at. refl) l g
-less (Unreleased slot) y place is_done l g = quiet_less (Unreleased slot) y place is_done refl (λ at. refl) l g
 less Zeros y place is_done l g = quiet_less Zeros y place is_done refl (λ at. refl) l g
 less HeldZeros y place true l g = less_at y AtEqualZeros place 4 (l.turns Done refl) (zeros_few place)
 less HeldZeros y place false l g = less_at y AtPuttingBack place 4 (l.turns NotDone refl) (few_parted place 4 (omega arith))
@@ -169,7 +163,6 @@ fits : (b : Belief) (place : HeldPlace) (is_done : Bool) (its : Outcome) → out
 fits Private place is_done its o = absurd (quiet_fits Private place is_done its refl o)
 fits Chosen place is_done its o = absurd (quiet_fits Chosen place is_done its refl o)
 fits Copied place is_done its o = absurd (quiet_fits Copied place is_done its refl o)
-fits Unanswered place is_done its o = absurd (quiet_fits Unanswered place is_done its refl o)
 fits (Loaned slot n) place is_done its o = absurd (quiet_fits (Loaned slot n) place is_done its refl o)
 fits (Held slot n) place is_done its o = said_fits (Held slot n) is_done its refl refl o
 fits (Equal slot n) place is_done its o = said_fits (Equal slot n) is_done its refl refl o
@@ -181,7 +174,6 @@ fits (LettingGo slot) Replaced is_done its o = said_fits (LettingGo slot) is_don
 fits (Shown slot n) place is_done its o = absurd (quiet_fits (Shown slot n) place is_done its refl o)
 fits (Homing slot n in_place) place is_done its o = absurd (quiet_fits (Homing slot n in_place) place is_done its refl o)
 fits (Leaving slot) place is_done its o = absurd (quiet_fits (Leaving slot) place is_done its refl o)
-fits (Unreleased slot) place is_done its o = absurd (quiet_fits (Unreleased slot) place is_done its refl o)
 fits Zeros place is_done its o = absurd (quiet_fits Zeros place is_done its refl o)
 fits HeldZeros place is_done its o = said_fits HeldZeros is_done its refl refl o
 fits EqualZeros Free is_done its o = cc

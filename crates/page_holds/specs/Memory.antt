@@ -1,7 +1,7 @@
 -- Where the bytes of a page are while it is held, and what steps do with them.
 use Rattle.std.specs.Prelude.{◌≡◌, ℕ, Bool, true, false, List, replicate, Option, Some, None, unwrap_or}
 use Rattle.page_lender.specs.declared.belief.Belief.{Belief}
-use Rattle.page_lender.specs.declared.belief.Belief.TheVariants.{Private, Chosen, Copied, Unanswered, Loaned, Held, Equal, LettingGo, Shown, Homing, Leaving, Unreleased, Zeros, HeldZeros, EqualZeros, PuttingBack}
+use Rattle.page_lender.specs.declared.belief.Belief.TheVariants.{Private, Chosen, Copied, Loaned, Held, Equal, LettingGo, Shown, Homing, Leaving, Zeros, HeldZeros, EqualZeros, PuttingBack}
 use Rattle.page_holds.specs.declared.place.HeldPlace.{HeldPlace}
 use Rattle.page_holds.specs.declared.place.HeldPlace.TheVariants.{Free, Guarded, Aside, Replaced}
 use Rattle.page_holds.specs.declared.place.HoldStep.{HoldStep}
@@ -37,7 +37,6 @@ abbrev pub target : (ℕ → List ℕ) → Belief → List ℕ
 target frames Private = zeros
 target frames Chosen = zeros
 target frames Copied = zeros
-target frames Unanswered = zeros
 target frames (Loaned slot n) = frames n
 target frames (Held slot n) = frames n
 target frames (Equal slot n) = frames n
@@ -45,7 +44,6 @@ target frames (LettingGo slot) = zeros
 target frames (Shown slot n) = frames n
 target frames (Homing slot n in_place) = frames n
 target frames (Leaving slot) = zeros
-target frames (Unreleased slot) = zeros
 target frames Zeros = zeros
 target frames HeldZeros = zeros
 target frames EqualZeros = zeros
@@ -68,7 +66,6 @@ abbrev pub is_held : Belief → Bool
 is_held Private = false
 is_held Chosen = false
 is_held Copied = false
-is_held Unanswered = false
 is_held (Loaned slot n) = false
 is_held (Held slot n) = true
 is_held (Equal slot n) = true
@@ -76,7 +73,6 @@ is_held (LettingGo slot) = false
 is_held (Shown slot n) = false
 is_held (Homing slot n in_place) = false
 is_held (Leaving slot) = false
-is_held (Unreleased slot) = false
 is_held Zeros = false
 is_held HeldZeros = true
 is_held EqualZeros = true

@@ -2,7 +2,7 @@
 use Rattle.std.specs.Prelude.{◌≡◌, Bool, true, false, if◌then◌else◌, Option, Some, None}
 use Rattle.page_lender.specs.Decisions.{waiting}
 use Rattle.page_lender.specs.declared.belief.Belief.{Belief}
-use Rattle.page_lender.specs.declared.belief.Belief.TheVariants.{Private, Chosen, Copied, Unanswered, Loaned, Held, Equal, LettingGo, Shown, Homing, Leaving, Unreleased, Zeros, HeldZeros, EqualZeros, PuttingBack}
+use Rattle.page_lender.specs.declared.belief.Belief.TheVariants.{Private, Chosen, Copied, Loaned, Held, Equal, LettingGo, Shown, Homing, Leaving, Zeros, HeldZeros, EqualZeros, PuttingBack}
 use Rattle.page_lender.specs.declared.order.Outcome.{Outcome}
 use Rattle.page_lender.specs.declared.order.Outcome.TheVariants.{Done, Unknown, Refused as NotDone}
 use Rattle.window_lender.specs.Calls.{IsDone}
@@ -38,7 +38,6 @@ abbrev pub is_to_hold : Belief → Bool
 is_to_hold Private = false
 is_to_hold Chosen = false
 is_to_hold Copied = false
-is_to_hold Unanswered = false
 is_to_hold (Loaned slot n) = true
 is_to_hold (Held slot n) = false
 is_to_hold (Equal slot n) = false
@@ -46,7 +45,6 @@ is_to_hold (LettingGo slot) = false
 is_to_hold (Shown slot n) = false
 is_to_hold (Homing slot n in_place) = false
 is_to_hold (Leaving slot) = false
-is_to_hold (Unreleased slot) = false
 is_to_hold Zeros = true
 is_to_hold HeldZeros = false
 is_to_hold EqualZeros = false
@@ -75,7 +73,6 @@ abbrev pub step_of : Belief → HeldPlace → HoldStep
 step_of Private place = parted place
 step_of Chosen place = parted place
 step_of Copied place = parted place
-step_of Unanswered place = parted place
 step_of (Loaned slot n) place = parted place
 step_of (Held slot n) place = Compare
 step_of (Equal slot n) place = Map
@@ -83,7 +80,6 @@ step_of (LettingGo slot) place = parted place
 step_of (Shown slot n) place = parted place
 step_of (Homing slot n in_place) place = parted place
 step_of (Leaving slot) place = parted place
-step_of (Unreleased slot) place = parted place
 step_of Zeros place = parted place
 step_of HeldZeros place = CompareZeros
 step_of EqualZeros place = zeros_parted place

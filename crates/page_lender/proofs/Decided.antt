@@ -15,7 +15,7 @@ use Rattle.page_lender.specs.Lender.{obeyed, given, refused, doubted, done_of}
 use Rattle.page_lender.specs.Events.{Fits, Believes, done_events, Done_is_true, Follows, DoneByEvents, StaysRight}
 use Rattle.page_lender.specs.declared.bars.Bars.{Bars}
 use Rattle.page_lender.specs.declared.belief.Belief.{Belief}
-use Rattle.page_lender.specs.declared.belief.Belief.TheVariants.{Private, Chosen, Copied, Unanswered, Loaned, Held, Equal, LettingGo, Shown, Homing, Leaving, Unreleased, Zeros, HeldZeros, EqualZeros, PuttingBack}
+use Rattle.page_lender.specs.declared.belief.Belief.TheVariants.{Private, Chosen, Copied, Loaned, Held, Equal, LettingGo, Shown, Homing, Leaving, Zeros, HeldZeros, EqualZeros, PuttingBack}
 use Rattle.page_lender.specs.declared.order.Outcome.{Outcome}
 use Rattle.page_lender.specs.declared.order.Outcome.TheVariants.{Done, Lent, Refused, Unknown}
 use Rattle.page_lender.proofs.Kept.{set_own, stepped, over_seen}
@@ -147,7 +147,6 @@ obeyed_follows : (belief : Belief) (w : Mappings) (p : ℕ) (b : Believes belief
 obeyed_follows Private w p b o t = cc
 obeyed_follows Chosen w p b o t = none_follows Copied w p b.page b.there (record { holds = b.fits.holds; view = b.fits.view; waits = b.fits.waits; copy = refl })
 obeyed_follows Copied w p b o t = cc
-obeyed_follows Unanswered w p b o t = cc
 obeyed_follows (Loaned slot n) w p b o t = guard_follows (Held slot n) w p b.page b.there (record { holds = b.fits.holds; view = b.fits.view; waits = λ h. cc; copy = refl })
 obeyed_follows (Held slot n) w p b o t = compare_follows slot n w p b.page b.there b.fits t.0 t.1
 obeyed_follows (Equal slot n) w p b o t =
@@ -160,8 +159,6 @@ obeyed_follows (Homing slot n false) w p b o t =
     write_follows (Leaving slot) w p (shown_in w.frames b.page.view) b.page b.there (b.fits.waits refl) (record { holds = refl; view = over_seen (Leaving slot) b.page.view (shown_in w.frames b.page.view); waits = b.fits.waits; copy = refl })
 obeyed_follows (Leaving slot) w p b o t =
     release_follows Private w p b.page b.there (clear b.page.view b.fits.view) (record { holds = refl; view = b.fits.view; waits = b.fits.waits; copy = refl })
-obeyed_follows (Unreleased slot) w p b o t =
-    release_follows Private w p b.page b.there (clear b.page.view b.fits.view) (record { holds = refl; view = b.fits.view; waits = b.fits.waits; copy = refl })
 obeyed_follows Zeros w p b o t = guard_follows HeldZeros w p b.page b.there (record { holds = b.fits.holds; view = b.fits.view; waits = λ h. cc; copy = refl })
 obeyed_follows HeldZeros w p b o t = zeros_follow w p b.page b.there b.fits t.0 t.1
 obeyed_follows EqualZeros w p b o t = discard_follows w p b.page b.there b.fits.holds
@@ -171,7 +168,6 @@ refused_fits : (belief : Belief) (page : Page) → Fits belief page → Fits (re
 refused_fits Private page f = f
 refused_fits Chosen page f = record { holds = f.holds; view = f.view; waits = f.waits; copy = refl }
 refused_fits Copied page f = record { holds = f.holds; view = f.view; waits = f.waits; copy = refl }
-refused_fits Unanswered page f = record { holds = f.holds; view = f.view; waits = f.waits; copy = refl }
 refused_fits (Loaned slot n) page f = record { holds = refl; view = f.view; waits = f.waits; copy = refl }
 refused_fits (Held slot n) page f = record { holds = refl; view = f.view; waits = λ h. cc; copy = refl }
 refused_fits (Equal slot n) page f = record { holds = refl; view = f.view; waits = λ h. cc; copy = refl }
@@ -179,7 +175,6 @@ refused_fits (LettingGo slot) page f = f
 refused_fits (Shown slot n) page f = f
 refused_fits (Homing slot n in_place) page f = record { holds = f.holds; view = f.view; waits = f.waits; copy = refl }
 refused_fits (Leaving slot) page f = f
-refused_fits (Unreleased slot) page f = record { holds = refl; view = f.view; waits = f.waits; copy = refl }
 refused_fits Zeros page f = record { holds = f.holds; view = f.view; waits = f.waits; copy = refl }
 refused_fits HeldZeros page f = record { holds = f.holds; view = f.view; waits = λ h. cc; copy = refl }
 refused_fits EqualZeros page f = record { holds = f.holds; view = f.view; waits = λ h. cc; copy = refl }
@@ -189,7 +184,6 @@ given_fits : (belief : Belief) (slot n : ℕ) (page : Page) → Fits belief page
 given_fits Private slot n page f = f
 given_fits Chosen slot n page f = f
 given_fits Copied slot n page f = record { holds = f.holds; view = f.view; waits = f.waits; copy = refl }
-given_fits Unanswered slot n page f = record { holds = f.holds; view = f.view; waits = f.waits; copy = refl }
 given_fits (Loaned old m) slot n page f = f
 given_fits (Held old m) slot n page f = f
 given_fits (Equal old m) slot n page f = f
@@ -197,7 +191,6 @@ given_fits (LettingGo old) slot n page f = f
 given_fits (Shown old m) slot n page f = f
 given_fits (Homing old m in_place) slot n page f = f
 given_fits (Leaving old) slot n page f = f
-given_fits (Unreleased old) slot n page f = f
 given_fits Zeros slot n page f = f
 given_fits HeldZeros slot n page f = f
 given_fits EqualZeros slot n page f = f
@@ -207,16 +200,14 @@ given_fits PuttingBack slot n page f = f
 doubted_fits : (belief : Belief) (page : Page) → Fits belief page → Fits (doubted belief) page
 doubted_fits Private page f = f
 doubted_fits Chosen page f = f
-doubted_fits Copied page f = record { holds = f.holds; view = f.view; waits = f.waits; copy = refl }
-doubted_fits Unanswered page f = f
+doubted_fits Copied page f = f
 doubted_fits (Loaned slot n) page f = record { holds = refl; view = f.view; waits = λ h. cc; copy = refl }
 doubted_fits (Held slot n) page f = f
 doubted_fits (Equal slot n) page f = f
 doubted_fits (LettingGo slot) page f = f
 doubted_fits (Shown slot n) page f = f
 doubted_fits (Homing slot n in_place) page f = record { holds = f.holds; view = f.view; waits = f.waits; copy = refl }
-doubted_fits (Leaving slot) page f = record { holds = refl; view = f.view; waits = f.waits; copy = refl }
-doubted_fits (Unreleased slot) page f = f
+doubted_fits (Leaving slot) page f = f
 doubted_fits Zeros page f = record { holds = f.holds; view = f.view; waits = λ h. cc; copy = refl }
 doubted_fits HeldZeros page f = f
 doubted_fits EqualZeros page f = f
@@ -227,8 +218,7 @@ doubted_follows : (belief : Belief) (w : Mappings) (p : ℕ) (b : Believes belie
     Follows (done_events p (shown_in w.frames b.page.view) (due belief)) (doubted belief) w p
 doubted_follows Private w p b o = cc
 doubted_follows Chosen w p b o = cc
-doubted_follows Copied w p b o = none_follows Unanswered w p b.page b.there (record { holds = b.fits.holds; view = b.fits.view; waits = b.fits.waits; copy = refl })
-doubted_follows Unanswered w p b o = none_follows Unanswered w p b.page b.there b.fits
+doubted_follows Copied w p b o = cc
 doubted_follows (Loaned slot n) w p b o = guard_follows (LettingGo slot) w p b.page b.there (record { holds = refl; view = b.fits.view; waits = λ h. cc; copy = refl })
 doubted_follows (Held slot n) w p b o = cc
 doubted_follows (Equal slot n) w p b o = cc
@@ -238,10 +228,7 @@ doubted_follows (Homing slot n true) w p b o =
     write_follows (Shown slot n) w p (shown_in w.frames b.page.view) b.page b.there (b.fits.waits refl) (record { holds = b.fits.holds; view = over_seen (Shown slot n) b.page.view (shown_in w.frames b.page.view); waits = b.fits.waits; copy = refl })
 doubted_follows (Homing slot n false) w p b o =
     write_follows (Shown slot n) w p (shown_in w.frames b.page.view) b.page b.there (b.fits.waits refl) (record { holds = b.fits.holds; view = over_seen (Shown slot n) b.page.view (shown_in w.frames b.page.view); waits = b.fits.waits; copy = refl })
-doubted_follows (Leaving slot) w p b o =
-    release_follows (Unreleased slot) w p b.page b.there (clear b.page.view b.fits.view) (record { holds = refl; view = b.fits.view; waits = b.fits.waits; copy = refl })
-doubted_follows (Unreleased slot) w p b o =
-    release_follows (Unreleased slot) w p b.page b.there (clear b.page.view b.fits.view) (record { holds = refl; view = b.fits.view; waits = b.fits.waits; copy = refl })
+doubted_follows (Leaving slot) w p b o = cc
 doubted_follows Zeros w p b o = guard_follows PuttingBack w p b.page b.there (record { holds = b.fits.holds; view = b.fits.view; waits = λ h. cc; copy = refl })
 doubted_follows HeldZeros w p b o = cc
 doubted_follows EqualZeros w p b o = cc
@@ -257,10 +244,8 @@ done_by_events belief Unknown o w p false b t = none_follows (doubted belief) w 
 -- once bars are looked at
 prepared_fits : (bars : Bars) (belief : Belief) (page : Page) → Fits belief page → Fits (prepared bars belief) page
 prepared_fits bars Private page f = f
-prepared_fits bars Unanswered page f = f
 prepared_fits bars (LettingGo slot) page f = f
 prepared_fits bars (Leaving slot) page f = f
-prepared_fits bars (Unreleased slot) page f = f
 prepared_fits bars PuttingBack page f = f
 prepared_fits bars Chosen page f = pick (is_barred bars) where
   pick : (b : Bool) → Fits (cond b Private Chosen) page

@@ -10,7 +10,7 @@ use Rattle.window_events.specs.declared.page.View.{View}
 use Rattle.window_events.specs.declared.page.View.TheVariants.{Own, Over}
 use Rattle.page_lender.specs.Events.{seen, Fits, Believes, is_guests, is_of, KeptBy}
 use Rattle.page_lender.specs.declared.belief.Belief.{Belief}
-use Rattle.page_lender.specs.declared.belief.Belief.TheVariants.{Private, Chosen, Copied, Unanswered, Loaned, Held, Equal, LettingGo, Shown, Homing, Leaving, Unreleased, Zeros, HeldZeros, EqualZeros, PuttingBack}
+use Rattle.page_lender.specs.declared.belief.Belief.TheVariants.{Private, Chosen, Copied, Loaned, Held, Equal, LettingGo, Shown, Homing, Leaving, Zeros, HeldZeros, EqualZeros, PuttingBack}
 
 set_other : (pages : List Page) (p q : ℕ) (new : Page) → (p ≡ q → ⊥) → slice_get (slice_set pages p new) q ≡ slice_get pages q
 set_other [] p q new ne = refl
@@ -34,7 +34,6 @@ own_seen : (belief : Belief) (x : ℕ) → seen belief (Own x) ≡ true
 own_seen Private x = refl
 own_seen Chosen x = refl
 own_seen Copied x = refl
-own_seen Unanswered x = refl
 own_seen (Loaned slot n) x = refl
 own_seen (Held slot n) x = refl
 own_seen (Equal slot n) x = refl
@@ -42,7 +41,6 @@ own_seen (LettingGo slot) x = refl
 own_seen (Shown slot n) x = refl
 own_seen (Homing slot n in_place) x = refl
 own_seen (Leaving slot) x = refl
-own_seen (Unreleased slot) x = refl
 own_seen Zeros x = refl
 own_seen HeldZeros x = refl
 own_seen EqualZeros x = refl
@@ -53,7 +51,6 @@ copy_seen : (belief : Belief) (m x : ℕ) → seen belief (Over m (Some x)) ≡ 
 copy_seen Private m x = refl
 copy_seen Chosen m x = refl
 copy_seen Copied m x = refl
-copy_seen Unanswered m x = refl
 copy_seen (Loaned slot n) m x = refl
 copy_seen (Held slot n) m x = refl
 copy_seen (Equal slot n) m x = refl
@@ -61,7 +58,6 @@ copy_seen (LettingGo slot) m x = refl
 copy_seen (Shown slot n) m x = refl
 copy_seen (Homing slot n in_place) m x = refl
 copy_seen (Leaving slot) m x = refl
-copy_seen (Unreleased slot) m x = refl
 copy_seen Zeros m x = refl
 copy_seen HeldZeros m x = refl
 copy_seen EqualZeros m x = refl

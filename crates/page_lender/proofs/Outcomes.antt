@@ -4,16 +4,14 @@ use Rattle.page_lender.specs.Decisions.{due, is_outcome, prepared, is_barred, mu
 use Rattle.page_lender.specs.Lender.{done_of}
 use Rattle.page_lender.specs.declared.bars.Bars.{Bars}
 use Rattle.page_lender.specs.declared.belief.Belief.{Belief}
-use Rattle.page_lender.specs.declared.belief.Belief.TheVariants.{Private, Chosen, Copied, Unanswered, Loaned, Held, Equal, LettingGo, Shown, Homing, Leaving, Unreleased, Zeros, HeldZeros, EqualZeros, PuttingBack}
+use Rattle.page_lender.specs.declared.belief.Belief.TheVariants.{Private, Chosen, Copied, Loaned, Held, Equal, LettingGo, Shown, Homing, Leaving, Zeros, HeldZeros, EqualZeros, PuttingBack}
 use Rattle.page_lender.specs.declared.order.Outcome.{Outcome}
 use Rattle.page_lender.specs.declared.order.Outcome.TheVariants.{Done, Lent, Refused, Unknown}
 
 pub prepared_account : (bars : Bars) (belief : Belief) → account (prepared bars belief) ≡ account belief
 prepared_account bars Private = refl
-prepared_account bars Unanswered = refl
 prepared_account bars (LettingGo slot) = refl
 prepared_account bars (Leaving slot) = refl
-prepared_account bars (Unreleased slot) = refl
 prepared_account bars PuttingBack = refl
 prepared_account bars Chosen = pick (is_barred bars) where
   pick : (b : Bool) → account (cond b Private Chosen) ≡ account Chosen
@@ -68,11 +66,7 @@ done_stage Chosen Unknown o = cc
 done_stage Copied Done o = cc
 done_stage Copied (Lent other m) o = refl
 done_stage Copied Refused o = refl
-done_stage Copied Unknown o = refl
-done_stage Unanswered Done o = cc
-done_stage Unanswered (Lent other m) o = refl
-done_stage Unanswered Refused o = refl
-done_stage Unanswered Unknown o = refl
+done_stage Copied Unknown o = cc
 done_stage (Loaned slot n) Done o = refl
 done_stage (Loaned slot n) (Lent other m) o = cc
 done_stage (Loaned slot n) Refused o = refl
@@ -104,11 +98,7 @@ done_stage (Homing slot n false) Unknown o = refl
 done_stage (Leaving slot) Done o = refl
 done_stage (Leaving slot) (Lent other m) o = cc
 done_stage (Leaving slot) Refused o = refl
-done_stage (Leaving slot) Unknown o = refl
-done_stage (Unreleased slot) Done o = refl
-done_stage (Unreleased slot) (Lent other m) o = cc
-done_stage (Unreleased slot) Refused o = refl
-done_stage (Unreleased slot) Unknown o = refl
+done_stage (Leaving slot) Unknown o = cc
 done_stage Zeros Done o = refl
 done_stage Zeros (Lent other m) o = cc
 done_stage Zeros Refused o = refl
@@ -138,11 +128,7 @@ done_account Chosen Unknown o = cc
 done_account Copied Done o = cc
 done_account Copied (Lent other m) o = refl
 done_account Copied Refused o = refl
-done_account Copied Unknown o = refl
-done_account Unanswered Done o = cc
-done_account Unanswered (Lent other m) o = refl
-done_account Unanswered Refused o = refl
-done_account Unanswered Unknown o = refl
+done_account Copied Unknown o = cc
 done_account (Loaned slot n) Done o = refl
 done_account (Loaned slot n) (Lent other m) o = cc
 done_account (Loaned slot n) Refused o = refl
@@ -174,11 +160,7 @@ done_account (Homing slot n false) Unknown o = refl
 done_account (Leaving slot) Done o = refl
 done_account (Leaving slot) (Lent other m) o = cc
 done_account (Leaving slot) Refused o = refl
-done_account (Leaving slot) Unknown o = refl
-done_account (Unreleased slot) Done o = refl
-done_account (Unreleased slot) (Lent other m) o = cc
-done_account (Unreleased slot) Refused o = refl
-done_account (Unreleased slot) Unknown o = refl
+done_account (Leaving slot) Unknown o = cc
 done_account Zeros Done o = refl
 done_account Zeros (Lent other m) o = cc
 done_account Zeros Refused o = refl

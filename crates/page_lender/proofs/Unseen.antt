@@ -88,7 +88,6 @@ done_unseen : (es : List Event) (contents frames : List ℕ) (p : ℕ) (page : P
 done_unseen es contents frames p page Order.Wait there k = refl
 done_unseen es contents frames p page Order.Copy there k = refl
 done_unseen es contents frames p page Order.Lend there k = refl
-done_unseen es contents frames p page Order.FindLoan there k = refl
 done_unseen es contents frames p page Order.Hold there k = one_unseen es contents frames p (Guard p) refl
 done_unseen es contents frames p page (Order.Compare n) there k = two_unseen es contents frames p (Copy p) (Lend p n) refl refl
 done_unseen es contents frames p page (Order.Map n) there k = one_unseen es contents frames p (Map p) refl
@@ -96,7 +95,6 @@ done_unseen es contents frames p page Order.LetGo there k = one_unseen es conten
 done_unseen es contents frames p page Order.CopyInPlace there k = write_unseen es contents frames p page there
 done_unseen es contents frames p page Order.TakeHome there k = write_unseen es contents frames p page there
 done_unseen es contents frames p page (Order.Release slot) there k = one_unseen es contents frames p (Release p) refl
-done_unseen es contents frames p page (Order.FindSlot slot) there k = one_unseen es contents frames p (Release p) refl
 done_unseen es contents frames p page Order.HoldZeros there k = one_unseen es contents frames p (Guard p) refl
 done_unseen es contents frames p page Order.CompareZeros there k = one_unseen es contents frames p (Copy p) refl
 done_unseen es contents frames p page Order.GiveBack there k = known_unseen es contents frames p page there k

@@ -57,7 +57,7 @@ doubts_no_hold h =
     let free : true ≡ false = (of_one (Leaving 7) (own None true) right).waits refl in
     cc
 
-pub trusts_release : DoneByEvents (Leaving 7) (Order.Release 7) Unknown Private → ⊥
+pub trusts_release : DoneByEvents (Leaving 7) (Order.Release 7) Refused Private → ⊥
 trusts_release h =
     let right = (h (one (own (Some 0) false)) 0 false (believes (Leaving 7) (own (Some 0) false) (record { holds = refl; view = refl; waits = λ e. refl; copy = refl })) tt).right in
     let held : frame_0 ≡ None = (of_one Private (own (Some 0) false) right).holds in

@@ -2,9 +2,9 @@
 use Rattle.std.specs.Prelude.{◌≡◌, ℕ, Bool, true, false, not, ◌&&◌, ◌||◌, if◌then◌else◌, Option, Some, None}
 use Rattle.page_lender.specs.declared.bars.Bars.{Bars}
 use Rattle.page_lender.specs.declared.belief.Belief.{Belief}
-use Rattle.page_lender.specs.declared.belief.Belief.TheVariants.{Private, Chosen, Copied, Unanswered, Loaned, Held, Equal, LettingGo, Shown, Homing, Leaving, Unreleased, Zeros, HeldZeros, EqualZeros, PuttingBack}
+use Rattle.page_lender.specs.declared.belief.Belief.TheVariants.{Private, Chosen, Copied, Loaned, Held, Equal, LettingGo, Shown, Homing, Leaving, Zeros, HeldZeros, EqualZeros, PuttingBack}
 use Rattle.page_lender.specs.declared.order.Order.{Order}
-use Rattle.page_lender.specs.declared.order.Order.TheVariants.{Wait, Copy, Lend, FindLoan, Hold, Compare, Map, LetGo, CopyInPlace, TakeHome, Release, FindSlot, HoldZeros, CompareZeros, GiveBack, PutBack}
+use Rattle.page_lender.specs.declared.order.Order.TheVariants.{Wait, Copy, Lend, Hold, Compare, Map, LetGo, CopyInPlace, TakeHome, Release, HoldZeros, CompareZeros, GiveBack, PutBack}
 use Rattle.page_lender.specs.declared.order.Outcome.{Outcome}
 use Rattle.page_lender.specs.declared.order.Outcome.TheVariants.{Done, Lent, Refused, Unknown}
 use Rattle.page_lender.specs.declared.page.PageLender.{PageLender}
@@ -14,7 +14,6 @@ abbrev pub due : Belief → Order
 due Private = Wait
 due Chosen = Copy
 due Copied = Lend
-due Unanswered = FindLoan
 due (Loaned slot n) = Hold
 due (Held slot n) = Compare n
 due (Equal slot n) = Map n
@@ -23,7 +22,6 @@ due (Shown slot n) = Wait
 due (Homing slot n true) = CopyInPlace
 due (Homing slot n false) = TakeHome
 due (Leaving slot) = Release slot
-due (Unreleased slot) = FindSlot slot
 due Zeros = HoldZeros
 due HeldZeros = CompareZeros
 due EqualZeros = GiveBack
@@ -34,7 +32,6 @@ abbrev pub is_private : Belief → Bool
 is_private Private = true
 is_private Chosen = false
 is_private Copied = false
-is_private Unanswered = false
 is_private (Loaned slot n) = false
 is_private (Held slot n) = false
 is_private (Equal slot n) = false
@@ -42,7 +39,6 @@ is_private (LettingGo slot) = false
 is_private (Shown slot n) = false
 is_private (Homing slot n in_place) = false
 is_private (Leaving slot) = false
-is_private (Unreleased slot) = false
 is_private Zeros = false
 is_private HeldZeros = false
 is_private EqualZeros = false
@@ -53,7 +49,6 @@ abbrev pub waiting : Belief → Bool
 waiting Private = false
 waiting Chosen = false
 waiting Copied = false
-waiting Unanswered = false
 waiting (Loaned slot n) = false
 waiting (Held slot n) = true
 waiting (Equal slot n) = true
@@ -61,7 +56,6 @@ waiting (LettingGo slot) = true
 waiting (Shown slot n) = false
 waiting (Homing slot n in_place) = false
 waiting (Leaving slot) = false
-waiting (Unreleased slot) = false
 waiting Zeros = false
 waiting HeldZeros = true
 waiting EqualZeros = true
@@ -72,7 +66,6 @@ abbrev pub shows : Belief → Bool
 shows Private = false
 shows Chosen = false
 shows Copied = false
-shows Unanswered = false
 shows (Loaned slot n) = false
 shows (Held slot n) = false
 shows (Equal slot n) = false
@@ -80,7 +73,6 @@ shows (LettingGo slot) = false
 shows (Shown slot n) = true
 shows (Homing slot n in_place) = true
 shows (Leaving slot) = false
-shows (Unreleased slot) = false
 shows Zeros = false
 shows HeldZeros = false
 shows EqualZeros = false
@@ -91,7 +83,6 @@ abbrev pub touches : Order → Bool
 touches Wait = false
 touches Copy = true
 touches Lend = false
-touches FindLoan = false
 touches Hold = true
 touches (Compare n) = true
 touches (Map n) = true
@@ -99,7 +90,6 @@ touches LetGo = true
 touches CopyInPlace = true
 touches TakeHome = true
 touches (Release slot) = false
-touches (FindSlot slot) = false
 touches HoldZeros = true
 touches CompareZeros = true
 touches GiveBack = true
@@ -110,7 +100,6 @@ abbrev pub leads : Order → Bool
 leads Wait = false
 leads Copy = true
 leads Lend = true
-leads FindLoan = false
 leads Hold = true
 leads (Compare n) = true
 leads (Map n) = true
@@ -118,7 +107,6 @@ leads LetGo = false
 leads CopyInPlace = false
 leads TakeHome = false
 leads (Release slot) = false
-leads (FindSlot slot) = false
 leads HoldZeros = true
 leads CompareZeros = true
 leads GiveBack = true
@@ -129,7 +117,6 @@ abbrev pub is_given : Order → Bool
 is_given Wait = false
 is_given Copy = true
 is_given Lend = true
-is_given FindLoan = true
 is_given Hold = true
 is_given (Compare n) = true
 is_given (Map n) = true
@@ -137,7 +124,6 @@ is_given LetGo = true
 is_given CopyInPlace = true
 is_given TakeHome = true
 is_given (Release slot) = true
-is_given (FindSlot slot) = true
 is_given HoldZeros = true
 is_given CompareZeros = true
 is_given GiveBack = true
@@ -148,7 +134,6 @@ abbrev pub moves : Order → Bool
 moves Wait = false
 moves Copy = false
 moves Lend = false
-moves FindLoan = false
 moves Hold = false
 moves (Compare n) = false
 moves (Map n) = false
@@ -156,7 +141,6 @@ moves LetGo = false
 moves CopyInPlace = false
 moves TakeHome = true
 moves (Release slot) = false
-moves (FindSlot slot) = false
 moves HoldZeros = false
 moves CompareZeros = false
 moves GiveBack = true
@@ -175,7 +159,6 @@ abbrev pub prepared : Bars → Belief → Belief
 prepared bars Private = Private
 prepared bars Chosen = if is_barred bars then Private else Chosen
 prepared bars Copied = if is_barred bars then Private else Copied
-prepared bars Unanswered = Unanswered
 prepared bars (Loaned slot n) = if is_barred bars then Leaving slot else Loaned slot n
 prepared bars (Held slot n) = if is_barred bars then LettingGo slot else Held slot n
 prepared bars (Equal slot n) = if is_barred bars then LettingGo slot else Equal slot n
@@ -183,7 +166,6 @@ prepared bars (LettingGo slot) = LettingGo slot
 prepared bars (Shown slot n) = if must_own bars then Homing slot n bars.pinned else Shown slot n
 prepared bars (Homing slot n in_place) = if must_own bars then Homing slot n bars.pinned else Shown slot n
 prepared bars (Leaving slot) = Leaving slot
-prepared bars (Unreleased slot) = Unreleased slot
 prepared bars Zeros = if is_barred bars then Private else Zeros
 prepared bars HeldZeros = if is_barred bars then PuttingBack else HeldZeros
 prepared bars EqualZeros = if is_barred bars then PuttingBack else EqualZeros
@@ -214,7 +196,6 @@ abbrev pub can_be_done : Order → Bool
 can_be_done Wait = false
 can_be_done Copy = true
 can_be_done Lend = false
-can_be_done FindLoan = false
 can_be_done Hold = true
 can_be_done (Compare n) = true
 can_be_done (Map n) = true
@@ -222,7 +203,6 @@ can_be_done LetGo = true
 can_be_done CopyInPlace = true
 can_be_done TakeHome = true
 can_be_done (Release slot) = true
-can_be_done (FindSlot slot) = true
 can_be_done HoldZeros = true
 can_be_done CompareZeros = true
 can_be_done GiveBack = true
@@ -233,7 +213,6 @@ abbrev pub can_bring : Order → Bool
 can_bring Wait = false
 can_bring Copy = false
 can_bring Lend = true
-can_bring FindLoan = true
 can_bring Hold = false
 can_bring (Compare n) = false
 can_bring (Map n) = false
@@ -241,26 +220,24 @@ can_bring LetGo = false
 can_bring CopyInPlace = false
 can_bring TakeHome = false
 can_bring (Release slot) = false
-can_bring (FindSlot slot) = false
 can_bring HoldZeros = false
 can_bring CompareZeros = false
 can_bring GiveBack = false
 can_bring PutBack = false
 
--- what came of the order may be unknown: a copy to the buffer, a comparison and a mapping are done or not
+-- what came of the order may be unknown: a copy to the buffer, a comparison and a mapping are done or not, and an order to the host stays open
+-- until its answer is there
 abbrev pub can_be_unknown : Order → Bool
 can_be_unknown Wait = false
 can_be_unknown Copy = false
-can_be_unknown Lend = true
-can_be_unknown FindLoan = true
+can_be_unknown Lend = false
 can_be_unknown Hold = true
 can_be_unknown (Compare n) = false
 can_be_unknown (Map n) = false
 can_be_unknown LetGo = true
 can_be_unknown CopyInPlace = true
 can_be_unknown TakeHome = true
-can_be_unknown (Release slot) = true
-can_be_unknown (FindSlot slot) = true
+can_be_unknown (Release slot) = false
 can_be_unknown HoldZeros = true
 can_be_unknown CompareZeros = false
 can_be_unknown GiveBack = false
@@ -278,7 +255,6 @@ pub data Stage : Type 0 where
   AtPrivate : Stage
   AtChosen : Stage
   AtCopied : Stage
-  AtUnanswered : Stage
   AtLoaned : Stage
   AtHeld : Stage
   AtEqual : Stage
@@ -286,7 +262,6 @@ pub data Stage : Type 0 where
   AtShown : Stage
   AtHoming : Stage
   AtLeaving : Stage
-  AtUnreleased : Stage
   AtZeros : Stage
   AtHeldZeros : Stage
   AtEqualZeros : Stage
@@ -296,7 +271,6 @@ abbrev pub stage_of : Belief → Stage
 stage_of Private = AtPrivate
 stage_of Chosen = AtChosen
 stage_of Copied = AtCopied
-stage_of Unanswered = AtUnanswered
 stage_of (Loaned slot n) = AtLoaned
 stage_of (Held slot n) = AtHeld
 stage_of (Equal slot n) = AtEqual
@@ -304,7 +278,6 @@ stage_of (LettingGo slot) = AtLettingGo
 stage_of (Shown slot n) = AtShown
 stage_of (Homing slot n in_place) = AtHoming
 stage_of (Leaving slot) = AtLeaving
-stage_of (Unreleased slot) = AtUnreleased
 stage_of Zeros = AtZeros
 stage_of HeldZeros = AtHeldZeros
 stage_of EqualZeros = AtEqualZeros
@@ -315,7 +288,6 @@ abbrev pub aim : Order → Stage
 aim Wait = AtPrivate
 aim Copy = AtCopied
 aim Lend = AtLoaned
-aim FindLoan = AtLoaned
 aim Hold = AtHeld
 aim (Compare n) = AtEqual
 aim (Map n) = AtShown
@@ -323,7 +295,6 @@ aim LetGo = AtLeaving
 aim CopyInPlace = AtLeaving
 aim TakeHome = AtLeaving
 aim (Release slot) = AtPrivate
-aim (FindSlot slot) = AtPrivate
 aim HoldZeros = AtHeldZeros
 aim CompareZeros = AtEqualZeros
 aim GiveBack = AtPrivate
@@ -334,7 +305,6 @@ abbrev pub fallback : Order → Stage
 fallback Wait = AtPrivate
 fallback Copy = AtPrivate
 fallback Lend = AtPrivate
-fallback FindLoan = AtPrivate
 fallback Hold = AtLeaving
 fallback (Compare n) = AtLettingGo
 fallback (Map n) = AtLettingGo
@@ -342,7 +312,6 @@ fallback LetGo = AtLettingGo
 fallback CopyInPlace = AtShown
 fallback TakeHome = AtShown
 fallback (Release slot) = AtLeaving
-fallback (FindSlot slot) = AtLeaving
 fallback HoldZeros = AtPrivate
 fallback CompareZeros = AtPuttingBack
 fallback GiveBack = AtPuttingBack
@@ -352,16 +321,14 @@ fallback PutBack = AtPuttingBack
 abbrev pub doubt : Order → Stage
 doubt Wait = AtPrivate
 doubt Copy = AtPrivate
-doubt Lend = AtUnanswered
-doubt FindLoan = AtUnanswered
+doubt Lend = AtPrivate
 doubt Hold = AtLettingGo
 doubt (Compare n) = AtLettingGo
 doubt (Map n) = AtLettingGo
 doubt LetGo = AtLettingGo
 doubt CopyInPlace = AtShown
 doubt TakeHome = AtShown
-doubt (Release slot) = AtUnreleased
-doubt (FindSlot slot) = AtUnreleased
+doubt (Release slot) = AtLeaving
 doubt HoldZeros = AtPuttingBack
 doubt CompareZeros = AtPuttingBack
 doubt GiveBack = AtPuttingBack
@@ -374,51 +341,42 @@ led_to order (Lent slot n) = aim order
 led_to order Refused = fallback order
 led_to order Unknown = doubt order
 
--- what the host has for the page: nothing; a slot, if it answered what was asked; this slot; this slot, if it heard no release
-pub data Account : Type 0 where
-  Nothing : Account
-  Perhaps : Account
-  Has : ℕ → Account
-  Maybe : ℕ → Account
-
-abbrev pub account : Belief → Account
-account Private = Nothing
-account Chosen = Nothing
-account Copied = Nothing
-account Unanswered = Perhaps
-account (Loaned slot n) = Has slot
-account (Held slot n) = Has slot
-account (Equal slot n) = Has slot
-account (LettingGo slot) = Has slot
-account (Shown slot n) = Has slot
-account (Homing slot n in_place) = Has slot
-account (Leaving slot) = Has slot
-account (Unreleased slot) = Maybe slot
-account Zeros = Nothing
-account HeldZeros = Nothing
-account EqualZeros = Nothing
-account PuttingBack = Nothing
+-- the slot that the host has for the page
+abbrev pub account : Belief → Option ℕ
+account Private = None
+account Chosen = None
+account Copied = None
+account (Loaned slot n) = Some slot
+account (Held slot n) = Some slot
+account (Equal slot n) = Some slot
+account (LettingGo slot) = Some slot
+account (Shown slot n) = Some slot
+account (Homing slot n in_place) = Some slot
+account (Leaving slot) = Some slot
+account Zeros = None
+account HeldZeros = None
+account EqualZeros = None
+account PuttingBack = None
 
 -- what the host has once a loan that was asked for has this outcome
-abbrev pub lent_then : Outcome → Account → Account
+abbrev pub lent_then : Outcome → Option ℕ → Option ℕ
 lent_then Done old = old
-lent_then (Lent slot n) old = Has slot
-lent_then Refused old = Nothing
-lent_then Unknown old = Perhaps
+lent_then (Lent slot n) old = Some slot
+lent_then Refused old = None
+lent_then Unknown old = old
 
 -- what it has once a release of this slot has this outcome
-abbrev pub released_then : ℕ → Outcome → Account → Account
-released_then slot Done old = Nothing
+abbrev pub released_then : ℕ → Outcome → Option ℕ → Option ℕ
+released_then slot Done old = None
 released_then slot (Lent other n) old = old
-released_then slot Refused old = Has slot
-released_then slot Unknown old = Maybe slot
+released_then slot Refused old = Some slot
+released_then slot Unknown old = old
 
 -- what it has after an outcome of an order: no other order changes it
-abbrev pub account_then : Order → Outcome → Account → Account
+abbrev pub account_then : Order → Outcome → Option ℕ → Option ℕ
 account_then Wait outcome old = old
 account_then Copy outcome old = old
 account_then Lend outcome old = lent_then outcome old
-account_then FindLoan outcome old = lent_then outcome old
 account_then Hold outcome old = old
 account_then (Compare n) outcome old = old
 account_then (Map n) outcome old = old
@@ -426,7 +384,6 @@ account_then LetGo outcome old = old
 account_then CopyInPlace outcome old = old
 account_then TakeHome outcome old = old
 account_then (Release slot) outcome old = released_then slot outcome old
-account_then (FindSlot slot) outcome old = released_then slot outcome old
 account_then HoldZeros outcome old = old
 account_then CompareZeros outcome old = old
 account_then GiveBack outcome old = old
@@ -437,7 +394,6 @@ abbrev pub loan_of : Belief → Option (ℕ × ℕ)
 loan_of Private = None
 loan_of Chosen = None
 loan_of Copied = None
-loan_of Unanswered = None
 loan_of (Loaned slot n) = Some (slot, n)
 loan_of (Held slot n) = Some (slot, n)
 loan_of (Equal slot n) = Some (slot, n)
@@ -445,7 +401,6 @@ loan_of (LettingGo slot) = None
 loan_of (Shown slot n) = Some (slot, n)
 loan_of (Homing slot n in_place) = Some (slot, n)
 loan_of (Leaving slot) = None
-loan_of (Unreleased slot) = None
 loan_of Zeros = None
 loan_of HeldZeros = None
 loan_of EqualZeros = None

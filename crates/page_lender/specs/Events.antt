@@ -2,7 +2,7 @@
 use Rattle.std.specs.Prelude.{◌≡◌, ℕ, ◌==◌, Bool, true, false, not, List, [], ◌∷◌, Option, Some, None, unwrap_or, slice_get}
 use Rattle.page_lender.specs.Decisions.{waiting}
 use Rattle.page_lender.specs.declared.belief.Belief.{Belief}
-use Rattle.page_lender.specs.declared.belief.Belief.TheVariants.{Private, Chosen, Copied, Unanswered, Loaned, Held, Equal, LettingGo, Shown, Homing, Leaving, Unreleased, Zeros, HeldZeros, EqualZeros, PuttingBack}
+use Rattle.page_lender.specs.declared.belief.Belief.TheVariants.{Private, Chosen, Copied, Loaned, Held, Equal, LettingGo, Shown, Homing, Leaving, Zeros, HeldZeros, EqualZeros, PuttingBack}
 use Rattle.page_lender.specs.declared.order.Order.{Order}
 use Rattle.page_lender.specs.declared.order.Outcome.{Outcome}
 use Rattle.page_lender.specs.declared.order.Outcome.TheVariants.{Done, Lent, Refused, Unknown}
@@ -19,7 +19,6 @@ abbrev pub kept : Belief → Option ℕ → Option ℕ
 kept Private held = None
 kept Chosen held = None
 kept Copied held = None
-kept Unanswered held = None
 kept (Loaned slot n) held = None
 kept (Held slot n) held = None
 kept (Equal slot n) held = Some n
@@ -27,7 +26,6 @@ kept (LettingGo slot) held = held
 kept (Shown slot n) held = Some n
 kept (Homing slot n in_place) held = Some n
 kept (Leaving slot) held = held
-kept (Unreleased slot) held = held
 kept Zeros held = None
 kept HeldZeros held = None
 kept EqualZeros held = None
@@ -44,7 +42,6 @@ abbrev pub seen : Belief → View → Bool
 seen Private view = not (is_bare view)
 seen Chosen view = not (is_bare view)
 seen Copied view = not (is_bare view)
-seen Unanswered view = not (is_bare view)
 seen (Loaned slot n) view = not (is_bare view)
 seen (Held slot n) view = not (is_bare view)
 seen (Equal slot n) view = not (is_bare view)
@@ -52,7 +49,6 @@ seen (LettingGo slot) view = not (is_bare view)
 seen (Shown slot n) view = only_frame n view
 seen (Homing slot n in_place) view = only_frame n view
 seen (Leaving slot) view = not (is_bare view)
-seen (Unreleased slot) view = not (is_bare view)
 seen Zeros view = not (is_bare view)
 seen HeldZeros view = not (is_bare view)
 seen EqualZeros view = not (is_bare view)
@@ -63,7 +59,6 @@ abbrev pub kept_copy : Belief → Option ℕ → Option ℕ
 kept_copy Private copy = copy
 kept_copy Chosen copy = copy
 kept_copy Copied copy = copy
-kept_copy Unanswered copy = copy
 kept_copy (Loaned slot n) copy = copy
 kept_copy (Held slot n) copy = copy
 kept_copy (Equal slot n) copy = copy
@@ -71,7 +66,6 @@ kept_copy (LettingGo slot) copy = copy
 kept_copy (Shown slot n) copy = copy
 kept_copy (Homing slot n in_place) copy = copy
 kept_copy (Leaving slot) copy = copy
-kept_copy (Unreleased slot) copy = copy
 kept_copy Zeros copy = copy
 kept_copy HeldZeros copy = copy
 kept_copy EqualZeros copy = Some 0
@@ -95,7 +89,6 @@ abbrev pub done_events : ℕ → ℕ → Order → List Event
 done_events p x Order.Wait = []
 done_events p x Order.Copy = []
 done_events p x Order.Lend = []
-done_events p x Order.FindLoan = []
 done_events p x Order.Hold = Guard p ∷ []
 done_events p x (Order.Compare n) = Copy p ∷ Lend p n ∷ []
 done_events p x (Order.Map n) = Map p ∷ []
@@ -103,7 +96,6 @@ done_events p x Order.LetGo = Unguard p ∷ []
 done_events p x Order.CopyInPlace = Write p x ∷ []
 done_events p x Order.TakeHome = Write p x ∷ []
 done_events p x (Order.Release slot) = Release p ∷ []
-done_events p x (Order.FindSlot slot) = Release p ∷ []
 done_events p x Order.HoldZeros = Guard p ∷ []
 done_events p x Order.CompareZeros = Copy p ∷ []
 done_events p x Order.GiveBack = Discard p ∷ []
@@ -127,7 +119,6 @@ abbrev pub Done_is_true : Order → Mappings → Page → Type 0
 Done_is_true Order.Wait w page = Unit {0}
 Done_is_true Order.Copy w page = Unit {0}
 Done_is_true Order.Lend w page = Unit {0}
-Done_is_true Order.FindLoan w page = Unit {0}
 Done_is_true Order.Hold w page = Unit {0}
 Done_is_true (Order.Compare n) w page = (page.guarded ≡ true) × (slice_get w.frames n ≡ Some (shown_in w.frames page.view))
 Done_is_true (Order.Map n) w page = page.frame_fresh ≡ true
@@ -135,7 +126,6 @@ Done_is_true Order.LetGo w page = Unit {0}
 Done_is_true Order.CopyInPlace w page = Unit {0}
 Done_is_true Order.TakeHome w page = Unit {0}
 Done_is_true (Order.Release slot) w page = Unit {0}
-Done_is_true (Order.FindSlot slot) w page = Unit {0}
 Done_is_true Order.HoldZeros w page = Unit {0}
 Done_is_true Order.CompareZeros w page = (page.guarded ≡ true) × (shown_in w.frames page.view ≡ 0)
 Done_is_true Order.GiveBack w page = page.copy_fresh ≡ true

@@ -75,7 +75,6 @@ abbrev pub IsKnown : Order → Mappings → ℕ → Page → Type 0
 IsKnown Order.Wait w p page = Unit {0}
 IsKnown Order.Copy w p page = Unit {0}
 IsKnown Order.Lend w p page = Unit {0}
-IsKnown Order.FindLoan w p page = Unit {0}
 IsKnown Order.Hold w p page = Unit {0}
 IsKnown (Order.Compare n) w p page = Unit {0}
 IsKnown (Order.Map n) w p page = Unit {0}
@@ -83,7 +82,6 @@ IsKnown Order.LetGo w p page = Unit {0}
 IsKnown Order.CopyInPlace w p page = Unit {0}
 IsKnown Order.TakeHome w p page = Unit {0}
 IsKnown (Order.Release slot) w p page = Unit {0}
-IsKnown (Order.FindSlot slot) w p page = Unit {0}
 IsKnown Order.HoldZeros w p page = Unit {0}
 IsKnown Order.CompareZeros w p page = Unit {0}
 IsKnown Order.GiveBack w p page = Believes EqualZeros w p × (page.copy_fresh ≡ true)

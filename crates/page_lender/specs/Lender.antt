@@ -1,7 +1,7 @@
 -- What is believed of a page after each outcome and notice.
 use Rattle.std.specs.Prelude.{ℕ}
 use Rattle.page_lender.specs.declared.belief.Belief.{Belief}
-use Rattle.page_lender.specs.declared.belief.Belief.TheVariants.{Private, Chosen, Copied, Unanswered, Loaned, Held, Equal, LettingGo, Shown, Homing, Leaving, Unreleased, Zeros, HeldZeros, EqualZeros, PuttingBack}
+use Rattle.page_lender.specs.declared.belief.Belief.TheVariants.{Private, Chosen, Copied, Loaned, Held, Equal, LettingGo, Shown, Homing, Leaving, Zeros, HeldZeros, EqualZeros, PuttingBack}
 use Rattle.page_lender.specs.declared.order.Outcome.{Outcome}
 use Rattle.page_lender.specs.declared.order.Outcome.TheVariants.{Done, Lent, Refused, Unknown}
 use Rattle.page_lender.specs.declared.order.Notice.{Notice}
@@ -12,7 +12,6 @@ abbrev pub obeyed : Belief → Belief
 obeyed Private = Private
 obeyed Chosen = Copied
 obeyed Copied = Copied
-obeyed Unanswered = Unanswered
 obeyed (Loaned slot n) = Held slot n
 obeyed (Held slot n) = Equal slot n
 obeyed (Equal slot n) = Shown slot n
@@ -20,7 +19,6 @@ obeyed (LettingGo slot) = Leaving slot
 obeyed (Shown slot n) = Shown slot n
 obeyed (Homing slot n in_place) = Leaving slot
 obeyed (Leaving slot) = Private
-obeyed (Unreleased slot) = Private
 obeyed Zeros = HeldZeros
 obeyed HeldZeros = EqualZeros
 obeyed EqualZeros = Private
@@ -31,7 +29,6 @@ abbrev pub given : Belief → ℕ → ℕ → Belief
 given Private slot n = Private
 given Chosen slot n = Chosen
 given Copied slot n = Loaned slot n
-given Unanswered slot n = Loaned slot n
 given (Loaned old m) slot n = Loaned old m
 given (Held old m) slot n = Held old m
 given (Equal old m) slot n = Equal old m
@@ -39,7 +36,6 @@ given (LettingGo old) slot n = LettingGo old
 given (Shown old m) slot n = Shown old m
 given (Homing old m in_place) slot n = Homing old m in_place
 given (Leaving old) slot n = Leaving old
-given (Unreleased old) slot n = Unreleased old
 given Zeros slot n = Zeros
 given HeldZeros slot n = HeldZeros
 given EqualZeros slot n = EqualZeros
@@ -50,7 +46,6 @@ abbrev pub refused : Belief → Belief
 refused Private = Private
 refused Chosen = Private
 refused Copied = Private
-refused Unanswered = Private
 refused (Loaned slot n) = Leaving slot
 refused (Held slot n) = LettingGo slot
 refused (Equal slot n) = LettingGo slot
@@ -58,7 +53,6 @@ refused (LettingGo slot) = LettingGo slot
 refused (Shown slot n) = Shown slot n
 refused (Homing slot n in_place) = Shown slot n
 refused (Leaving slot) = Leaving slot
-refused (Unreleased slot) = Leaving slot
 refused Zeros = Private
 refused HeldZeros = PuttingBack
 refused EqualZeros = PuttingBack
@@ -68,16 +62,14 @@ refused PuttingBack = PuttingBack
 abbrev pub doubted : Belief → Belief
 doubted Private = Private
 doubted Chosen = Chosen
-doubted Copied = Unanswered
-doubted Unanswered = Unanswered
+doubted Copied = Copied
 doubted (Loaned slot n) = LettingGo slot
 doubted (Held slot n) = Held slot n
 doubted (Equal slot n) = Equal slot n
 doubted (LettingGo slot) = LettingGo slot
 doubted (Shown slot n) = Shown slot n
 doubted (Homing slot n in_place) = Shown slot n
-doubted (Leaving slot) = Unreleased slot
-doubted (Unreleased slot) = Unreleased slot
+doubted (Leaving slot) = Leaving slot
 doubted Zeros = PuttingBack
 doubted HeldZeros = HeldZeros
 doubted EqualZeros = EqualZeros
@@ -88,7 +80,6 @@ abbrev pub written_of : Belief → Belief
 written_of Private = Private
 written_of Chosen = Chosen
 written_of Copied = Copied
-written_of Unanswered = Unanswered
 written_of (Loaned slot n) = Loaned slot n
 written_of (Held slot n) = Held slot n
 written_of (Equal slot n) = Equal slot n
@@ -96,7 +87,6 @@ written_of (LettingGo slot) = LettingGo slot
 written_of (Shown slot n) = Leaving slot
 written_of (Homing slot n in_place) = Leaving slot
 written_of (Leaving slot) = Leaving slot
-written_of (Unreleased slot) = Unreleased slot
 written_of Zeros = Zeros
 written_of HeldZeros = HeldZeros
 written_of EqualZeros = EqualZeros
@@ -107,7 +97,6 @@ abbrev pub discarded_of : Belief → Belief
 discarded_of Private = Private
 discarded_of Chosen = Private
 discarded_of Copied = Copied
-discarded_of Unanswered = Unanswered
 discarded_of (Loaned slot n) = Leaving slot
 discarded_of (Held slot n) = LettingGo slot
 discarded_of (Equal slot n) = LettingGo slot
@@ -115,7 +104,6 @@ discarded_of (LettingGo slot) = LettingGo slot
 discarded_of (Shown slot n) = Leaving slot
 discarded_of (Homing slot n in_place) = Leaving slot
 discarded_of (Leaving slot) = Leaving slot
-discarded_of (Unreleased slot) = Unreleased slot
 discarded_of Zeros = Private
 discarded_of HeldZeros = PuttingBack
 discarded_of EqualZeros = PuttingBack

@@ -1,10 +1,10 @@
 -- The slot that the host has for a page, beside the lender's account of it.
 use Rattle.std.specs.Prelude.{◌≡◌, ℕ, true, Option, Some, None}
-use Rattle.page_lender.specs.Decisions.{Account, Nothing, Perhaps, Has, Maybe, account, account_then, is_outcome}
+use Rattle.page_lender.specs.Decisions.{account, account_then, is_outcome}
 use Rattle.page_lender.specs.declared.belief.Belief.{Belief}
-use Rattle.page_lender.specs.declared.belief.Belief.TheVariants.{Private, Chosen, Copied, Unanswered, Loaned, Held, Equal, LettingGo, Shown, Homing, Leaving, Unreleased, Zeros, HeldZeros, EqualZeros, PuttingBack}
+use Rattle.page_lender.specs.declared.belief.Belief.TheVariants.{Private, Chosen, Copied, Loaned, Held, Equal, LettingGo, Shown, Homing, Leaving, Zeros, HeldZeros, EqualZeros, PuttingBack}
 use Rattle.page_lender.specs.declared.order.Order.{Order}
-use Rattle.page_lender.specs.declared.order.Order.TheVariants.{Wait, Copy, Lend, FindLoan, Hold, Compare, Map, LetGo, CopyInPlace, TakeHome, Release, FindSlot, HoldZeros, CompareZeros, GiveBack, PutBack}
+use Rattle.page_lender.specs.declared.order.Order.TheVariants.{Wait, Copy, Lend, Hold, Compare, Map, LetGo, CopyInPlace, TakeHome, Release, HoldZeros, CompareZeros, GiveBack, PutBack}
 use Rattle.page_lender.specs.declared.order.Outcome.{Outcome}
 use Rattle.page_lender.specs.declared.order.Outcome.TheVariants.{Done, Lent, Refused, Unknown}
 
@@ -13,7 +13,6 @@ abbrev pub frame_of : Belief → Option ℕ
 frame_of Private = None
 frame_of Chosen = None
 frame_of Copied = None
-frame_of Unanswered = None
 frame_of (Loaned slot n) = Some n
 frame_of (Held slot n) = Some n
 frame_of (Equal slot n) = Some n
@@ -21,7 +20,6 @@ frame_of (LettingGo slot) = None
 frame_of (Shown slot n) = Some n
 frame_of (Homing slot n in_place) = Some n
 frame_of (Leaving slot) = None
-frame_of (Unreleased slot) = None
 frame_of Zeros = None
 frame_of HeldZeros = None
 frame_of EqualZeros = None
@@ -32,62 +30,38 @@ frame_of PuttingBack = None
 abbrev pub NamesOwn : Order → Belief → Type 0
 NamesOwn Wait belief = Unit {0}
 NamesOwn Copy belief = Unit {0}
-NamesOwn Lend belief = account belief ≡ Nothing
-NamesOwn FindLoan belief = account belief ≡ Perhaps
+NamesOwn Lend belief = account belief ≡ None
 NamesOwn Hold belief = Unit {0}
 NamesOwn (Compare n) belief = frame_of belief ≡ Some n
 NamesOwn (Map n) belief = frame_of belief ≡ Some n
 NamesOwn LetGo belief = Unit {0}
 NamesOwn CopyInPlace belief = Unit {0}
 NamesOwn TakeHome belief = Unit {0}
-NamesOwn (Release slot) belief = account belief ≡ Has slot
-NamesOwn (FindSlot slot) belief = account belief ≡ Maybe slot
+NamesOwn (Release slot) belief = account belief ≡ Some slot
 NamesOwn HoldZeros belief = Unit {0}
 NamesOwn CompareZeros belief = Unit {0}
 NamesOwn GiveBack belief = belief ≡ EqualZeros
 NamesOwn PutBack belief = Unit {0}
-
--- the account is right of the slot that the host has for the page, if it has one
-abbrev pub IsRightOf : Account → Option ℕ → Type 0
-IsRightOf Nothing held = held ≡ None
-IsRightOf Perhaps held = Unit {0}
-IsRightOf (Has slot) held = held ≡ Some slot
-IsRightOf (Maybe slot) held = (other : ℕ) → held ≡ Some other → other ≡ slot
 
 -- what the host has before and after a loan was asked for
 abbrev pub LendsSlot : Outcome → Option ℕ → Option ℕ → Type 0
 LendsSlot Done before after = after ≡ before
 LendsSlot (Lent slot n) before after = after ≡ Some slot
 LendsSlot Refused before after = after ≡ before
-LendsSlot Unknown before after = Unit {0}
-
--- and where it was asked whether it gave one
-abbrev pub FindsLoan : Outcome → Option ℕ → Option ℕ → Type 0
-FindsLoan Done before after = after ≡ before
-FindsLoan (Lent slot n) before after = (before ≡ Some slot) × (after ≡ before)
-FindsLoan Refused before after = (before ≡ None) × (after ≡ before)
-FindsLoan Unknown before after = after ≡ before
+LendsSlot Unknown before after = after ≡ before
 
 -- and where a slot was to be released
 abbrev pub ReleasesSlot : Outcome → Option ℕ → Option ℕ → Type 0
 ReleasesSlot Done before after = after ≡ None
 ReleasesSlot (Lent slot n) before after = after ≡ before
 ReleasesSlot Refused before after = after ≡ before
-ReleasesSlot Unknown before after = (other : ℕ) → after ≡ Some other → before ≡ Some other
-
--- and where it was asked whether it has this one still
-abbrev pub FindsSlot : ℕ → Outcome → Option ℕ → Option ℕ → Type 0
-FindsSlot slot Done before after = (before ≡ None) × (after ≡ before)
-FindsSlot slot (Lent other n) before after = after ≡ before
-FindsSlot slot Refused before after = (before ≡ Some slot) × (after ≡ before)
-FindsSlot slot Unknown before after = after ≡ before
+ReleasesSlot Unknown before after = after ≡ before
 
 -- what the host has before and after an outcome of an order that is true: only orders to the host change it
 abbrev pub HostDoes : Order → Outcome → Option ℕ → Option ℕ → Type 0
 HostDoes Wait outcome before after = after ≡ before
 HostDoes Copy outcome before after = after ≡ before
 HostDoes Lend outcome before after = LendsSlot outcome before after
-HostDoes FindLoan outcome before after = FindsLoan outcome before after
 HostDoes Hold outcome before after = after ≡ before
 HostDoes (Compare n) outcome before after = after ≡ before
 HostDoes (Map n) outcome before after = after ≡ before
@@ -95,7 +69,6 @@ HostDoes LetGo outcome before after = after ≡ before
 HostDoes CopyInPlace outcome before after = after ≡ before
 HostDoes TakeHome outcome before after = after ≡ before
 HostDoes (Release slot) outcome before after = ReleasesSlot outcome before after
-HostDoes (FindSlot slot) outcome before after = FindsSlot slot outcome before after
 HostDoes HoldZeros outcome before after = after ≡ before
 HostDoes CompareZeros outcome before after = after ≡ before
 HostDoes GiveBack outcome before after = after ≡ before
@@ -105,4 +78,4 @@ HostDoes PutBack outcome before after = after ≡ before
 abbrev pub KeepsAccount : Type 0
 KeepsAccount =
     (belief : Belief) (order : Order) (outcome : Outcome) (before after : Option ℕ) → NamesOwn order belief → is_outcome order outcome ≡ true →
-    IsRightOf (account belief) before → HostDoes order outcome before after → IsRightOf (account_then order outcome (account belief)) after
+    before ≡ account belief → HostDoes order outcome before after → after ≡ account_then order outcome (account belief)

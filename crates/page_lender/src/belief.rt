@@ -9,8 +9,6 @@ pub enum Belief {
     Chosen,
     /// Its bytes are in the lender's buffer. Its guest may have written since.
     Copied,
-    /// A loan of it was asked for, and no answer came: the host may have given a slot.
-    Unanswered,
     /// The host gave this slot with this frame. The page doesn't show the frame yet.
     Loaned(u32, u32),
     /// The same, and writes wait.
@@ -25,8 +23,6 @@ pub enum Belief {
     Homing(u32, u32, bool),
     /// It shows no frame, and this slot is to be released.
     Leaving(u32),
-    /// A release of this slot was sent, and no answer came: the host may have it still.
-    Unreleased(u32),
     /// Its memory is to be given back, if it is zeros.
     Zeros,
     /// The same, and writes wait.

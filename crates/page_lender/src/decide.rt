@@ -29,7 +29,6 @@ impl Belief {
             Belief::Private => true,
             Belief::Chosen => false,
             Belief::Copied => false,
-            Belief::Unanswered => false,
             Belief::Loaned(_, _) => false,
             Belief::Held(_, _) => false,
             Belief::Equal(_, _) => false,
@@ -37,7 +36,6 @@ impl Belief {
             Belief::Shown(_, _) => false,
             Belief::Homing(_, _, _) => false,
             Belief::Leaving(_) => false,
-            Belief::Unreleased(_) => false,
             Belief::Zeros => false,
             Belief::HeldZeros => false,
             Belief::EqualZeros => false,
@@ -53,7 +51,6 @@ impl Belief {
             Belief::Private => Order::Wait,
             Belief::Chosen => Order::Copy,
             Belief::Copied => Order::Lend,
-            Belief::Unanswered => Order::FindLoan,
             Belief::Loaned(_, _) => Order::Hold,
             Belief::Held(_, frame) => Order::Compare(frame),
             Belief::Equal(_, frame) => Order::Map(frame),
@@ -62,7 +59,6 @@ impl Belief {
             Belief::Homing(_, _, true) => Order::CopyInPlace,
             Belief::Homing(_, _, false) => Order::TakeHome,
             Belief::Leaving(slot) => Order::Release(slot),
-            Belief::Unreleased(slot) => Order::FindSlot(slot),
             Belief::Zeros => Order::HoldZeros,
             Belief::HeldZeros => Order::CompareZeros,
             Belief::EqualZeros => Order::GiveBack,
@@ -78,7 +74,6 @@ impl Belief {
             Belief::Private => false,
             Belief::Chosen => false,
             Belief::Copied => false,
-            Belief::Unanswered => false,
             Belief::Loaned(_, _) => false,
             Belief::Held(_, _) => true,
             Belief::Equal(_, _) => true,
@@ -86,7 +81,6 @@ impl Belief {
             Belief::Shown(_, _) => false,
             Belief::Homing(_, _, _) => false,
             Belief::Leaving(_) => false,
-            Belief::Unreleased(_) => false,
             Belief::Zeros => false,
             Belief::HeldZeros => true,
             Belief::EqualZeros => true,
@@ -102,7 +96,6 @@ impl Belief {
             Belief::Private => false,
             Belief::Chosen => false,
             Belief::Copied => false,
-            Belief::Unanswered => false,
             Belief::Loaned(_, _) => false,
             Belief::Held(_, _) => false,
             Belief::Equal(_, _) => false,
@@ -110,7 +103,6 @@ impl Belief {
             Belief::Shown(_, _) => true,
             Belief::Homing(_, _, _) => true,
             Belief::Leaving(_) => false,
-            Belief::Unreleased(_) => false,
             Belief::Zeros => false,
             Belief::HeldZeros => false,
             Belief::EqualZeros => false,
@@ -128,7 +120,6 @@ impl Belief {
             Belief::Private => Belief::Private,
             Belief::Chosen => if any { Belief::Private } else { Belief::Chosen },
             Belief::Copied => if any { Belief::Private } else { Belief::Copied },
-            Belief::Unanswered => Belief::Unanswered,
             Belief::Loaned(slot, frame) => if any {
                 Belief::Leaving(slot)
             } else {
@@ -156,7 +147,6 @@ impl Belief {
                 Belief::Shown(slot, frame)
             },
             Belief::Leaving(slot) => Belief::Leaving(slot),
-            Belief::Unreleased(slot) => Belief::Unreleased(slot),
             Belief::Zeros => if any { Belief::Private } else { Belief::Zeros },
             Belief::HeldZeros => if any {
                 Belief::PuttingBack

@@ -29,20 +29,20 @@ pub fn unseen_law()
 {}
 
 /// No slot is lost, and none is released twice: where an order named what is the page's own and its outcome is true, the account stays
-/// right of the slot that the host has for the page, also where replies are lost.
+/// right of the slot that the host has for the page.
 pub fn slots_law()
     ensures { KeepsAccount }
 {}
 
 /// Lenders that the clauses on events refuse: one that releases a page that shows its frame; that maps a page it didn't compare; that
-/// forgets to let go of a page that differs, or that may be held; that takes a release for done of which it knows nothing; that takes a
+/// forgets to let go of a page that differs, or that may be held; that takes a refused release for done; that takes a
 /// shown page for written; that takes a page for zeros that it didn't compare; and that forgets the slot of a page that was given up.
 pub fn wrong_lenders()
     ensures releases_shown { DoneByEvents (Belief.Shown 7 0) (Order.Release 7) Outcome.Done Belief.Private → ⊥ }
     ensures maps_uncompared { DoneByEvents (Belief.Held 7 0) (Order.Map 0) Outcome.Done (Belief.Shown 7 0) → ⊥ }
     ensures leaves_held { DoneByEvents (Belief.Held 7 0) (Order.Compare 0) Outcome.Refused (Belief.Leaving 7) → ⊥ }
     ensures doubts_no_hold { DoneByEvents (Belief.Loaned 7 0) Order.Hold Outcome.Unknown (Belief.Leaving 7) → ⊥ }
-    ensures trusts_release { DoneByEvents (Belief.Leaving 7) (Order.Release 7) Outcome.Unknown Belief.Private → ⊥ }
+    ensures trusts_release { DoneByEvents (Belief.Leaving 7) (Order.Release 7) Outcome.Refused Belief.Private → ⊥ }
     ensures sees_no_write { StaysRight (Belief.Shown 7 0) (Belief.Leaving 7) → ⊥ }
     ensures takes_for_zeros { DoneByEvents Belief.Zeros Order.HoldZeros Outcome.Done Belief.EqualZeros → ⊥ }
     ensures forgets_slot { HeardRightly (Belief.Shown 7 0) Belief.Private → ⊥ }

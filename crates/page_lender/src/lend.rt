@@ -11,27 +11,6 @@ ghost use Rattle.page_lender.specs.declared.order.Order.TheVariants as Order;
 use crate::{Bars, Belief, Notice, Order, Outcome, PageLender};
 
 impl PageLender {
-    /// Makes the lender of a page of which nothing is lent.
-    pub fn new() -> PageLender
-        ensures belief { result.belief ≡ Belief.Private }
-        ensures ordered { result.ordered ≡ false }
-        ensures bars { result.bars ≡ record { called = false; pinned = false; inherited = false; locked = false; left = false; ended = false } }
-    {
-        let bars = Bars {
-            called: false,
-            pinned: false,
-            inherited: false,
-            locked: false,
-            left: false,
-            ended: false,
-        };
-        PageLender {
-            belief: Belief::Private,
-            ordered: false,
-            bars,
-        }
-    }
-
     // Returns whether the page can be chosen: it is private, and nothing keeps it from being lent.
     fn is_free(&self) -> bool
         ensures { result ≡ (is_private self.now.belief && not (is_barred self.now.bars)) }
@@ -108,17 +87,6 @@ impl PageLender {
     {
         self.belief = self.belief.after(outcome);
         self.ordered = false;
-    }
-
-    /// Takes back the order that `next` gave, with which nobody began.
-    pub fn withdraw(&mut self)
-        requires { self.old.ordered ≡ true }
-        ensures { self.new ≡ record self.old { ordered = false } }
-    {
-        *self = PageLender {
-            ordered: false,
-            ..*self
-        };
     }
 
     /// Returns whether an order that touches the page was given, and nothing is known of it yet.

@@ -9,8 +9,6 @@ pub enum Order {
     Copy,
     /// Ask the host for a loan of what is in the buffer.
     Lend,
-    /// Find out whether the host gave a loan that was asked for.
-    FindLoan,
     /// Let writes wait.
     Hold,
     /// Compare it with this frame.
@@ -25,8 +23,6 @@ pub enum Order {
     TakeHome,
     /// Say to the host that this slot isn't needed.
     Release(u32),
-    /// Find out whether the host still has this slot.
-    FindSlot(u32),
     /// Let writes wait, since it may be zeros.
     HoldZeros,
     /// Compare it with zeros.
@@ -40,13 +36,13 @@ pub enum Order {
 /// What came of an order.
 #[derive(Clone, Copy, Debug, PartialEq, Eq)]
 pub enum Outcome {
-    /// It was done. Of a comparison: they are equal. Of a search for a slot: the host has it no more.
+    /// It was done. Of a comparison: they are equal.
     Done,
     /// The host gave this slot with this frame.
     Lent(u32, u32),
-    /// It wasn't done, and nothing changed. Of a comparison: they differ. Of a search for a loan: the host gave none; for a slot: it has it still.
+    /// It wasn't done, and nothing changed. Of a comparison: they differ.
     Refused,
-    /// Whether it was done isn't known.
+    /// Whether it was done isn't known. Of a loan and of a release it is: without an answer the order stays open.
     Unknown,
 }
 

@@ -1,5 +1,4 @@
 mod Counts
 mod Places
-mod Looked
 mod Paired
 mod Pinned

@@ -2,7 +2,7 @@
 use Rattle.std.specs.Prelude.{◌≡◌, ℕ, ◌+◌, ◌<◌, ◌≤◌, ◌^◌, Bool, true, false, ◌&&◌, nat_eq, nat_le, nat_lt, if◌then◌else◌, List, [], ◌∷◌, length, slice_index_or}
 use Rattle.std.specs.List.{count_by, list_any}
 use Rattle.page_pins.specs.declared.transfers.Transfer.{Transfer}
-use Rattle.page_pins.specs.Transfers.{elsewhere_begun, elsewhere_ended, first_free, is_met, is_taken, meets, no_transfer, transfer_of, with_begun, with_ended}
+use Rattle.page_pins.specs.Transfers.{elsewhere_begun, elsewhere_ended, first_free, is_taken, meets, no_transfer, transfer_of, with_begun, with_ended}
 use Rattle.page_pins.specs.Pins.{can_pin, can_unpin, pinned, unpinned}
 
 -- a table of transfers, and how many are elsewhere
@@ -57,11 +57,6 @@ abbrev pub EndedMeets : Type 0
 EndedMeets =
     (w : Transfers) (place from to : ℕ) →
     met from to (ended w place).table + (if meets from to (slice_index_or w.table place no_transfer) then 1 else 0) ≡ met from to w.table
-
--- Where a table has no more than so many transfers, all of them are looked at.
-abbrev pub AllLookedAt : Type 0
-AllLookedAt =
-    (ts : List Transfer) (there from to : ℕ) → count_by is_taken ts ≤ there → is_met there from to ts ≡ list_any (meets from to) ts
 
 -- how many are under way
 abbrev pub under_way : Transfers → ℕ

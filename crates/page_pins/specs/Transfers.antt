@@ -1,6 +1,6 @@
 -- Transfers that are under way.
-use Rattle.std.specs.Prelude.{ℕ, ◌+◌, ◌-◌, ◌^◌, min, Bool, true, false, not, ◌&&◌, nat_lt, if◌then◌else◌, List, length, slice_index_or, slice_set, take}
-use Rattle.std.specs.List.{filter, list_any, position_or_len}
+use Rattle.std.specs.Prelude.{ℕ, ◌+◌, ◌-◌, ◌^◌, min, Bool, true, false, not, ◌&&◌, nat_lt, if◌then◌else◌, List, length, slice_index_or, slice_set}
+use Rattle.std.specs.List.{position_or_len}
 use Rattle.page_pins.specs.declared.transfers.Transfer.{Transfer}
 
 -- a transfer is at this place
@@ -18,10 +18,6 @@ first_free ts = position_or_len is_free ts
 -- A transfer is under way of bytes between these two. One of no byte is of the place where it begins.
 abbrev pub meets : ℕ → ℕ → Transfer → Bool
 meets begin end t = t.is_there && (nat_lt begin t.end && nat_lt t.begin end)
-
--- One of the first so many transfers of a table is.
-abbrev pub is_met : ℕ → ℕ → ℕ → List Transfer → Bool
-is_met there begin end ts = list_any (meets begin end) (take there (filter is_taken ts))
 
 abbrev pub transfer_of : ℕ → ℕ → Transfer
 transfer_of begin end = record { begin = begin; end = end; is_there = true }

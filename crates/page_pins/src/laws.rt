@@ -1,14 +1,13 @@
 //! What tables of transfers are worth, and counts of pins. The functions' bodies are empty: the contract is all there is.
-ghost use Rattle.page_pins.specs.Laws.{AllCounted, AllLookedAt, BegunMeets, BegunNowhere, ElsewhereCounted, EndedMeets, PinsCounted, StaysUnderWay, ThereCounted};
+ghost use Rattle.page_pins.specs.Laws.{AllCounted, BegunMeets, BegunNowhere, ElsewhereCounted, EndedMeets, PinsCounted, StaysUnderWay, ThereCounted};
 
 /// A transfer that got a place is under way until it ends, whatever others begin and end meanwhile. A transfer that begins or ends changes
-/// nothing of the others. Where a table has no more transfers than were to be looked at, all are.
+/// nothing of the others.
 pub fn transfer_law()
     ensures stays { StaysUnderWay }
     ensures begun { BegunMeets }
     ensures nowhere { BegunNowhere }
     ensures ended { EndedMeets }
-    ensures all { AllLookedAt }
 {}
 
 /// If each transfer that ends is one that began, as many are under way as began, less those that ended. The same is so of those that

@@ -6,4 +6,4 @@ mod pins;
 mod transfers;
 
 pub use pins::{PINS_MOST, pin, unpin};
-pub use transfers::{Transfer, begin, end, is_under_way};
+pub use transfers::{Transfer, begin, end};

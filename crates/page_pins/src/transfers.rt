@@ -1,6 +1,6 @@
 //! Transfers between a file and memory: meanwhile a device may hold the pages of that memory.
 ghost use Rattle.std.specs.Prelude.{◌≡◌, position};
-ghost use Rattle.page_pins.specs.Transfers.{elsewhere_begun, elsewhere_ended, first_free, is_free, is_met, meets, with_begun, with_ended};
+ghost use Rattle.page_pins.specs.Transfers.{elsewhere_begun, elsewhere_ended, first_free, is_free, with_begun, with_ended};
 
 /// A place for a transfer, which may be empty: then no transfer is there.
 #[repr(C)]
@@ -50,33 +50,6 @@ pub fn end(table: &mut [Transfer], elsewhere: &mut u64, place: usize)
     } else {
         *elsewhere = elsewhere.saturating_sub(1);
     }
-}
-
-/// Returns whether one of the first `there` transfers of a table is under way of some of these bytes: of the one at `begin` and what comes
-/// after it, but of neither the one at `end` nor what comes after that.
-pub fn is_under_way(table: &[Transfer], there: u64, begin: u64, end: u64) -> bool
-    ensures { result ≡ is_met there begin end table.now }
-{
-    let mut left = there;
-    for transfer in table {
-        if left == 0 {
-            return false;
-        }
-        if meets(transfer, begin, end) {
-            return true;
-        }
-        if transfer.is_there {
-            left -= 1;
-        }
-    }
-    false
-}
-
-// Whether a transfer is under way there of some of these bytes. One of no byte is where it begins.
-fn meets(transfer: &Transfer, begin: u64, end: u64) -> bool
-    ensures { result ≡ meets begin end transfer.now }
-{
-    transfer.is_there && begin < transfer.end && transfer.begin < end
 }
 
 // The first free place.

@@ -1,7 +1,7 @@
 -- What calls from C do to a page.
 use Rattle.std.specs.Prelude.{◌≡◌, ℕ, Bool, true, false}
 use Rattle.page_lender.specs.declared.order.Order.{Order}
-use Rattle.page_lender.specs.declared.order.Order.TheVariants.{Wait, Copy, Lend, FindLoan, Hold, Compare, Map, LetGo, CopyInPlace, TakeHome, Release, FindSlot, HoldZeros, CompareZeros, GiveBack, PutBack}
+use Rattle.page_lender.specs.declared.order.Order.TheVariants.{Wait, Copy, Lend, Hold, Compare, Map, LetGo, CopyInPlace, TakeHome, Release, HoldZeros, CompareZeros, GiveBack, PutBack}
 use Rattle.page_lender.specs.declared.order.Outcome.{Outcome}
 use Rattle.window_lender.specs.Calls.{IsDone}
 use Rattle.window_pages.specs.Bytes.{known_of}
@@ -22,16 +22,14 @@ abbrev pub number_of : Order → ℕ
 number_of Wait = 0
 number_of Copy = 1
 number_of Lend = 2
-number_of FindLoan = 3
-number_of Hold = 4
-number_of (Compare n) = 5
-number_of (Map n) = 6
-number_of LetGo = 7
-number_of CopyInPlace = 8
-number_of TakeHome = 9
-number_of (Release slot) = 10
-number_of (FindSlot slot) = 11
-number_of HoldZeros = 12
-number_of CompareZeros = 13
-number_of GiveBack = 14
-number_of PutBack = 15
+number_of Hold = 3
+number_of (Compare n) = 4
+number_of (Map n) = 5
+number_of LetGo = 6
+number_of CopyInPlace = 7
+number_of TakeHome = 8
+number_of (Release slot) = 9
+number_of HoldZeros = 10
+number_of CompareZeros = 11
+number_of GiveBack = 12
+number_of PutBack = 13

@@ -1,6 +1,6 @@
 //! A thread's budget, as C keeps it.
 ghost use Rattle.std.specs.Prelude.{◌≡◌};
-ghost use Rattle.work_budget.specs.Budgets.{config_of};
+ghost use Rattle.work_budget.specs.Budgets.{config_of, settled, wait_of};
 ghost use Rattle.pageshare_window_c.specs.Budgets.{ledger_of, rates};
 
 use work_budget::{Budget, Config, Counts};
@@ -77,4 +77,15 @@ pub(crate) fn put(numbers: &mut WindowBudget, budget: &Budget)
         percent: config.percent,
         burst: config.burst,
     };
+}
+
+/// Counts what was used since the last call. Returns how many nanoseconds the thread waits before it calls again, 0 if it may work.
+pub(crate) fn settle(numbers: &mut WindowBudget, now: u64, spent: u64) -> u64
+    ensures ledger { ledger_of numbers.new ≡ settled (ledger_of numbers.old) now spent }
+    ensures wait { result ≡ wait_of (ledger_of numbers.new) }
+{
+    let mut settled = budget_of(numbers);
+    let wait = settled.settle(now, spent);
+    put(numbers, &settled);
+    wait
 }

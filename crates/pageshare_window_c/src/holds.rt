@@ -6,7 +6,6 @@ ghost use Rattle.pageshare_window_c.specs.Holds.{order_by, step_number};
 
 use hold_rows::{RowOrder, again, begin, next};
 use page_holds::HoldStep;
-use page_pins::Transfer;
 use window_pages::{PartCounts, WindowPage};
 use window_tables::TableFacts;
 
@@ -77,15 +76,14 @@ pub extern "C" fn pageshare_window_next_of_row(
     lead: usize,
     table: &TableFacts,
     pins: &[u16],
-    transfers: &[Transfer],
     first: usize,
     row: &[u8],
     order: &mut WindowRowOrder,
 )
-    ensures row { OrdersNext table.now pins.now transfers.now lead first row.now (order_by order.new) pages.old pages.new parts.old parts.new }
+    ensures row { OrdersNext table.now pins.now lead first row.now (order_by order.new) pages.old pages.new parts.old parts.new }
     ensures step { order.new.step ≡ step_number (order_by order.new).step }
 {
-    let next = next(pages, parts, lead, table, pins, transfers, first, row);
+    let next = next(pages, parts, lead, table, pins, first, row);
     *order = order_numbers(next);
 }
 

@@ -8,7 +8,7 @@
 ghost use Rattle.std.specs.Prelude.{◌≡◌, ◌+◌, if◌then◌else◌, length, not, slice_get, true, false};
 ghost use Rattle.std.specs.List.{list_any, prefix_len};
 ghost use Rattle.std.specs.Option.{option_map_or};
-ghost use Rattle.work_budget.specs.Budgets.{begun, credited, paced, settled, wait_of};
+ghost use Rattle.work_budget.specs.Budgets.{begun, credited, paced};
 ghost use Rattle.work_budget.specs.Chores.{again_at};
 ghost use Rattle.mapping_room.specs.Rooms.{fits, most_of};
 ghost use Rattle.offered_ranges.specs.Pieces.{IsFirst, meets};
@@ -60,7 +60,7 @@ pub use looks::{
     pageshare_window_is_left_out, pageshare_window_is_to_fetch, pageshare_window_set_rest,
     pageshare_window_wake,
 };
-use mapping_room::{MappingRoom, fits};
+use mapping_room::{fits, most};
 pub use mappings::{
     pageshare_window_mappings_at, pageshare_window_mappings_more, pageshare_window_mappings_new,
 };
@@ -74,8 +74,8 @@ pub use page_pins::Transfer;
 use part::next_of_part;
 pub use part::{WindowPartConfig, WindowPartLook};
 pub use pins::{
-    pageshare_window_begin_transfer, pageshare_window_end_transfer,
-    pageshare_window_is_in_transfer, pageshare_window_pin, pageshare_window_unpin,
+    pageshare_window_begin_transfer, pageshare_window_end_transfer, pageshare_window_pin,
+    pageshare_window_unpin,
 };
 pub use ranges::{pageshare_window_bounds, pageshare_window_is_all_left};
 pub use tables::{
@@ -136,18 +136,6 @@ pub extern "C" fn pageshare_window_give_credit(budget: &mut WindowBudget, ns: u6
     put(budget, &credited);
 }
 
-/// Counts what was used since the last call. Returns how many nanoseconds the thread waits before it calls again, 0 if it may work.
-#[unsafe(no_mangle)]
-pub extern "C" fn pageshare_window_settle(budget: &mut WindowBudget, now: u64, spent: u64) -> u64
-    ensures ledger { ledger_of budget.new ≡ settled (ledger_of budget.old) now spent }
-    ensures wait { result ≡ wait_of (ledger_of budget.new) }
-{
-    let mut settled = budget_of(budget);
-    let wait = settled.settle(now, spent);
-    put(budget, &settled);
-    wait
-}
-
 /// Returns when something is done again that doesn't wait for the budget, began at `begun` and used `took` nanoseconds of processor time:
 /// after `least` nanoseconds, or later, so that it uses at most a tenth of a share of so many percent.
 #[unsafe(no_mangle)]
@@ -162,7 +150,7 @@ pub extern "C" fn pageshare_window_again(percent: u32, begun: u64, took: u64, le
 pub extern "C" fn pageshare_window_mappings_most(limit: u64) -> u64
     ensures { result ≡ most_of limit }
 {
-    MappingRoom::new(limit).most()
+    most(limit)
 }
 
 /// Returns whether windows may take so many mappings more, where they have taken so many, and may take so many in all. None more always

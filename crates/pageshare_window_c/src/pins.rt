@@ -1,9 +1,9 @@
 //! Which pages a device may hold: transfers that are under way, and pages that were pinned.
 ghost use Rattle.std.specs.Prelude.{◌≡◌, if◌then◌else◌};
 ghost use Rattle.page_pins.specs.Pins.{can_pin, can_unpin, pinned, unpinned};
-ghost use Rattle.page_pins.specs.Transfers.{elsewhere_begun, elsewhere_ended, first_free, is_met, with_begun, with_ended};
+ghost use Rattle.page_pins.specs.Transfers.{elsewhere_begun, elsewhere_ended, first_free, with_begun, with_ended};
 
-use page_pins::{Transfer, begin, end, is_under_way, pin, unpin};
+use page_pins::{Transfer, begin, end, pin, unpin};
 
 /// Begins a transfer at the first free place, and returns that place. Where none is free it counts the transfer as one that is elsewhere,
 /// and returns the number of places.
@@ -32,19 +32,6 @@ pub extern "C" fn pageshare_window_end_transfer(
     ensures elsewhere { elsewhere.new ≡ elsewhere_ended place table.old elsewhere.old }
 {
     end(table, elsewhere, place);
-}
-
-/// Returns whether one of the first `there` transfers of a table is under way of some of these bytes.
-#[unsafe(no_mangle)]
-pub extern "C" fn pageshare_window_is_in_transfer(
-    table: &[Transfer],
-    there: u64,
-    from: u64,
-    to: u64,
-) -> bool
-    ensures { result ≡ is_met there from to table.now }
-{
-    is_under_way(table, there, from, to)
 }
 
 /// Pins pages once more. Returns whether it did: not if one of them isn't there, or was pinned 65,535 times. Then nothing changes.

@@ -9,24 +9,22 @@ ghost use Rattle.window_tables.specs.Ranges.{Each, all_at, goes_on, has_pages, m
 ghost use Rattle.window_tables.specs.Tables.{Notes};
 ghost use Rattle.window_tables.specs.declared.changes.Change.TheVariants as Change;
 
-use page_pins::Transfer;
 use window_pages::{PartCounts, WindowFacts, WindowPage};
 use window_tables::{Change, TableFacts, are_movable, facts_of, may_give_up, may_go_on, note};
 
-/// Finds what is so of a page: of its window and its process, of its pins, of the transfers, and what is so besides (`why`). `pins` has how
-/// often each page was pinned, and is empty if none was yet.
+/// Finds what is so of a page: of its window and its process, of its pins, and what is so besides (`why`). `pins` has how often each page was
+/// pinned, and is empty if none was yet.
 #[unsafe(no_mangle)]
 pub extern "C" fn pageshare_window_find_facts(
     table: &TableFacts,
     pins: &[u16],
-    transfers: &[Transfer],
     why: &WindowFacts,
     page: usize,
     facts: &mut WindowFacts,
 )
-    ensures { facts.new ≡ facts_at table.now pins.now transfers.now why.now page }
+    ensures { facts.new ≡ facts_at table.now pins.now why.now page }
 {
-    *facts = facts_of(table, pins, transfers, why, page);
+    *facts = facts_of(table, pins, why, page);
 }
 
 /// Returns whether a call of the monitor may go on by each of so many pages, of which this is so from then on: no write to any of them
@@ -36,16 +34,15 @@ pub extern "C" fn pageshare_window_may_go_on(
     pages: &[WindowPage],
     table: &TableFacts,
     pins: &[u16],
-    transfers: &[Transfer],
     why: &WindowFacts,
     first: usize,
     count: usize,
 ) -> bool
-    ensures goes_on { result ≡ (has_pages first count pages.now && all_at (λ i x. goes_on (facts_at table.now pins.now transfers.now why.now i) x) first count pages.now) }
+    ensures goes_on { result ≡ (has_pages first count pages.now && all_at (λ i x. goes_on (facts_at table.now pins.now why.now i) x) first count pages.now) }
     ensures free { result ≡ true → Each (λ i x. IsFree (belief_of x)) first count pages.now }
-    ensures own { result ≡ true → Each (λ i x. must_own (bars_of (facts_at table.now pins.now transfers.now why.now i) (known_of x)) ≡ true → ShowsNone (belief_of x)) first count pages.now }
+    ensures own { result ≡ true → Each (λ i x. must_own (bars_of (facts_at table.now pins.now why.now i) (known_of x)) ≡ true → ShowsNone (belief_of x)) first count pages.now }
 {
-    may_go_on(pages, table, pins, transfers, why, first, count)
+    may_go_on(pages, table, pins, why, first, count)
 }
 
 /// Returns whether a call of the monitor may go on that gives so many pages up: no write to any of them waits. Returns false if they aren't
@@ -69,14 +66,13 @@ pub extern "C" fn pageshare_window_are_movable(
     pages: &[WindowPage],
     table: &TableFacts,
     pins: &[u16],
-    transfers: &[Transfer],
     first: usize,
     count: usize,
 ) -> bool
-    ensures movable { result ≡ (has_pages first count pages.now && all_at (λ i x. moves (facts_at table.now pins.now transfers.now (only_called false) i) x) first count pages.now) }
+    ensures movable { result ≡ (has_pages first count pages.now && all_at (λ i x. moves (facts_at table.now pins.now (only_called false) i) x) first count pages.now) }
     ensures free { result ≡ true → Each (λ i x. IsFree (belief_of x)) first count pages.now }
 {
-    are_movable(pages, table, pins, transfers, first, count)
+    are_movable(pages, table, pins, first, count)
 }
 
 /// Notes that frames in a row were mapped at the places of so many pages, of which the first has this number. The page behind them begins

@@ -5,7 +5,8 @@ ghost use Rattle.work_budget.specs.Budgets.{settled, wait_of};
 ghost use Rattle.pageshare_window_c.specs.Budgets.{ledger_of};
 ghost use Rattle.pageshare_window_c.specs.Tasks.{early_task, late_task, numbers, task_by, task_numbers};
 
-use crate::{WindowBudget, pageshare_window_settle};
+use crate::WindowBudget;
+use crate::budget::settle;
 use look_tasks::{LookTasks, Task, TaskOutcome};
 
 /// What the thread does next.
@@ -128,7 +129,7 @@ pub extern "C" fn pageshare_window_next_task(
     ensures task { result ≡ task_numbers (task_of (tasks_of tasks.old) now (wait_of (ledger_of budget.new))) }
     ensures tasks { tasks_of tasks.new ≡ asked_then (tasks_of tasks.old) now (wait_of (ledger_of budget.new)) }
 {
-    let wait = pageshare_window_settle(budget, now, spent);
+    let wait = settle(budget, now, spent);
     task_numbers(tasks.next(now, wait))
 }
 

@@ -10,4 +10,4 @@ mod settle;
 
 pub use huge::{PART_PAGES, Part, PartConfig, PartLook, PartOrder};
 pub use next::next_of;
-pub use packed::{Kind, belief_of, frame_of, kind_of, slot_of};
+pub use packed::{belief_of, frame_of, number_of, slot_of};

@@ -1,57 +1,31 @@
-//! A belief as a kind and two numbers.
-ghost use Rattle.std.specs.Prelude.{◌≡◌};
-ghost use Rattle.window_lender.specs.Packing.{kind_of, slot_in, frame_in, belief_in};
+//! A belief as three numbers.
+ghost use Rattle.std.specs.Prelude.{◌≡◌, ◌≤◌};
+ghost use Rattle.window_lender.specs.Packing.{number_of, slot_in, frame_in, belief_in};
 
 use page_lender::Belief;
 
-/// A belief without its slot and frame.
-#[derive(Clone, Copy, Debug, PartialEq, Eq)]
-pub enum Kind {
-    /// [`Belief::Private`], and so on.
-    Private,
-    Chosen,
-    Copied,
-    Unanswered,
-    Loaned,
-    Held,
-    Equal,
-    LettingGo,
-    Shown,
-    /// [`Belief::Homing`], to a copy where the page is.
-    HomingInPlace,
-    /// [`Belief::Homing`], perhaps to other memory.
-    Homing,
-    Leaving,
-    Unreleased,
-    Zeros,
-    HeldZeros,
-    EqualZeros,
-    PuttingBack,
-}
-
-/// Returns which belief it is.
-pub fn kind_of(belief: Belief) -> Kind
-    ensures value { result ≡ kind_of belief }
+/// Returns the number of a belief, whichever slot and frame it has.
+pub fn number_of(belief: Belief) -> u8
+    ensures value { result ≡ number_of belief }
+    ensures bound { result ≤ 14 }
     ensures back { belief_in result (slot_in belief) (frame_in belief) ≡ belief }
 {
     match belief {
-        Belief::Private => Kind::Private,
-        Belief::Chosen => Kind::Chosen,
-        Belief::Copied => Kind::Copied,
-        Belief::Unanswered => Kind::Unanswered,
-        Belief::Loaned(_, _) => Kind::Loaned,
-        Belief::Held(_, _) => Kind::Held,
-        Belief::Equal(_, _) => Kind::Equal,
-        Belief::LettingGo(_) => Kind::LettingGo,
-        Belief::Shown(_, _) => Kind::Shown,
-        Belief::Homing(_, _, true) => Kind::HomingInPlace,
-        Belief::Homing(_, _, false) => Kind::Homing,
-        Belief::Leaving(_) => Kind::Leaving,
-        Belief::Unreleased(_) => Kind::Unreleased,
-        Belief::Zeros => Kind::Zeros,
-        Belief::HeldZeros => Kind::HeldZeros,
-        Belief::EqualZeros => Kind::EqualZeros,
-        Belief::PuttingBack => Kind::PuttingBack,
+        Belief::Private => 0,
+        Belief::Chosen => 1,
+        Belief::Copied => 2,
+        Belief::Loaned(_, _) => 3,
+        Belief::Held(_, _) => 4,
+        Belief::Equal(_, _) => 5,
+        Belief::LettingGo(_) => 6,
+        Belief::Shown(_, _) => 7,
+        Belief::Homing(_, _, true) => 8,
+        Belief::Homing(_, _, false) => 9,
+        Belief::Leaving(_) => 10,
+        Belief::Zeros => 11,
+        Belief::HeldZeros => 12,
+        Belief::EqualZeros => 13,
+        Belief::PuttingBack => 14,
     }
 }
 
@@ -63,7 +37,6 @@ pub fn slot_of(belief: Belief) -> u32
         Belief::Private => 0,
         Belief::Chosen => 0,
         Belief::Copied => 0,
-        Belief::Unanswered => 0,
         Belief::Loaned(slot, _) => slot,
         Belief::Held(slot, _) => slot,
         Belief::Equal(slot, _) => slot,
@@ -71,7 +44,6 @@ pub fn slot_of(belief: Belief) -> u32
         Belief::Shown(slot, _) => slot,
         Belief::Homing(slot, _, _) => slot,
         Belief::Leaving(slot) => slot,
-        Belief::Unreleased(slot) => slot,
         Belief::Zeros => 0,
         Belief::HeldZeros => 0,
         Belief::EqualZeros => 0,
@@ -87,7 +59,6 @@ pub fn frame_of(belief: Belief) -> u32
         Belief::Private => 0,
         Belief::Chosen => 0,
         Belief::Copied => 0,
-        Belief::Unanswered => 0,
         Belief::Loaned(_, frame) => frame,
         Belief::Held(_, frame) => frame,
         Belief::Equal(_, frame) => frame,
@@ -95,7 +66,6 @@ pub fn frame_of(belief: Belief) -> u32
         Belief::Shown(_, frame) => frame,
         Belief::Homing(_, frame, _) => frame,
         Belief::Leaving(_) => 0,
-        Belief::Unreleased(_) => 0,
         Belief::Zeros => 0,
         Belief::HeldZeros => 0,
         Belief::EqualZeros => 0,
@@ -103,27 +73,25 @@ pub fn frame_of(belief: Belief) -> u32
     }
 }
 
-/// Returns the belief of this kind with this slot and this frame, as far as it has them.
-pub fn belief_of(kind: Kind, slot: u32, frame: u32) -> Belief
-    ensures { result ≡ belief_in kind slot frame }
+/// Returns the belief of this number with this slot and this frame, as far as it has them. A number that none has is that of a private page.
+pub fn belief_of(number: u8, slot: u32, frame: u32) -> Belief
+    ensures { result ≡ belief_in number slot frame }
 {
-    match kind {
-        Kind::Private => Belief::Private,
-        Kind::Chosen => Belief::Chosen,
-        Kind::Copied => Belief::Copied,
-        Kind::Unanswered => Belief::Unanswered,
-        Kind::Loaned => Belief::Loaned(slot, frame),
-        Kind::Held => Belief::Held(slot, frame),
-        Kind::Equal => Belief::Equal(slot, frame),
-        Kind::LettingGo => Belief::LettingGo(slot),
-        Kind::Shown => Belief::Shown(slot, frame),
-        Kind::HomingInPlace => Belief::Homing(slot, frame, true),
-        Kind::Homing => Belief::Homing(slot, frame, false),
-        Kind::Leaving => Belief::Leaving(slot),
-        Kind::Unreleased => Belief::Unreleased(slot),
-        Kind::Zeros => Belief::Zeros,
-        Kind::HeldZeros => Belief::HeldZeros,
-        Kind::EqualZeros => Belief::EqualZeros,
-        Kind::PuttingBack => Belief::PuttingBack,
+    match number {
+        1 => Belief::Chosen,
+        2 => Belief::Copied,
+        3 => Belief::Loaned(slot, frame),
+        4 => Belief::Held(slot, frame),
+        5 => Belief::Equal(slot, frame),
+        6 => Belief::LettingGo(slot),
+        7 => Belief::Shown(slot, frame),
+        8 => Belief::Homing(slot, frame, true),
+        9 => Belief::Homing(slot, frame, false),
+        10 => Belief::Leaving(slot),
+        11 => Belief::Zeros,
+        12 => Belief::HeldZeros,
+        13 => Belief::EqualZeros,
+        14 => Belief::PuttingBack,
+        _ => Belief::Private,
     }
 }

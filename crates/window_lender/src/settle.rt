@@ -1,6 +1,6 @@
 //! When a part is split, and when it is made whole.
 ghost use Rattle.std.specs.Prelude.{◌≡◌, ◌<◌, ◌≤◌, true, false};
-ghost use Rattle.window_lender.specs.Huge.{is_worth, is_alone, alone_then, order_of, left_then, part_then, done_then};
+ghost use Rattle.window_lender.specs.Huge.{is_worth, is_alone, alone_then, order_of, left_then, part_then};
 ghost use Rattle.window_lender.specs.declared.huge.PartOrder.TheVariants as PartOrder;
 
 use crate::{PART_PAGES, Part, PartConfig, PartLook, PartOrder};
@@ -124,16 +124,5 @@ impl Part {
         let order = self.order(config, look, is_loose, is_movable);
         *self = self.then(config, look, order);
         order
-    }
-
-    /// Learns that this was done with the part.
-    pub fn done(&mut self, order: PartOrder)
-        ensures { self.new ≡ done_then order self.old }
-    {
-        self.whole = match order {
-            PartOrder::Stay => self.whole,
-            PartOrder::Split => false,
-            PartOrder::MakeWhole => true,
-        };
     }
 }

@@ -36,7 +36,6 @@ done_apart : (p q x : ℕ) (order : Order) → nat_eq p q ≡ false → Apart q 
 done_apart p q x Order.Wait d = tt
 done_apart p q x Order.Copy d = tt
 done_apart p q x Order.Lend d = tt
-done_apart p q x Order.FindLoan d = tt
 done_apart p q x Order.Hold d = (d, tt)
 done_apart p q x (Order.Compare n) d = (d, (d, tt))
 done_apart p q x (Order.Map n) d = (d, tt)
@@ -44,7 +43,6 @@ done_apart p q x Order.LetGo d = (d, tt)
 done_apart p q x Order.CopyInPlace d = (d, tt)
 done_apart p q x Order.TakeHome d = (d, tt)
 done_apart p q x (Order.Release slot) d = (d, tt)
-done_apart p q x (Order.FindSlot slot) d = (d, tt)
 done_apart p q x Order.HoldZeros d = (d, tt)
 done_apart p q x Order.CompareZeros d = (d, tt)
 done_apart p q x Order.GiveBack d = (d, tt)

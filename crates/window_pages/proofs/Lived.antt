@@ -12,7 +12,7 @@ use Rattle.window_pages.specs.Changed.{left_alone}
 use Rattle.window_pages.specs.Lives.{Calls, EachLifeIsWell, HasNothing, IsOthers, IsRightStill, Life, OneChanges, ShowsOn, WasDetached, begins, calls, chooses, detaches, events_for, gives_up, hears, left_page, orders, others, places, takes}
 use Rattle.window_pages.specs.Laws.{new_page}
 use Rattle.window_pages.proofs.Apart.{apart_keeps, differs, events_apart}
-use Rattle.page_lender.specs.Decisions.{Nothing, account, due, waiting}
+use Rattle.page_lender.specs.Decisions.{account, due, waiting}
 use Rattle.window_events.specs.declared.event.Event.{Event}
 use Rattle.std.proofs.lemmas.Bool.{eqb-false, eqb-true}
 use Rattle.std.proofs.lemmas.List.{length-replicate}
@@ -143,6 +143,6 @@ is_right_still frames after stands page r = record {
 
 pub has_nothing : HasNothing
 has_nothing i old new d = ap account (left_belief i old new d) ∙ pick (waiting (belief_of d.page)) where
-  pick : (b : Bool) → account (cond b PuttingBack Private) ≡ Nothing
+  pick : (b : Bool) → account (cond b PuttingBack Private) ≡ None
   pick true = refl
   pick false = refl

@@ -2,20 +2,18 @@
 use Rattle.std.proofs.Common.{◌≡◌, ◌∙◌, ℕ, ◌+◌, ◌*◌, ◌/◌, ◌%◌, ◌≤◌, Bool, true, false, cond, refl, ap, arith}
 use Rattle.std.specs.Prelude.{nat_eq}
 use Rattle.page_lender.specs.declared.belief.Belief.{Belief}
-use Rattle.page_lender.specs.declared.belief.Belief.TheVariants.{Private, Chosen, Copied, Unanswered, Loaned, Held, Equal, LettingGo, Shown, Homing, Leaving, Unreleased, Zeros, HeldZeros, EqualZeros, PuttingBack}
-use Rattle.window_lender.specs.Packing.{kind_of, slot_in, frame_in, belief_in}
-use Rattle.window_lender.specs.declared.packed.Kind.{Kind}
-use Rattle.window_pages.specs.Bytes.{belief_byte, belief_of, digit, kind_by, kind_number, known_of, looks_byte}
+use Rattle.page_lender.specs.declared.belief.Belief.TheVariants.{Private, Chosen, Copied, Loaned, Held, Equal, LettingGo, Shown, Homing, Leaving, Zeros, HeldZeros, EqualZeros, PuttingBack}
+use Rattle.window_lender.specs.Packing.{belief_if, belief_in, frame_in, number_of, slot_in}
+use Rattle.window_pages.specs.Bytes.{belief_byte, belief_of, digit, known_of, looks_byte}
 use Rattle.window_pages.specs.Known.{has_slot}
 use Rattle.window_pages.specs.declared.page.KnownPage.{KnownPage}
 use Rattle.window_pages.specs.declared.page.WindowPage.{WindowPage}
 
 -- a belief by its number, with a slot and a frame in the places that it uses
-belief_again : (b : Belief) (slot n : ℕ) → belief_in (kind_by (kind_number (kind_of b))) (cond (has_slot b) (slot_in b) slot) (cond (has_slot b) (frame_in b) n) ≡ b
+belief_again : (b : Belief) (slot n : ℕ) → belief_in (number_of b) (cond (has_slot b) (slot_in b) slot) (cond (has_slot b) (frame_in b) n) ≡ b
 belief_again Private slot n = refl
 belief_again Chosen slot n = refl
 belief_again Copied slot n = refl
-belief_again Unanswered slot n = refl
 belief_again (Loaned s m) slot n = refl
 belief_again (Held s m) slot n = refl
 belief_again (Equal s m) slot n = refl
@@ -24,17 +22,15 @@ belief_again (Shown s m) slot n = refl
 belief_again (Homing s m true) slot n = refl
 belief_again (Homing s m false) slot n = refl
 belief_again (Leaving s) slot n = refl
-belief_again (Unreleased s) slot n = refl
 belief_again Zeros slot n = refl
 belief_again HeldZeros slot n = refl
 belief_again EqualZeros slot n = refl
 belief_again PuttingBack slot n = refl
 
-number_fits : (b : Belief) → kind_number (kind_of b) ≤ 16
+number_fits : (b : Belief) → number_of b ≤ 14
 number_fits Private = omega arith
 number_fits Chosen = omega arith
 number_fits Copied = omega arith
-number_fits Unanswered = omega arith
 number_fits (Loaned s m) = omega arith
 number_fits (Held s m) = omega arith
 number_fits (Equal s m) = omega arith
@@ -43,7 +39,6 @@ number_fits (Shown s m) = omega arith
 number_fits (Homing s m true) = omega arith
 number_fits (Homing s m false) = omega arith
 number_fits (Leaving s) = omega arith
-number_fits (Unreleased s) = omega arith
 number_fits Zeros = omega arith
 number_fits HeldZeros = omega arith
 number_fits EqualZeros = omega arith
@@ -58,16 +53,16 @@ digit_is true = refl
 digit_is false = refl
 
 -- a number below 32, and three digits
-low_5 : (k a b c : ℕ) → k ≤ 16 → a ≤ 1 → b ≤ 1 → c ≤ 1 → (k + 32 * a + 64 * b + 128 * c) % 32 ≡ k
+low_5 : (k a b c : ℕ) → k ≤ 14 → a ≤ 1 → b ≤ 1 → c ≤ 1 → (k + 32 * a + 64 * b + 128 * c) % 32 ≡ k
 low_5 k a b c hk ha hb hc = omega arith
 
-at_32 : (k a b c : ℕ) → k ≤ 16 → a ≤ 1 → b ≤ 1 → c ≤ 1 → (k + 32 * a + 64 * b + 128 * c) / 32 % 2 ≡ a
+at_32 : (k a b c : ℕ) → k ≤ 14 → a ≤ 1 → b ≤ 1 → c ≤ 1 → (k + 32 * a + 64 * b + 128 * c) / 32 % 2 ≡ a
 at_32 k a b c hk ha hb hc = omega arith
 
-at_64 : (k a b c : ℕ) → k ≤ 16 → a ≤ 1 → b ≤ 1 → c ≤ 1 → (k + 32 * a + 64 * b + 128 * c) / 64 % 2 ≡ b
+at_64 : (k a b c : ℕ) → k ≤ 14 → a ≤ 1 → b ≤ 1 → c ≤ 1 → (k + 32 * a + 64 * b + 128 * c) / 64 % 2 ≡ b
 at_64 k a b c hk ha hb hc = omega arith
 
-at_128 : (k a b c : ℕ) → k ≤ 16 → a ≤ 1 → b ≤ 1 → c ≤ 1 → (k + 32 * a + 64 * b + 128 * c) / 128 % 2 ≡ c
+at_128 : (k a b c : ℕ) → k ≤ 14 → a ≤ 1 → b ≤ 1 → c ≤ 1 → (k + 32 * a + 64 * b + 128 * c) / 128 % 2 ≡ c
 at_128 k a b c hk ha hb hc = omega arith
 
 -- a multiple of 16, and four digits
@@ -92,15 +87,15 @@ known_are : (b : Belief) (o v p u s m g : Bool) (page : KnownPage) → b ≡ pag
 known_are b o v p u s m g page e1 e2 e3 e4 e5 e6 e7 e8 = rw (e1, e2, e3, e4, e5, e6, e7, e8) refl
 
 -- the belief in a byte
-pub believed_again : (page : KnownPage) (slot n : ℕ) → belief_in (kind_by (belief_byte page % 32)) (cond (has_slot page.belief) (slot_in page.belief) slot) (cond (has_slot page.belief) (frame_in page.belief) n) ≡ page.belief
+pub believed_again : (page : KnownPage) (slot n : ℕ) → belief_in (belief_byte page % 32) (cond (has_slot page.belief) (slot_in page.belief) slot) (cond (has_slot page.belief) (frame_in page.belief) n) ≡ page.belief
 believed_again page slot n =
-    let low : belief_byte page % 32 ≡ kind_number (kind_of page.belief) = low_5 (kind_number (kind_of page.belief)) (digit page.over) (digit page.past) (digit page.out) (number_fits page.belief) (digit_fits page.over) (digit_fits page.past) (digit_fits page.out) in
-    ap (λ k. belief_in (kind_by k) (cond (has_slot page.belief) (slot_in page.belief) slot) (cond (has_slot page.belief) (frame_in page.belief) n)) low ∙ belief_again page.belief slot n
+    let low : belief_byte page % 32 ≡ number_of page.belief = low_5 (number_of page.belief) (digit page.over) (digit page.past) (digit page.out) (number_fits page.belief) (digit_fits page.over) (digit_fits page.past) (digit_fits page.out) in
+    ap (λ k. belief_in k (cond (has_slot page.belief) (slot_in page.belief) slot) (cond (has_slot page.belief) (frame_in page.belief) n)) low ∙ belief_again page.belief slot n
 
 pub known_again : (page : KnownPage) (slot n clue looks : ℕ) →
     known_of record { slot = cond (has_slot page.belief) (slot_in page.belief) slot; frame = cond (has_slot page.belief) (frame_in page.belief) n; clue = clue; belief = belief_byte page; looks = looks_byte looks page } ≡ page
 known_again page slot n clue looks =
-    let k = kind_number (kind_of page.belief) in
+    let k = number_of page.belief in
     let h = looks / 16 in
     let f = number_fits page.belief in
     let v = digit_fits page.over in
@@ -121,24 +116,27 @@ known_again page slot n clue looks =
     (fact _ page.begins (at_8 h (digit page.ordered) (digit page.same) (digit page.moved) (digit page.begins) o s m g))
 
 -- what is believed stays where its slot and frame do, if it has them
-believed_kept : (k : Kind) (slot n x y : ℕ) → belief_in k (cond (has_slot (belief_in k slot n)) slot x) (cond (has_slot (belief_in k slot n)) n y) ≡ belief_in k slot n
-believed_kept Kind.Private slot n x y = refl
-believed_kept Kind.Chosen slot n x y = refl
-believed_kept Kind.Copied slot n x y = refl
-believed_kept Kind.Unanswered slot n x y = refl
-believed_kept Kind.Loaned slot n x y = refl
-believed_kept Kind.Held slot n x y = refl
-believed_kept Kind.Equal slot n x y = refl
-believed_kept Kind.LettingGo slot n x y = refl
-believed_kept Kind.Shown slot n x y = refl
-believed_kept Kind.HomingInPlace slot n x y = refl
-believed_kept Kind.Homing slot n x y = refl
-believed_kept Kind.Leaving slot n x y = refl
-believed_kept Kind.Unreleased slot n x y = refl
-believed_kept Kind.Zeros slot n x y = refl
-believed_kept Kind.HeldZeros slot n x y = refl
-believed_kept Kind.EqualZeros slot n x y = refl
-believed_kept Kind.PuttingBack slot n x y = refl
+kept_if : (b1 b2 b3 b4 b5 b6 b7 b8 b9 b10 b11 b12 b13 b14 : Bool) (slot n x y : ℕ) →
+    belief_if b1 b2 b3 b4 b5 b6 b7 b8 b9 b10 b11 b12 b13 b14 (cond (has_slot (belief_if b1 b2 b3 b4 b5 b6 b7 b8 b9 b10 b11 b12 b13 b14 slot n)) slot x) (cond (has_slot (belief_if b1 b2 b3 b4 b5 b6 b7 b8 b9 b10 b11 b12 b13 b14 slot n)) n y) ≡ belief_if b1 b2 b3 b4 b5 b6 b7 b8 b9 b10 b11 b12 b13 b14 slot n
+kept_if true b2 b3 b4 b5 b6 b7 b8 b9 b10 b11 b12 b13 b14 slot n x y = refl
+kept_if false true b3 b4 b5 b6 b7 b8 b9 b10 b11 b12 b13 b14 slot n x y = refl
+kept_if false false true b4 b5 b6 b7 b8 b9 b10 b11 b12 b13 b14 slot n x y = refl
+kept_if false false false true b5 b6 b7 b8 b9 b10 b11 b12 b13 b14 slot n x y = refl
+kept_if false false false false true b6 b7 b8 b9 b10 b11 b12 b13 b14 slot n x y = refl
+kept_if false false false false false true b7 b8 b9 b10 b11 b12 b13 b14 slot n x y = refl
+kept_if false false false false false false true b8 b9 b10 b11 b12 b13 b14 slot n x y = refl
+kept_if false false false false false false false true b9 b10 b11 b12 b13 b14 slot n x y = refl
+kept_if false false false false false false false false true b10 b11 b12 b13 b14 slot n x y = refl
+kept_if false false false false false false false false false true b11 b12 b13 b14 slot n x y = refl
+kept_if false false false false false false false false false false true b12 b13 b14 slot n x y = refl
+kept_if false false false false false false false false false false false true b13 b14 slot n x y = refl
+kept_if false false false false false false false false false false false false true b14 slot n x y = refl
+kept_if false false false false false false false false false false false false false true slot n x y = refl
+kept_if false false false false false false false false false false false false false false slot n x y = refl
+
+believed_kept : (k slot n x y : ℕ) → belief_in k (cond (has_slot (belief_in k slot n)) slot x) (cond (has_slot (belief_in k slot n)) n y) ≡ belief_in k slot n
+believed_kept k slot n x y =
+    kept_if (nat_eq k 1) (nat_eq k 2) (nat_eq k 3) (nat_eq k 4) (nat_eq k 5) (nat_eq k 6) (nat_eq k 7) (nat_eq k 8) (nat_eq k 9) (nat_eq k 10) (nat_eq k 11) (nat_eq k 12) (nat_eq k 13) (nat_eq k 14) slot n x y
 
 -- the lowest digits stay where higher ones change
 low_1 : (n l a : ℕ) → (n % 16 + 16 * l + 64 * a) / 1 % 2 ≡ n / 1 % 2
@@ -157,7 +155,7 @@ pub known_kept : (page : WindowPage) (x y clue looks asks : ℕ) →
     known_of record { slot = cond (has_slot (belief_of page)) page.slot x; frame = cond (has_slot (belief_of page)) page.frame y; clue = clue; belief = page.belief; looks = page.looks % 16 + 16 * looks + 64 * asks } ≡ known_of page
 known_kept page x y clue looks asks =
     known_are _ _ _ _ _ _ _ _ (known_of page)
-    (believed_kept (kind_by (page.belief % 32)) page.slot page.frame x y)
+    (believed_kept (page.belief % 32) page.slot page.frame x y)
     (ap (λ m. nat_eq m 1) (low_1 page.looks looks asks))
     refl
     refl

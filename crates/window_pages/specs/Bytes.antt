@@ -1,39 +1,14 @@
 -- What the bytes of a page mean.
-use Rattle.std.specs.Prelude.{ℕ, ◌+◌, ◌*◌, ◌/◌, ◌%◌, ◌^◌, ◌==◌, Bool, true, false, if◌then◌else◌}
+use Rattle.std.specs.Prelude.{ℕ, ◌+◌, ◌*◌, ◌/◌, ◌%◌, ◌^◌, ◌==◌, Bool, true, false}
 use Rattle.page_lender.specs.declared.belief.Belief.{Belief}
-use Rattle.window_lender.specs.declared.packed.Kind.{Kind}
-use Rattle.window_lender.specs.Packing.{belief_in, kind_of}
+use Rattle.window_lender.specs.Packing.{belief_in, number_of}
 use Rattle.window_pages.specs.declared.page.KnownPage.{KnownPage}
 use Rattle.window_pages.specs.declared.page.PageNotes.{PageNotes}
 use Rattle.window_pages.specs.declared.page.WindowPage.{WindowPage}
 
--- which belief has this number; one that none has is that of a private page
-abbrev pub kind_by : ℕ → Kind
-kind_by number = if number == 1 then Kind.Chosen else (if number == 2 then Kind.Copied else (if number == 3 then Kind.Unanswered else (if number == 4 then Kind.Loaned else (if number == 5 then Kind.Held else (if number == 6 then Kind.Equal else (if number == 7 then Kind.LettingGo else (if number == 8 then Kind.Shown else (if number == 9 then Kind.HomingInPlace else (if number == 10 then Kind.Homing else (if number == 11 then Kind.Leaving else (if number == 12 then Kind.Unreleased else (if number == 13 then Kind.Zeros else (if number == 14 then Kind.HeldZeros else (if number == 15 then Kind.EqualZeros else (if number == 16 then Kind.PuttingBack else Kind.Private)))))))))))))))
-
--- and which number a belief has
-abbrev pub kind_number : Kind → ℕ
-kind_number Kind.Private = 0
-kind_number Kind.Chosen = 1
-kind_number Kind.Copied = 2
-kind_number Kind.Unanswered = 3
-kind_number Kind.Loaned = 4
-kind_number Kind.Held = 5
-kind_number Kind.Equal = 6
-kind_number Kind.LettingGo = 7
-kind_number Kind.Shown = 8
-kind_number Kind.HomingInPlace = 9
-kind_number Kind.Homing = 10
-kind_number Kind.Leaving = 11
-kind_number Kind.Unreleased = 12
-kind_number Kind.Zeros = 13
-kind_number Kind.HeldZeros = 14
-kind_number Kind.EqualZeros = 15
-kind_number Kind.PuttingBack = 16
-
 -- what is believed of a page
 abbrev pub belief_of : WindowPage → Belief
-belief_of page = belief_in (kind_by (page.belief % 32)) page.slot page.frame
+belief_of page = belief_in (page.belief % 32) page.slot page.frame
 
 abbrev pub digit : Bool → ℕ
 digit true = 1
@@ -72,7 +47,7 @@ nibble a b c d = digit a + 2 * digit b + 4 * digit c + 8 * digit d
 
 -- what is believed, and what lies at the place, as a byte
 abbrev pub belief_byte : KnownPage → ℕ
-belief_byte page = kind_number (kind_of page.belief) + 32 * digit page.over + 64 * digit page.past + 128 * digit page.out
+belief_byte page = number_of page.belief + 32 * digit page.over + 64 * digit page.past + 128 * digit page.out
 
 -- the rest of what is known, below so many looks and questions
 abbrev pub looks_byte : ℕ → KnownPage → ℕ

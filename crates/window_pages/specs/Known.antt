@@ -3,7 +3,7 @@ use Rattle.std.specs.Prelude.{ℕ, ◌+◌, ◌*◌, ◌%◌, ◌^◌, Bool, tru
 use Rattle.page_lender.specs.Decisions.{due, is_outcome, shows}
 use Rattle.page_lender.specs.declared.bars.Bars.{Bars}
 use Rattle.page_lender.specs.declared.belief.Belief.{Belief}
-use Rattle.page_lender.specs.declared.belief.Belief.TheVariants.{Private, Chosen, Copied, Unanswered, Loaned, Held, Equal, LettingGo, Shown, Homing, Leaving, Unreleased, Zeros, HeldZeros, EqualZeros, PuttingBack}
+use Rattle.page_lender.specs.declared.belief.Belief.TheVariants.{Private, Chosen, Copied, Loaned, Held, Equal, LettingGo, Shown, Homing, Leaving, Zeros, HeldZeros, EqualZeros, PuttingBack}
 use Rattle.page_lender.specs.declared.order.Outcome.{Outcome}
 use Rattle.page_lender.specs.declared.page.PageLender.{PageLender}
 use Rattle.window_lender.specs.Packing.{slot_in, frame_in}
@@ -16,7 +16,6 @@ abbrev pub has_slot : Belief → Bool
 has_slot Private = false
 has_slot Chosen = false
 has_slot Copied = false
-has_slot Unanswered = false
 has_slot (Loaned slot n) = true
 has_slot (Held slot n) = true
 has_slot (Equal slot n) = true
@@ -24,7 +23,6 @@ has_slot (LettingGo slot) = true
 has_slot (Shown slot n) = true
 has_slot (Homing slot n in_place) = true
 has_slot (Leaving slot) = true
-has_slot (Unreleased slot) = true
 has_slot Zeros = false
 has_slot HeldZeros = false
 has_slot EqualZeros = false
@@ -95,7 +93,6 @@ abbrev pub homes_in_place : Belief → Bool
 homes_in_place Private = false
 homes_in_place Chosen = false
 homes_in_place Copied = false
-homes_in_place Unanswered = false
 homes_in_place (Loaned slot n) = false
 homes_in_place (Held slot n) = false
 homes_in_place (Equal slot n) = false
@@ -103,7 +100,6 @@ homes_in_place (LettingGo slot) = false
 homes_in_place (Shown slot n) = false
 homes_in_place (Homing slot n in_place) = in_place
 homes_in_place (Leaving slot) = false
-homes_in_place (Unreleased slot) = false
 homes_in_place Zeros = false
 homes_in_place HeldZeros = false
 homes_in_place EqualZeros = false

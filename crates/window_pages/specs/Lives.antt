@@ -1,6 +1,6 @@
 -- Lives of a page: what came of its orders, what was heard and noted of it, and what others did in between.
 use Rattle.std.specs.Prelude.{◌≡◌, ◌&&◌, ℕ, ◌+◌, ◌<◌, Bool, true, false, List, length, replicate, Some, None, unwrap_or, option_map, slice_get, ◌⊎◌}
-use Rattle.page_lender.specs.Decisions.{Nothing, account, due}
+use Rattle.page_lender.specs.Decisions.{account, due}
 use Rattle.page_lender.specs.Events.{Believes, HeardRightly, SaysTrue, events_of, is_guests, is_of}
 use Rattle.page_lender.specs.declared.bars.Bars.{Bars}
 use Rattle.page_lender.specs.declared.belief.Belief.{Belief}
@@ -116,4 +116,4 @@ IsRightStill = (frames next : List ℕ) (stands : Bool) (page : Page) → IsRigh
 
 -- no slot of a page counts any more
 abbrev pub HasNothing : Type 0
-HasNothing = (i : ℕ) (old : List WindowPage) (new : WindowPage) → WasDetached i old new → account (belief_of new) ≡ Nothing
+HasNothing = (i : ℕ) (old : List WindowPage) (new : WindowPage) → WasDetached i old new → account (belief_of new) ≡ None

@@ -1,7 +1,7 @@
 -- How far what is so of the first of some pages goes on.
 use Rattle.std.specs.Prelude.{ℕ, ◌+◌, Bool, true, false, not, ◌&&◌, ◌||◌, ◌==◌}
 use Rattle.page_lender.specs.declared.belief.Belief.{Belief}
-use Rattle.page_lender.specs.declared.belief.Belief.TheVariants.{Private, Chosen, Copied, Unanswered, Loaned, Held, Equal, LettingGo, Shown, Homing, Leaving, Unreleased, Zeros, HeldZeros, EqualZeros, PuttingBack}
+use Rattle.page_lender.specs.declared.belief.Belief.TheVariants.{Private, Chosen, Copied, Loaned, Held, Equal, LettingGo, Shown, Homing, Leaving, Zeros, HeldZeros, EqualZeros, PuttingBack}
 use Rattle.window_pages.specs.Bytes.{belief_of, known_of}
 use Rattle.window_pages.specs.Counted.{is_to_release}
 use Rattle.window_pages.specs.declared.page.WindowPage.{WindowPage}
@@ -30,7 +30,6 @@ abbrev pub is_frame : ℕ → Belief → Bool
 is_frame m Private = false
 is_frame m Chosen = false
 is_frame m Copied = false
-is_frame m Unanswered = false
 is_frame m (Loaned slot n) = false
 is_frame m (Held slot n) = false
 is_frame m (Equal slot n) = n == m
@@ -38,7 +37,6 @@ is_frame m (LettingGo slot) = false
 is_frame m (Shown slot n) = false
 is_frame m (Homing slot n in_place) = false
 is_frame m (Leaving slot) = false
-is_frame m (Unreleased slot) = false
 is_frame m Zeros = false
 is_frame m HeldZeros = false
 is_frame m EqualZeros = false
@@ -49,7 +47,6 @@ abbrev pub is_zeros : Belief → Bool
 is_zeros Private = false
 is_zeros Chosen = false
 is_zeros Copied = false
-is_zeros Unanswered = false
 is_zeros (Loaned slot n) = false
 is_zeros (Held slot n) = false
 is_zeros (Equal slot n) = false
@@ -57,7 +54,6 @@ is_zeros (LettingGo slot) = false
 is_zeros (Shown slot n) = false
 is_zeros (Homing slot n in_place) = false
 is_zeros (Leaving slot) = false
-is_zeros (Unreleased slot) = false
 is_zeros Zeros = false
 is_zeros HeldZeros = false
 is_zeros EqualZeros = true
@@ -68,7 +64,6 @@ abbrev pub goes_with : Belief → Belief → Bool
 goes_with Private b = false
 goes_with Chosen b = false
 goes_with Copied b = false
-goes_with Unanswered b = false
 goes_with (Loaned slot n) b = false
 goes_with (Held slot n) b = false
 goes_with (Equal slot n) b = is_frame (n + 1) b
@@ -76,7 +71,6 @@ goes_with (LettingGo slot) b = false
 goes_with (Shown slot n) b = false
 goes_with (Homing slot n in_place) b = false
 goes_with (Leaving slot) b = false
-goes_with (Unreleased slot) b = false
 goes_with Zeros b = false
 goes_with HeldZeros b = false
 goes_with EqualZeros b = is_zeros b

@@ -1,12 +1,12 @@
 //! What is known of a page, as bytes.
 ghost use Rattle.std.specs.Prelude.{◌≡◌, ◌+◌, ◌*◌, ◌/◌, ◌%◌, ◌^◌, ◌<◌, ◌≤◌, if◌then◌else◌};
 ghost use Rattle.window_lender.specs.Packing.{frame_in, slot_in};
-ghost use Rattle.window_pages.specs.Bytes.{belief_byte, belief_of, bit, digit, kind_by, kind_number, known_of, looks_byte, nibble, notes_of};
+ghost use Rattle.window_pages.specs.Bytes.{belief_byte, belief_of, bit, digit, known_of, looks_byte, nibble, notes_of};
 ghost use Rattle.window_pages.specs.Known.{has_slot, kept_by, stored};
 
 use crate::{KnownPage, PageNotes, WindowPage};
 use page_lender::Belief;
-use window_lender::{Kind, belief_of, frame_of, kind_of, slot_of};
+use window_lender::{belief_of, frame_of, number_of, slot_of};
 
 // What a clue is below.
 pub(crate) const CLUES: u16 = 32_768;
@@ -35,63 +35,12 @@ fn nibble(a: bool, b: bool, c: bool, d: bool) -> u8
     digit(a) + 2 * digit(b) + 4 * digit(c) + 8 * digit(d)
 }
 
-// Returns which belief has this number. One that none has is that of a private page.
-fn kind_by(number: u8) -> Kind
-    ensures { result ≡ kind_by number }
-{
-    match number {
-        1 => Kind::Chosen,
-        2 => Kind::Copied,
-        3 => Kind::Unanswered,
-        4 => Kind::Loaned,
-        5 => Kind::Held,
-        6 => Kind::Equal,
-        7 => Kind::LettingGo,
-        8 => Kind::Shown,
-        9 => Kind::HomingInPlace,
-        10 => Kind::Homing,
-        11 => Kind::Leaving,
-        12 => Kind::Unreleased,
-        13 => Kind::Zeros,
-        14 => Kind::HeldZeros,
-        15 => Kind::EqualZeros,
-        16 => Kind::PuttingBack,
-        _ => Kind::Private,
-    }
-}
-
-// Returns the number of a belief.
-fn kind_number(kind: Kind) -> u8
-    ensures value { result ≡ kind_number kind }
-    ensures bound { result ≤ 16 }
-{
-    match kind {
-        Kind::Private => 0,
-        Kind::Chosen => 1,
-        Kind::Copied => 2,
-        Kind::Unanswered => 3,
-        Kind::Loaned => 4,
-        Kind::Held => 5,
-        Kind::Equal => 6,
-        Kind::LettingGo => 7,
-        Kind::Shown => 8,
-        Kind::HomingInPlace => 9,
-        Kind::Homing => 10,
-        Kind::Leaving => 11,
-        Kind::Unreleased => 12,
-        Kind::Zeros => 13,
-        Kind::HeldZeros => 14,
-        Kind::EqualZeros => 15,
-        Kind::PuttingBack => 16,
-    }
-}
-
 // Returns the byte of what is believed and of what lies at the page's place.
 fn belief_byte(page: &KnownPage) -> u8
     ensures { result ≡ belief_byte page.now }
 {
     let place = 32 * digit(page.over) + 64 * digit(page.past) + 128 * digit(page.out);
-    kind_number(kind_of(page.belief)) + place
+    number_of(page.belief) + place
 }
 
 // Returns the byte of the rest, where the looks and questions stay.
@@ -109,7 +58,6 @@ pub(crate) fn has_slot(belief: Belief) -> bool
         Belief::Private => false,
         Belief::Chosen => false,
         Belief::Copied => false,
-        Belief::Unanswered => false,
         Belief::Loaned(_, _) => true,
         Belief::Held(_, _) => true,
         Belief::Equal(_, _) => true,
@@ -117,7 +65,6 @@ pub(crate) fn has_slot(belief: Belief) -> bool
         Belief::Shown(_, _) => true,
         Belief::Homing(_, _, _) => true,
         Belief::Leaving(_) => true,
-        Belief::Unreleased(_) => true,
         Belief::Zeros => false,
         Belief::HeldZeros => false,
         Belief::EqualZeros => false,
@@ -180,7 +127,7 @@ impl WindowPage {
     fn believed(&self) -> Belief
         ensures { result ≡ belief_of self.now }
     {
-        belief_of(kind_by(self.belief % 32), self.slot, self.frame)
+        belief_of(self.belief % 32, self.slot, self.frame)
     }
 
     /// Returns what is known of the page, apart from what looks have found.

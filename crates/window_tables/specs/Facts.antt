@@ -1,27 +1,17 @@
 -- What is so of a page of a table.
-use Rattle.std.specs.Prelude.{ℕ, ◌+◌, ◌-◌, ◌*◌, ◌^◌, min, Bool, false, ◌||◌, nat_lt, List, slice_index_or}
-use Rattle.page_pins.specs.Transfers.{is_met}
-use Rattle.page_pins.specs.declared.transfers.Transfer.{Transfer}
+use Rattle.std.specs.Prelude.{ℕ, Bool, false, ◌||◌, nat_lt, List, slice_index_or}
 use Rattle.window_pages.specs.declared.facts.WindowFacts.{WindowFacts}
 use Rattle.window_tables.specs.declared.facts.TableFacts.{TableFacts}
-
--- the address of a page, in bytes, or the last one that there is
-abbrev pub address_of : ℕ → ℕ → ℕ
-address_of at page = min (at + page * 4096) (2 ^ 64 - 1)
 
 -- the page was pinned; where there is no table of pins none was
 abbrev pub is_pinned : List ℕ → ℕ → Bool
 is_pinned pins page = nat_lt 0 (slice_index_or pins page 0)
 
--- a transfer is under way of some of its bytes
-abbrev pub is_in_transfer : TableFacts → List Transfer → ℕ → Bool
-is_in_transfer table transfers page = is_met table.there (address_of table.at page) (address_of table.at (page + 1)) transfers
-
 -- what is so of the page at a place, `why` besides
-abbrev pub facts_at : TableFacts → List ℕ → List Transfer → WindowFacts → ℕ → WindowFacts
-facts_at table pins transfers why page = record {
+abbrev pub facts_at : TableFacts → List ℕ → WindowFacts → ℕ → WindowFacts
+facts_at table pins why page = record {
   called = why.called;
-  pinned = why.pinned || is_pinned pins page || is_in_transfer table transfers page;
+  pinned = why.pinned || is_pinned pins page;
   may_pin = why.may_pin || table.may_pin || nat_lt 0 table.elsewhere;
   inherited = why.inherited || table.inherited;
   locked = why.locked || table.locked;

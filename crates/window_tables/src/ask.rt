@@ -9,7 +9,6 @@ ghost use Rattle.window_tables.specs.Ranges.{Each, all_at, goes_on, has_pages, i
 ghost use Rattle.window_tables.specs.declared.ask.Question.TheVariants as Question;
 
 use crate::{TableFacts, facts_of};
-use page_pins::Transfer;
 use window_pages::{WindowFacts, WindowPage};
 
 // Returns whether so many pages from one on are there.
@@ -31,8 +30,6 @@ enum Question {
 
 // A window of which nothing is so.
 const NO_FACTS: TableFacts = TableFacts {
-    at: 0,
-    there: 0,
     elsewhere: 0,
     may_pin: false,
     inherited: false,
@@ -62,15 +59,14 @@ fn is_yes(
     page: &WindowPage,
     table: &TableFacts,
     pins: &[u16],
-    transfers: &[Transfer],
     why: &WindowFacts,
     place: usize,
 ) -> bool
-    ensures value { result ≡ is_yes question (facts_at table.now pins.now transfers.now why.now place) page.now }
+    ensures value { result ≡ is_yes question (facts_at table.now pins.now why.now place) page.now }
     ensures free { result ≡ true → IsFree (belief_of page.now) }
-    ensures own { question ≡ Question.GoesOn → result ≡ true → must_own (bars_of (facts_at table.now pins.now transfers.now why.now place) (known_of page.now)) ≡ true → ShowsNone (belief_of page.now) }
+    ensures own { question ≡ Question.GoesOn → result ≡ true → must_own (bars_of (facts_at table.now pins.now why.now place) (known_of page.now)) ≡ true → ShowsNone (belief_of page.now) }
 {
-    let facts = facts_of(table, pins, transfers, why, place);
+    let facts = facts_of(table, pins, why, place);
     match question {
         Question::GoesOn => window_pages::may_go_on(page, &facts),
         Question::Moves => window_pages::is_movable(page, &facts),
@@ -83,14 +79,13 @@ fn all_yes(
     pages: &[WindowPage],
     table: &TableFacts,
     pins: &[u16],
-    transfers: &[Transfer],
     why: &WindowFacts,
     first: usize,
     count: usize,
 ) -> bool
-    ensures value { result ≡ (has_pages first count pages.now && all_at (λ i x. is_yes question (facts_at table.now pins.now transfers.now why.now i) x) first count pages.now) }
+    ensures value { result ≡ (has_pages first count pages.now && all_at (λ i x. is_yes question (facts_at table.now pins.now why.now i) x) first count pages.now) }
     ensures free { result ≡ true → Each (λ i x. IsFree (belief_of x)) first count pages.now }
-    ensures own { question ≡ Question.GoesOn → result ≡ true → Each (λ i x. must_own (bars_of (facts_at table.now pins.now transfers.now why.now i) (known_of x)) ≡ true → ShowsNone (belief_of x)) first count pages.now }
+    ensures own { question ≡ Question.GoesOn → result ≡ true → Each (λ i x. must_own (bars_of (facts_at table.now pins.now why.now i) (known_of x)) ≡ true → ShowsNone (belief_of x)) first count pages.now }
 {
     let are_there = has_pages(pages, first, count);
     if !are_there {
@@ -98,7 +93,7 @@ fn all_yes(
     }
     for step in 0..count {
         let place = first + step;
-        let yes = is_yes(question, &pages[place], table, pins, transfers, why, place);
+        let yes = is_yes(question, &pages[place], table, pins, why, place);
         if !yes {
             return false;
         }
@@ -112,25 +107,15 @@ pub fn may_go_on(
     pages: &[WindowPage],
     table: &TableFacts,
     pins: &[u16],
-    transfers: &[Transfer],
     why: &WindowFacts,
     first: usize,
     count: usize,
 ) -> bool
-    ensures goes_on { result ≡ (has_pages first count pages.now && all_at (λ i x. goes_on (facts_at table.now pins.now transfers.now why.now i) x) first count pages.now) }
+    ensures goes_on { result ≡ (has_pages first count pages.now && all_at (λ i x. goes_on (facts_at table.now pins.now why.now i) x) first count pages.now) }
     ensures free { result ≡ true → Each (λ i x. IsFree (belief_of x)) first count pages.now }
-    ensures own { result ≡ true → Each (λ i x. must_own (bars_of (facts_at table.now pins.now transfers.now why.now i) (known_of x)) ≡ true → ShowsNone (belief_of x)) first count pages.now }
+    ensures own { result ≡ true → Each (λ i x. must_own (bars_of (facts_at table.now pins.now why.now i) (known_of x)) ≡ true → ShowsNone (belief_of x)) first count pages.now }
 {
-    all_yes(
-        Question::GoesOn,
-        pages,
-        table,
-        pins,
-        transfers,
-        why,
-        first,
-        count,
-    )
+    all_yes(Question::GoesOn, pages, table, pins, why, first, count)
 }
 
 /// Returns whether a call of the monitor may go on that gives so many pages up: no write to any of them waits. Returns false if they aren't all
@@ -144,7 +129,6 @@ pub fn may_give_up(pages: &[WindowPage], first: usize, count: usize) -> bool
         pages,
         &NO_FACTS,
         &[],
-        &[],
         &only_called(true),
         first,
         count,
@@ -157,11 +141,10 @@ pub fn are_movable(
     pages: &[WindowPage],
     table: &TableFacts,
     pins: &[u16],
-    transfers: &[Transfer],
     first: usize,
     count: usize,
 ) -> bool
-    ensures movable { result ≡ (has_pages first count pages.now && all_at (λ i x. moves (facts_at table.now pins.now transfers.now (only_called false) i) x) first count pages.now) }
+    ensures movable { result ≡ (has_pages first count pages.now && all_at (λ i x. moves (facts_at table.now pins.now (only_called false) i) x) first count pages.now) }
     ensures free { result ≡ true → Each (λ i x. IsFree (belief_of x)) first count pages.now }
 {
     all_yes(
@@ -169,7 +152,6 @@ pub fn are_movable(
         pages,
         table,
         pins,
-        transfers,
         &only_called(false),
         first,
         count,

@@ -8,7 +8,7 @@ use Rattle.hold_rows.proofs.order.ask_each.Given as goal
 
 abbrev pub invariant-loop-n : goal.invariant-loop-n
 invariant-loop-n l = record {
-  changed : Changed (λ n. PageBecomes (Asks (facts_there l.table l.pins l.transfers (l.first + n)) (slice_index_or l.row n 0))) l.first l.n l.fn.pages l.pages;
+  changed : Changed (λ n. PageBecomes (Asks (facts_there l.table l.pins (l.first + n)) (slice_index_or l.row n 0))) l.first l.n l.fn.pages l.pages;
   counted : Counted l.lead l.fn.pages l.fn.parts → Counted l.lead l.pages l.parts;
   parts : has_parts l.lead l.pages l.parts ≡ true;
 }

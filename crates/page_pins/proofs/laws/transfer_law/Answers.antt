@@ -1,4 +1,3 @@
-use Rattle.page_pins.proofs.Looked.{all_looked_at}
 use Rattle.page_pins.proofs.Places.{begun_meets, begun_nowhere, ended_meets, stays_under_way}
 use Rattle.page_pins.proofs.laws.transfer_law.Goals as goal
 
@@ -13,6 +12,3 @@ returns-clause-nowhere c = begun_nowhere
 
 pub returns-clause-ended : goal.returns-clause-ended
 returns-clause-ended c = ended_meets
-
-pub returns-clause-all : goal.returns-clause-all
-returns-clause-all c = all_looked_at

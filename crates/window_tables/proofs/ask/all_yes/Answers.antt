@@ -12,7 +12,7 @@ pub loop-step-init : goal.loop-step-init
 loop-step-init c = record {
   so_far = refl;
   free = each_none (λ i x. IsFree (belief_of x)) c.args.first c.args.pages.now;
-  own = λ h. each_none (λ i x. must_own (bars_of (facts_at c.args.table.now c.args.pins.now c.args.transfers.now c.args.why.now i) (known_of x)) ≡ true → ShowsNone (belief_of x)) c.args.first c.args.pages.now;
+  own = λ h. each_none (λ i x. must_own (bars_of (facts_at c.args.table.now c.args.pins.now c.args.why.now i) (known_of x)) ≡ true → ShowsNone (belief_of x)) c.args.first c.args.pages.now;
 }
 
 pub loop-step-preserved : goal.loop-step-preserved
@@ -21,9 +21,9 @@ loop-step-preserved c =
     let inside : c.args.first + c.loop-step.step < length c.args.pages.now = omega (arith, within, c.loop-step-test.true) in
     let yes : c.is_yes-yes.result ≡ true = search rules in
     record {
-      so_far = all_more (λ i x. is_yes c.args.question (facts_at c.args.table.now c.args.pins.now c.args.transfers.now c.args.why.now i) x) c.args.first c.loop-step.step c.args.pages.now _ inside (sym c.is_yes-yes.ensures.value ∙ yes) c.loop-step.invariant.so_far;
+      so_far = all_more (λ i x. is_yes c.args.question (facts_at c.args.table.now c.args.pins.now c.args.why.now i) x) c.args.first c.loop-step.step c.args.pages.now _ inside (sym c.is_yes-yes.ensures.value ∙ yes) c.loop-step.invariant.so_far;
       free = each_more (λ i x. IsFree (belief_of x)) c.args.first c.loop-step.step c.args.pages.now _ inside c.loop-step.invariant.free (c.is_yes-yes.ensures.free yes);
-      own = λ h. each_more (λ i x. must_own (bars_of (facts_at c.args.table.now c.args.pins.now c.args.transfers.now c.args.why.now i) (known_of x)) ≡ true → ShowsNone (belief_of x)) c.args.first c.loop-step.step c.args.pages.now _ inside (c.loop-step.invariant.own h) (c.is_yes-yes.ensures.own h yes);
+      own = λ h. each_more (λ i x. must_own (bars_of (facts_at c.args.table.now c.args.pins.now c.args.why.now i) (known_of x)) ≡ true → ShowsNone (belief_of x)) c.args.first c.loop-step.step c.args.pages.now _ inside (c.loop-step.invariant.own h) (c.is_yes-yes.ensures.own h yes);
     }
 
 pub returns-then-not-yes-clause-value : goal.returns-then-not-yes-clause-value
@@ -31,9 +31,9 @@ returns-then-not-yes-clause-value c =
     let within : c.args.first + c.args.count ≤ length c.args.pages.now = c.has_pages-are_there.ensures.within (search rules) in
     let inside : c.args.first + c.loop-step.step < length c.args.pages.now = omega (arith, within, c.loop-step-test.true) in
     let no : c.is_yes-yes.result ≡ false = search rules in
-    refused (λ i x. is_yes c.args.question (facts_at c.args.table.now c.args.pins.now c.args.transfers.now c.args.why.now i) x) c.args.first c.loop-step.step c.args.count c.args.pages.now _ _ inside (sym c.is_yes-yes.ensures.value ∙ no) c.loop-step-test.true
+    refused (λ i x. is_yes c.args.question (facts_at c.args.table.now c.args.pins.now c.args.why.now i) x) c.args.first c.loop-step.step c.args.count c.args.pages.now _ _ inside (sym c.is_yes-yes.ensures.value ∙ no) c.loop-step-test.true
 
 pub returns-clause-own : goal.returns-clause-own
 returns-clause-own c =
     let e : c.loop-step.step ≡ c.args.count = omega arith in
-    λ h y. subst (λ m. Each (λ i x. must_own (bars_of (facts_at c.args.table.now c.args.pins.now c.args.transfers.now c.args.why.now i) (known_of x)) ≡ true → ShowsNone (belief_of x)) c.args.first m c.args.pages.now) e (c.loop-step.invariant.own h)
+    λ h y. subst (λ m. Each (λ i x. must_own (bars_of (facts_at c.args.table.now c.args.pins.now c.args.why.now i) (known_of x)) ≡ true → ShowsNone (belief_of x)) c.args.first m c.args.pages.now) e (c.loop-step.invariant.own h)

@@ -10,7 +10,7 @@ use Rattle.window_tables.proofs.ask.all_yes.Given as goal
 
 abbrev pub invariant-loop-step : goal.invariant-loop-step
 invariant-loop-step l = record {
-  so_far : all_at (λ i x. is_yes l.question (facts_at l.table l.pins l.transfers l.why i) x) l.first l.step l.pages ≡ true;
+  so_far : all_at (λ i x. is_yes l.question (facts_at l.table l.pins l.why i) x) l.first l.step l.pages ≡ true;
   free : Each (λ i x. IsFree (belief_of x)) l.first l.step l.pages;
-  own : l.question ≡ Question.GoesOn → Each (λ i x. must_own (bars_of (facts_at l.table l.pins l.transfers l.why i) (known_of x)) ≡ true → ShowsNone (belief_of x)) l.first l.step l.pages;
+  own : l.question ≡ Question.GoesOn → Each (λ i x. must_own (bars_of (facts_at l.table l.pins l.why i) (known_of x)) ≡ true → ShowsNone (belief_of x)) l.first l.step l.pages;
 }
