@@ -1,14 +1,15 @@
 -- Each page of a row is in a hold of its own.
-use Rattle.std.proofs.Common.{◌≡◌, ◌∙◌, ℕ, zero, suc, ◌+◌, ◌-◌, ◌<◌, ◌≤◌, ◌⊎◌, inl, inr, Bool, true, false, List, [], ◌∷◌, length, Some, None, refl, ap, sym, subst, arith}
+use Rattle.std.proofs.Common.{◌≡◌, ◌∙◌, ℕ, zero, suc, ◌+◌, ◌-◌, ◌%◌, ◌<◌, ◌≤◌, ◌⊎◌, inl, inr, Bool, true, false, List, [], ◌∷◌, length, Some, None, refl, ap, sym, subst, arith}
 use Rattle.std.specs.Prelude.{if◌then◌else◌, nat_eq, nat_lt, slice_get, slice_index_or}
 use Rattle.std.proofs.lemmas.Bool.{cases_lt, eqb-true}
 use Rattle.page_holds.specs.Laws.{Course, begins as one_begins, asks as one_asks, comes_out as one_comes_out, writes as one_writes}
 use Rattle.page_holds.specs.Memory.{Did, Spot, begun, compares, compares_zeros, ends_watch, gives_back, is_at_place, is_held, maps, puts_back, refuses, rests}
-use Rattle.page_holds.specs.Steps.{Took, is_to_hold, outcome_for, place_after, place_of, step_of}
+use Rattle.page_holds.specs.Steps.{Took, outcome_for, place_after, place_of, step_of}
 use Rattle.page_holds.specs.declared.place.HeldPlace.{HeldPlace}
 use Rattle.page_holds.specs.declared.place.HeldPlace.TheVariants.{Free, Guarded, Aside, Replaced}
 use Rattle.page_holds.specs.declared.place.HoldStep.{HoldStep}
 use Rattle.page_holds.specs.declared.place.HoldStep.TheVariants.{Over}
+use Rattle.page_lender.specs.Decisions.{waiting}
 use Rattle.page_lender.specs.declared.belief.Belief.{Belief}
 use Rattle.window_lender.specs.Calls.{order_due}
 use Rattle.window_pages.specs.Bytes.{belief_of, known_of}
@@ -19,8 +20,8 @@ use Rattle.window_pages.specs.declared.page.WindowPage.{WindowPage}
 use Rattle.window_tables.specs.Changes.{Changed}
 use Rattle.window_tables.specs.Tables.{can_note}
 use Rattle.window_tables.specs.declared.facts.TableFacts.{TableFacts}
-use Rattle.hold_rows.specs.Bytes.{byte_of, byte_then, is_stuck, place_in, step_by, sticks}
-use Rattle.hold_rows.specs.Laws.{DidAll, EachPageIsHeld, asks, begins, comes_out, spots_with, writes}
+use Rattle.hold_rows.specs.Bytes.{byte_of, byte_then, is_stuck, place_by, place_in, step_by, sticks}
+use Rattle.hold_rows.specs.Laws.{DidAll, EachPageIsHeld, asks, begins, comes_out, resumes, spots_with, writes}
 use Rattle.hold_rows.specs.Orders.{OrdersNext, facts_there}
 use Rattle.hold_rows.specs.Rows.{Asks, CameOut, IsBegun, PageBecomes, RowChanges, is_asked, taking_at}
 use Rattle.hold_rows.specs.declared.run.RowOrder.{RowOrder}
@@ -59,14 +60,14 @@ place_kept Replaced false = refl
 from_none : (n : ℕ) → n ≡ 0 + n
 from_none n = omega arith
 
-page_begins : (frames : ℕ → List ℕ) (takings : List ℕ) (bytes : List ℕ) (n b c : ℕ) (x y : WindowPage) → is_to_hold (belief_of x) ≡ true → IsBegun takings n b c x y →
+page_begins : (frames : ℕ → List ℕ) (takings : List ℕ) (bytes : List ℕ) (n b c : ℕ) (x y : WindowPage) → waiting (belief_of x) ≡ false → IsBegun takings n b c x y →
     Course frames y (place_in c) (begun (taking_at takings n) bytes)
 page_begins frames takings bytes n b c x y h i =
     subst (λ v. Course frames y v (begun (taking_at takings n) bytes)) (sym (ap (λ v. place_in v) i.written ∙ place_kept (place_of (taking_at takings n)) false))
     (one_begins x y i.page.part i.page.part_after (taking_at takings n) bytes h i.page.becomes)
 
 row_begins : (frames : ℕ → List ℕ) (first : ℕ) (old new : List WindowPage) (row row_new takings : List ℕ) (bytes : ℕ → List ℕ) →
-    ((n : ℕ) (x : WindowPage) → n < length row → slice_get old (first + n) ≡ Some x → is_to_hold (belief_of x) ≡ true) →
+    ((n : ℕ) (x : WindowPage) → n < length row → slice_get old (first + n) ≡ Some x → waiting (belief_of x) ≡ false) →
     RowChanges (IsBegun takings) first 0 (length row) old new row row_new → (n b : ℕ) (x : WindowPage) → slice_get row_new n ≡ Some b → slice_get new (first + n) ≡ Some x →
     Course frames x (place_in b) (begun (taking_at takings n) (bytes n))
 row_begins frames first old new row row_new takings bytes held r n b x eb ex =
@@ -193,6 +194,20 @@ row_written frames first pages row spots m c y bytes ec ey free at h n b x eb ex
       (subst (λ v. Course frames v (place_in b) (record (spots m) { content = bytes; here = Some bytes })) is_page
       (subst (λ v. Course frames y (place_in v) (record (spots m) { content = bytes; here = Some bytes })) is_byte (one_writes y (place_in c) (spots m) bytes (h m c y ec ey) free at)))
 
+-- ---- a page is taken up again ----
+
+row_resumed : (frames : ℕ → List ℕ) (first before : ℕ) (old new : List WindowPage) (row : List ℕ) (spots : ℕ → Spot) (m c : ℕ) (y : WindowPage) →
+    slice_get row m ≡ Some c → slice_get old (before + m) ≡ Some y → slice_get new first ≡ Some y →
+    ((n b : ℕ) (x : WindowPage) → slice_get row n ≡ Some b → slice_get old (before + n) ≡ Some x → Course frames x (place_in b) (spots n)) →
+    (n b : ℕ) (x : WindowPage) → slice_get (c % 4 ∷ []) n ≡ Some b → slice_get new (first + n) ≡ Some x → Course frames x (place_in b) (spots m)
+row_resumed frames first before old new row spots m c y ec ey en h zero b x eb ex =
+    let is_byte : c % 4 ≡ b = one (c % 4 ∷ []) 0 (c % 4) b refl eb in
+    let is_page : y ≡ x = one new first y x en (subst (λ j. slice_get new j ≡ Some x) (omega arith) ex) in
+    let twice : c % 4 % 4 ≡ c % 4 = omega arith in
+    let is_place : place_in c ≡ place_in b = ap (λ k. place_by k) (sym twice) ∙ ap (λ k. place_in k) is_byte in
+    subst (λ v. Course frames v (place_in b) (spots m)) is_page (subst (λ v. Course frames y v (spots m)) is_place (h m c y ec ey))
+row_resumed frames first before old new row spots m c y ec ey en h (suc n) b x eb ex = absurd (omega (arith, in_list (c % 4 ∷ []) (suc n) b eb))
+
 pub each_page_is_held : EachPageIsHeld
 each_page_is_held frames first pages row spots (begins lead old new parts parts_new before after takings bytes held r) n b x eb ex =
     row_begins frames first old new before after takings bytes held (r.pages refl) n b x eb ex
@@ -202,3 +217,5 @@ each_page_is_held frames first pages row spots (comes_out lead begin done refuse
     row_comes_out frames first begin done refused old new before after at next (r.pages refl) d (each_page_is_held frames first old before at c) n b x eb ex
 each_page_is_held frames first pages row spots (writes its bytes_of at m c y bytes course ec ey free place) n b x eb ex =
     row_written frames first its bytes_of at m c y bytes ec ey free place (each_page_is_held frames first its bytes_of at course) n b x eb ex
+each_page_is_held frames first pages row spots (resumes before old new its at m c y course ec ey en) n b x eb ex =
+    row_resumed frames first before old new its at m c y ec ey en (each_page_is_held frames before old its at course) n b x eb ex

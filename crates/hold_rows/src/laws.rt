@@ -1,8 +1,8 @@
 //! What a row does to the bytes of its pages, and that it ends. The functions' bodies are empty: the contract is all there is.
 ghost use Rattle.hold_rows.specs.Laws.{EachOrderLeavesLess, EachPageIsHeld};
 
-/// Each page of a row is in a hold of its own, whatever the orders were and whatever came of them. So what page_holds says of a hold is so of each
-/// of them: anyone who reads the page finds what its guest stored last.
+/// Each page of a row is in a hold of its own, whatever the orders were and whatever came of them, and also where a row of one page goes on with a
+/// page that was stuck. So what page_holds says of a hold is so of each of them: anyone who reads the page finds what its guest stored last.
 pub fn row_law()
     ensures { EachPageIsHeld }
 {}

@@ -1,7 +1,7 @@
 -- The bytes of a page in a hold are its own, whatever course the hold takes.
 use Rattle.std.proofs.Common.{◌≡◌, ◌∙◌, ℕ, Bool, true, false, List, Option, Some, None, refl, ap, sym, subst}
 use Rattle.std.specs.Prelude.{unwrap_or, if◌then◌else◌}
-use Rattle.page_lender.specs.Decisions.{KeepsLoan, AtEqual, AtEqualZeros, due, led_to, prepared, stage_of}
+use Rattle.page_lender.specs.Decisions.{KeepsLoan, AtEqual, AtEqualZeros, due, led_to, prepared, stage_of, waiting}
 use Rattle.page_lender.specs.declared.bars.Bars.{Bars}
 use Rattle.page_lender.specs.declared.belief.Belief.{Belief}
 use Rattle.page_lender.specs.declared.belief.Belief.TheVariants.{Private, Chosen, Copied, Loaned, Held, Equal, LettingGo, Shown, Homing, Leaving, Zeros, HeldZeros, EqualZeros, PuttingBack}
@@ -11,7 +11,7 @@ use Rattle.window_pages.specs.Bytes.{belief_of, known_of}
 use Rattle.window_pages.specs.declared.page.WindowPage.{WindowPage}
 use Rattle.page_holds.specs.Laws.{Course, EachHoldIsRight, asks, begins, comes_out, writes}
 use Rattle.page_holds.specs.Memory.{Did, Spot, begun, compares, compares_zeros, is_at_place, is_held, ends_watch, gives_back, maps, puts_back, refuses, rests, zeros}
-use Rattle.page_holds.specs.Steps.{asks_for, is_to_hold, outcome_for, place_after, place_of, step_of}
+use Rattle.page_holds.specs.Steps.{asks_for, outcome_for, place_after, place_of, step_of}
 use Rattle.page_holds.specs.declared.place.HeldPlace.{HeldPlace}
 use Rattle.page_holds.specs.declared.place.HeldPlace.TheVariants.{Free, Guarded, Aside, Replaced}
 use Rattle.page_holds.specs.declared.place.HoldStep.{HoldStep}
@@ -157,18 +157,18 @@ begun_lies Watched bytes = refl
 begun_lies TakenGuarded bytes = refl
 begun_lies TakenAside bytes = (refl, refl)
 
--- of a page that was to be held nothing is found yet
-begun_found : (frames : ℕ → List ℕ) (b y : Belief) (outcome : Option Outcome) (bytes : List ℕ) → is_to_hold b ≡ true → Turned outcome b y → found_of frames y ≡ Some bytes → ⊥
-begun_found frames Private y o bytes h t f = cc
-begun_found frames Chosen y o bytes h t f = cc
-begun_found frames Copied y o bytes h t f = cc
+-- of a page to which no write waits nothing is found yet
+begun_found : (frames : ℕ → List ℕ) (b y : Belief) (outcome : Option Outcome) (bytes : List ℕ) → waiting b ≡ false → Turned outcome b y → found_of frames y ≡ Some bytes → ⊥
+begun_found frames Private y o bytes h t f = let none : found_of frames Private ≡ Some bytes = found_before frames o Private y bytes refl t f in cc
+begun_found frames Chosen y o bytes h t f = let none : found_of frames Chosen ≡ Some bytes = found_before frames o Chosen y bytes refl t f in cc
+begun_found frames Copied y o bytes h t f = let none : found_of frames Copied ≡ Some bytes = found_before frames o Copied y bytes refl t f in cc
 begun_found frames (Loaned slot n) y o bytes h t f = let none : found_of frames (Loaned slot n) ≡ Some bytes = found_before frames o (Loaned slot n) y bytes refl t f in cc
 begun_found frames (Held slot n) y o bytes h t f = cc
 begun_found frames (Equal slot n) y o bytes h t f = cc
 begun_found frames (LettingGo slot) y o bytes h t f = cc
-begun_found frames (Shown slot n) y o bytes h t f = cc
-begun_found frames (Homing slot n in_place) y o bytes h t f = cc
-begun_found frames (Leaving slot) y o bytes h t f = cc
+begun_found frames (Shown slot n) y o bytes h t f = let none : found_of frames (Shown slot n) ≡ Some bytes = found_before frames o (Shown slot n) y bytes refl t f in cc
+begun_found frames (Homing slot n in_place) y o bytes h t f = let none : found_of frames (Homing slot n in_place) ≡ Some bytes = found_before frames o (Homing slot n in_place) y bytes refl t f in cc
+begun_found frames (Leaving slot) y o bytes h t f = let none : found_of frames (Leaving slot) ≡ Some bytes = found_before frames o (Leaving slot) y bytes refl t f in cc
 begun_found frames Zeros y o bytes h t f = let none : found_of frames Zeros ≡ Some bytes = found_before frames o Zeros y bytes refl t f in cc
 begun_found frames HeldZeros y o bytes h t f = cc
 begun_found frames EqualZeros y o bytes h t f = cc

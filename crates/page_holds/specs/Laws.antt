@@ -9,17 +9,17 @@ use Rattle.window_pages.specs.Changed.{Lends}
 use Rattle.window_pages.specs.declared.counts.PartCounts.{PartCounts}
 use Rattle.window_pages.specs.declared.page.WindowPage.{WindowPage}
 use Rattle.page_holds.specs.Memory.{Did, Spot, begun, is_at_place, is_held}
-use Rattle.page_holds.specs.Steps.{Took, asks_for, is_to_hold, outcome_for, place_after, place_of, step_of}
+use Rattle.page_holds.specs.Steps.{Took, asks_for, outcome_for, place_after, place_of, step_of}
 use Rattle.page_holds.specs.declared.place.HeldPlace.{HeldPlace}
 use Rattle.page_holds.specs.declared.place.HeldPlace.TheVariants.{Free}
 use Rattle.page_holds.specs.declared.place.HoldStep.{HoldStep}
 use Rattle.page_holds.specs.declared.place.HoldStep.TheVariants.{Over, Compare, CompareZeros, Map, GiveBack, PutBack, EndWatch}
 use Rattle.page_holds.specs.declared.place.Taking.{Taking}
 
--- A hold of a page, by the contracts of `begin`, `step` and `done`: it was to be held and had these bytes. Then steps are asked for and come out as
--- they may, in whatever order, and its guest writes where that needn't wait.
+-- A hold of a page, by the contracts of `begin`, `step` and `done`: no write to it waited and it had these bytes. Then steps are asked for and come
+-- out as they may, in whatever order, and its guest writes where that needn't wait.
 pub data Course (frames : ℕ → List ℕ) : WindowPage → HeldPlace → Spot → Type 0 where
-  begins : (old new : WindowPage) (part after : PartCounts) (taking : Taking) (bytes : List ℕ) → is_to_hold (belief_of old) ≡ true
+  begins : (old new : WindowPage) (part after : PartCounts) (taking : Taking) (bytes : List ℕ) → waiting (belief_of old) ≡ false
       → Took (asks_for (belief_of old) taking) old new part after → Course frames new (place_of taking) (begun taking bytes)
   asks : (old new : WindowPage) (part after : PartCounts) (place : HeldPlace) (spot : Spot) (order : Order) (bars : Bars) → Course frames old place spot
       → Lends (IsOrdered order) bars old new part after → Course frames new place spot
