@@ -3,6 +3,7 @@
 #include "connection.h"
 #include "filter.h"
 #include "ranges.h"
+#include "signals.h"
 #include "trouble.h"
 #include "window.h"
 #include <fcntl.h>
@@ -85,6 +86,20 @@ void sharing_disown(int descriptor) {
 
 /* ---- ranges ---- */
 
+static _Thread_local sigset_t signals_before __attribute__((tls_model("initial-exec")));
+
+/* What this thread does is the library's, and no handler of a signal runs in between. */
+static void step_in(void) {
+    if (inside == 0) signals_hold(&signals_before);
+    inside++;
+}
+
+static void step_out(void) {
+    const int cause = errno;
+    if (--inside == 0) signals_let(&signals_before);
+    errno = cause;
+}
+
 /* Whether this thread could be cancelled before it took the lock. */
 static _Thread_local int could_cancel __attribute__((tls_model("initial-exec")));
 static _Thread_local int number __attribute__((tls_model("initial-exec"))); /* of this thread, or 0: it isn't known yet */
@@ -94,7 +109,7 @@ static atomic_uint waiting; /* threads that wait for the lock: who takes it agai
 /* All that concerns ranges is done between these two. A thread that was cancelled there would keep the lock for ever. */
 static void enter(void) {
     int before = PTHREAD_CANCEL_ENABLE;
-    inside++;
+    step_in();
     pthread_setcancelstate(PTHREAD_CANCEL_DISABLE, &before);
     if (number == 0) number = gettid();
     atomic_fetch_add(&waiting, 1);
@@ -116,7 +131,7 @@ static void leave(void) {
     atomic_store(&holder, 0);
     pthread_mutex_unlock(&lock);
     pthread_setcancelstate(before, NULL);
-    inside--;
+    step_out();
 }
 
 /* The end of a range of whole pages, as the system rounds it. */
@@ -315,41 +330,59 @@ int sharing_say_huge(void *from, size_t bytes, bool may) {
     return -1;
 }
 
-/* The next part of a range leaves its window, from `*at` on, which becomes its end. Returns false if there is none. With the lock. */
-static bool leave_part(uint8_t **at, struct window_result *result) {
-    struct piece piece = ranges_next(*at, (uint8_t *)(UINTPTR_MAX / PAGE * PAGE));
-    size_t kept, most = PART_BYTES - (uintptr_t)piece.at % PART_BYTES;
+/* What is done with a part of a range, with the lock. */
+typedef struct window_result part_do(const struct piece *piece);
+
+/* Does it with the next part before `end`, from `*at` on, which becomes its end. Returns false if there is none. With the lock. */
+static bool do_part(uint8_t **at, uint8_t *end, part_do *does, struct window_result *result) {
+    struct piece piece = ranges_next(*at, end);
+    size_t most = PART_BYTES - (uintptr_t)piece.at % PART_BYTES;
     if (!piece.range) return false;
     if (piece.bytes > most) piece.bytes = most;
     *at = piece.at + piece.bytes;
-    *result = cut(&piece, &kept);
+    *result = does(&piece);
     return true;
 }
 
-/* All ranges leave their windows, part for part: between two of them other calls go on. Takes the lock. */
-static struct window_result leave_all(void) {
+/* Does it with all ranges between two addresses, part for part: between two of them other calls go on. Takes the lock. */
+static struct window_result do_parts(uint8_t *at, uint8_t *end, part_do *does) {
     struct window_result result = {.status = WINDOW_OK};
-    bool is_any = true;
-    for (uint8_t *at = NULL; is_any && result.status == WINDOW_OK;) {
+    for (bool is_any = true; is_any && result.status == WINDOW_OK;) {
         give_way();
         enter();
-        is_any = leave_part(&at, &result);
+        is_any = do_part(&at, end, does, &result);
         leave();
     }
     return result;
+}
+
+static struct window_result do_all(part_do *does) { return do_parts(NULL, (uint8_t *)(UINTPTR_MAX / PAGE * PAGE), does); }
+
+static struct window_result leave_whole(const struct piece *piece) {
+    size_t kept;
+    return cut(piece, &kept);
+}
+
+/* With the lock. */
+static size_t bytes_of_ranges(void) {
+    size_t bytes = 0;
+    for (size_t i = 0; i < ranges_count(); i++) bytes += ranges_at(i).bytes;
+    return bytes;
 }
 
 bool sharing_end(const char *why) {
     bool none = false;
     if (inside || !is_owner() || atomic_load(&all_home)) return true;
     enter();
-    size_t bytes = 0;
-    for (size_t i = 0; i < ranges_count(); i++) bytes += ranges_at(i).bytes;
+    size_t bytes = bytes_of_ranges();
     if (atomic_compare_exchange_strong(&over, &none, true)) say("lending ends for good", bytes, why);
-    struct windows *set = atomic_load(&windows);
-    if (set) windows_end(set);
     leave();
-    struct window_result result = leave_all();
+    /* (without the lock: to unmap all frames takes long) */
+    struct windows *set = atomic_load(&windows);
+    step_in();
+    if (set) windows_end(set);
+    step_out();
+    struct window_result result = do_all(leave_whole);
     if (result.status == WINDOW_OK) atomic_store(&all_home, true);
     if (result.status == WINDOW_OK) return true;
     say("pages can't get memory of their own yet", bytes, window_status_words(result.status));
@@ -357,11 +390,80 @@ bool sharing_end(const char *why) {
     return false;
 }
 
-/* ---- devices ---- */
-
 static enum windows_pins pins_of(enum devices devices) {
     return devices < DEVICES_PIN_PAGES ? WINDOWS_PINS_NEVER : WINDOWS_PINS_POSSIBLE;
 }
+
+/* ---- a userfaultfd of the monitor's own ---- */
+
+static atomic_bool has_stopped; /* lending, as was said, until no userfaultfd watches a window */
+
+static struct window_result take_home(const struct piece *piece) {
+    const struct window_result none = {.status = WINDOW_OK};
+    return piece->window ? window_home(piece->window, piece->first, piece->bytes / PAGE, false) : none;
+}
+
+static struct window_result copy_home(const struct piece *piece) {
+    const struct window_result none = {.status = WINDOW_OK};
+    return piece->window ? window_home(piece->window, piece->first, piece->bytes / PAGE, true) : none;
+}
+
+/* Says once that lending stops or goes on. Takes the lock. */
+static void say_stopped(bool has, const char *what, const char *why) {
+    if (atomic_exchange(&has_stopped, has) == has) return;
+    enter();
+    size_t bytes = bytes_of_ranges();
+    leave();
+    say(what, bytes, why);
+}
+
+/* Whether pages came home for a watch that begins. `result` is what that came to. */
+static bool are_home(struct window_result result) {
+    say_stopped(true, "lending stops",
+                "the process guards its memory by a userfaultfd of its own (postcopy migration, background snapshot)");
+    if (result.status == WINDOW_OK) return true;
+    errno = errno_of(result);
+    return false;
+}
+
+bool sharing_watch(bool is_of_missing, bool *is_begun) {
+    struct windows *set = atomic_load(&windows);
+    *is_begun = false;
+    if (inside || !is_owner() || !set) return true;
+    step_in();
+    int cause = windows_watch(set);
+    step_out();
+    /* (where devices may pin pages, copies in place would stay private for good) */
+    bool is_whole = is_of_missing || pins_of((enum devices)atomic_load(&worst)) == WINDOWS_PINS_POSSIBLE;
+    *is_begun = cause == 0 && (!is_whole || are_home(do_all(take_home)));
+    if (*is_begun) return true;
+    cause = cause != 0 ? cause : errno;
+    sharing_watch_made();
+    errno = cause;
+    return false;
+}
+
+void sharing_watch_made(void) {
+    step_in();
+    windows_watch_made(atomic_load(&windows));
+    step_out();
+}
+
+bool sharing_protect(void *at, size_t bytes) {
+    if (inside || !is_owner() || !is_aligned(at)) return true;
+    return are_home(do_parts(at, end_of(at, bytes), copy_home));
+}
+
+/* By the library's own thread. */
+static bool are_watched(void) {
+    struct windows *set = atomic_load(&windows);
+    bool are = set && windows_are_watched(set);
+    if (!are && !atomic_load(&over))
+        say_stopped(false, "lending goes on", "no userfaultfd of its own guards the process's memory any more");
+    return are;
+}
+
+/* ---- devices ---- */
 
 bool sharing_devices(enum devices devices) {
     static atomic_bool is_said;
@@ -372,9 +474,9 @@ bool sharing_devices(enum devices devices) {
     struct windows *set = atomic_load(&windows);
     if (devices == DEVICES_WRITE_ALL) return sharing_end("a device is given to the guest, or may write to its memory unnoticed");
     if (pins_of(devices) != WINDOWS_PINS_POSSIBLE || !is_owner()) return true;
-    inside++;
+    step_in();
     if (set) windows_set_pins(set, WINDOWS_PINS_POSSIBLE);
-    inside--;
+    step_out();
     if (!atomic_exchange(&is_said, true))
         log_line("devices may have pinned pages (io_uring, io_submit or aio_read with O_DIRECT, or vmx): those that were lent "
                  "and written stay private from now on");
@@ -397,18 +499,18 @@ void sharing_transfers_begin(struct sharing_transfers *transfers, const struct i
         if (!set) return;
         atomic_fetch_sub(&early, 1);
     }
-    inside++;
+    step_in();
     transfers->are = windows_transfer_begin(set, buffers, (size_t)count);
-    inside--;
+    step_out();
 }
 
 void sharing_transfers_end(const struct sharing_transfers *transfers) {
     struct windows *set = atomic_load(&windows);
     if (!is_owner()) return; /* (a child after a fork, where the lock inside may be another thread's for ever) */
-    inside++;
+    step_in();
     if (transfers->is_early) atomic_fetch_sub(&early, 1);
     else if (set) windows_transfer_end(set, transfers->are);
-    inside--;
+    step_out();
 }
 
 /* ---- windows ---- */
@@ -454,6 +556,7 @@ static void open_range(const struct piece *settled, uint64_t said, struct window
 void ranges_open(unsigned flags) {
     struct piece settled = {.range = NULL};
     uint64_t said = 0;
+    if (are_watched()) return;
     for (size_t left = RANGES_MOST; find_settled(&left, &settled, &said);) {
         struct window *read = NULL;
         struct window_result result = window_read(&read, atomic_load(&windows), settled.at, settled.bytes);
