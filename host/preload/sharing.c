@@ -18,7 +18,7 @@
 
 enum {
     LEAST_BYTES = 65536,    /* a range that is smaller is no window: it saves nothing */
-    PART_BYTES = 1 << 21,   /* of a range, that leave its window at once when all do */
+    PART_BYTES = 1 << 18,   /* of a range, that leave its window at once when all do */
     REPORT_BYTES = 1 << 20, /* and of one that is smaller than that nothing is printed */
     REPORTS_MOST = 16,      /* lines of the process on standard error in all */
     SPARE_DESCRIPTORS = 32, /* the library's descriptors are among so many last ones */
@@ -104,7 +104,8 @@ static void step_out(void) {
 static _Thread_local int could_cancel __attribute__((tls_model("initial-exec")));
 static _Thread_local int number __attribute__((tls_model("initial-exec"))); /* of this thread, or 0: it isn't known yet */
 
-static atomic_uint waiting; /* threads that wait for the lock: who takes it again and again lets them go first */
+/* Threads that wait for the lock, and how often it was taken: who takes it again and again lets those go first that wait. */
+static atomic_uint waiting, taken;
 
 /* All that concerns ranges is done between these two. A thread that was cancelled there would keep the lock for ever. */
 static void enter(void) {
@@ -115,15 +116,18 @@ static void enter(void) {
     atomic_fetch_add(&waiting, 1);
     pthread_mutex_lock(&lock);
     atomic_fetch_sub(&waiting, 1);
+    atomic_fetch_add(&taken, 1);
     atomic_store(&holder, number);
     could_cancel = before;
 }
 
-/* Lets threads go first that wait for the lock. */
+/* Lets threads go first that wait for the lock. (On a busy computer one that is woken may get a processor some time later.) */
 static void give_way(void) {
-    enum { PAUSES = 100 };
+    const uint64_t most_ns = 1000000000, begun_ns = now_ns();
     const struct timespec pause = {.tv_nsec = 20000};
-    for (int i = 0; i < PAUSES && atomic_load(&waiting) > 0; i++) nanosleep(&pause, NULL);
+    const unsigned wait = atomic_load(&waiting), before = atomic_load(&taken);
+    while (atomic_load(&waiting) > 0 && atomic_load(&taken) - before < wait && now_ns() - begun_ns < most_ns)
+        nanosleep(&pause, NULL);
 }
 
 static void leave(void) {
