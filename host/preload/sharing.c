@@ -215,22 +215,61 @@ static struct window_result leave_by(leave_window *call, const struct piece *pie
     return result;
 }
 
+/* What is done with a part of a range, with the lock. Adds to `*kept` how many pages stay over frames for good. */
+typedef struct window_result part_do(const struct piece *piece, size_t *kept);
+
+/* Does it with the next part before `end`, from `*at` on, which becomes its end. Returns false if there is none. With the lock. */
+static bool do_part(uint8_t **at, uint8_t *end, part_do *does, struct window_result *result, size_t *kept) {
+    struct piece piece = ranges_next(*at, end);
+    size_t most = PART_BYTES - (uintptr_t)piece.at % PART_BYTES;
+    if (!piece.range) return false;
+    if (piece.bytes > most) piece.bytes = most;
+    *at = piece.at + piece.bytes;
+    *result = does(&piece, kept);
+    return true;
+}
+
+/* Does it with all ranges between two addresses, part for part: between two of them other calls go on. Takes the lock. */
+static struct window_result do_parts(uint8_t *at, uint8_t *end, part_do *does, size_t *kept) {
+    struct window_result result = {.status = WINDOW_OK};
+    *kept = 0;
+    for (bool is_any = true; is_any && result.status == WINDOW_OK;) {
+        give_way();
+        enter();
+        is_any = do_part(&at, end, does, &result, kept);
+        leave();
+    }
+    return result;
+}
+
+static struct window_result do_all(part_do *does) {
+    size_t kept;
+    return do_parts(NULL, (uint8_t *)(UINTPTR_MAX / PAGE * PAGE), does, &kept);
+}
+
 /* The same by window_leave: the monitor may protect and lock the piece, and says no advice of it that counts. */
-static struct window_result cut(const struct piece *piece, size_t *kept) { return leave_by(window_leave, piece, kept); }
+static struct window_result cut(const struct piece *piece, size_t *kept) {
+    size_t found;
+    struct window_result result = leave_by(window_leave, piece, &found);
+    *kept += found;
+    return result;
+}
+
+/* Says of each range that meets these addresses that lending ends there. Takes the lock. */
+static void say_ends(uint8_t *at, uint8_t *end, const char *why) {
+    enter();
+    for (struct piece piece; (piece = ranges_next(at, end)).range != NULL; at = piece.at + piece.bytes)
+        if (piece.bytes >= REPORT_BYTES) say("lending ends", piece.bytes, why);
+    leave();
+}
 
 enum sharing_left sharing_leave(void *from, size_t bytes, const char *why) {
     uint8_t *at = from, *end = end_of(at, bytes);
-    struct window_result result = {.status = WINDOW_OK};
-    size_t kept = 0, all_kept = 0;
+    size_t kept = 0;
     if (!is_aligned(at)) return SHARING_LEFT; /* the system refuses it */
-    enter();
-    for (struct piece piece; result.status == WINDOW_OK && (piece = ranges_next(at, end)).range != NULL; all_kept += kept) {
-        at = piece.at + piece.bytes;
-        if (piece.bytes >= REPORT_BYTES) say("lending ends", piece.bytes, why);
-        result = cut(&piece, &kept);
-    }
-    leave();
-    if (result.status == WINDOW_OK) return all_kept == 0 ? SHARING_LEFT : SHARING_KEPT;
+    say_ends(at, end, why);
+    struct window_result result = do_parts(at, end, cut, &kept);
+    if (result.status == WINDOW_OK) return kept == 0 ? SHARING_LEFT : SHARING_KEPT;
     say("a part of a window can't leave it", bytes, window_status_words(result.status));
     errno = errno_of(result);
     return SHARING_REFUSED;
@@ -334,39 +373,6 @@ int sharing_say_huge(void *from, size_t bytes, bool may) {
     return -1;
 }
 
-/* What is done with a part of a range, with the lock. */
-typedef struct window_result part_do(const struct piece *piece);
-
-/* Does it with the next part before `end`, from `*at` on, which becomes its end. Returns false if there is none. With the lock. */
-static bool do_part(uint8_t **at, uint8_t *end, part_do *does, struct window_result *result) {
-    struct piece piece = ranges_next(*at, end);
-    size_t most = PART_BYTES - (uintptr_t)piece.at % PART_BYTES;
-    if (!piece.range) return false;
-    if (piece.bytes > most) piece.bytes = most;
-    *at = piece.at + piece.bytes;
-    *result = does(&piece);
-    return true;
-}
-
-/* Does it with all ranges between two addresses, part for part: between two of them other calls go on. Takes the lock. */
-static struct window_result do_parts(uint8_t *at, uint8_t *end, part_do *does) {
-    struct window_result result = {.status = WINDOW_OK};
-    for (bool is_any = true; is_any && result.status == WINDOW_OK;) {
-        give_way();
-        enter();
-        is_any = do_part(&at, end, does, &result);
-        leave();
-    }
-    return result;
-}
-
-static struct window_result do_all(part_do *does) { return do_parts(NULL, (uint8_t *)(UINTPTR_MAX / PAGE * PAGE), does); }
-
-static struct window_result leave_whole(const struct piece *piece) {
-    size_t kept;
-    return cut(piece, &kept);
-}
-
 /* With the lock. */
 static size_t bytes_of_ranges(void) {
     size_t bytes = 0;
@@ -386,7 +392,7 @@ bool sharing_end(const char *why) {
     step_in();
     if (set) windows_end(set);
     step_out();
-    struct window_result result = do_all(leave_whole);
+    struct window_result result = do_all(cut);
     if (result.status == WINDOW_OK) atomic_store(&all_home, true);
     if (result.status == WINDOW_OK) return true;
     say("pages can't get memory of their own yet", bytes, window_status_words(result.status));
@@ -402,12 +408,14 @@ static enum windows_pins pins_of(enum devices devices) {
 
 static atomic_bool has_stopped; /* lending, as was said, until no userfaultfd watches a window */
 
-static struct window_result take_home(const struct piece *piece) {
+static struct window_result take_home(const struct piece *piece, size_t *kept) {
+    (void)kept;
     const struct window_result none = {.status = WINDOW_OK};
     return piece->window ? window_home(piece->window, piece->first, piece->bytes / PAGE, false) : none;
 }
 
-static struct window_result copy_home(const struct piece *piece) {
+static struct window_result copy_home(const struct piece *piece, size_t *kept) {
+    (void)kept;
     const struct window_result none = {.status = WINDOW_OK};
     return piece->window ? window_home(piece->window, piece->first, piece->bytes / PAGE, true) : none;
 }
@@ -430,10 +438,18 @@ static bool are_home(struct window_result result) {
     return false;
 }
 
+/* No range that is just being read becomes a window for a while: then it is seen that it is watched. Takes the lock. */
+static void wait_all(void) {
+    enter();
+    for (size_t i = 0; i < ranges_count(); i++) ranges_at(i).range->said = now_ns();
+    leave();
+}
+
 bool sharing_watch(bool is_of_missing, bool *is_begun) {
     struct windows *set = atomic_load(&windows);
     *is_begun = false;
-    if (inside || !is_owner() || !set) return true;
+    if (inside || !is_owner()) return true;
+    if (!set) return wait_all(), true;
     step_in();
     int cause = windows_watch(set);
     step_out();
@@ -454,8 +470,9 @@ void sharing_watch_made(void) {
 }
 
 bool sharing_protect(void *at, size_t bytes) {
+    size_t kept;
     if (inside || !is_owner() || !is_aligned(at)) return true;
-    return are_home(do_parts(at, end_of(at, bytes), copy_home));
+    return are_home(do_parts(at, end_of(at, bytes), copy_home, &kept));
 }
 
 /* By the library's own thread. */
