@@ -11,8 +11,8 @@ out/host/libpageshare-window.so (`make host`). Guests are QEMU with Debian's ker
 of another user; each checks all that it reads. With INSTALL=1 in the environment missing packages are installed by apt-get, but for
 the kernel, which is only unpacked. What the computer lacks is left out, and so said.
 
-GUESTS=N takes another number of guests than 3, SECONDS=N another length of `fuzz`, `soak`, `breaker`, `storm`, `refusals` and `size`. SEEDS=N
-takes another number of seeds than 8 for `breaker` and 16 for `refusals`; with SANITIZE=1 `breaker` runs under a library with sanitizers.
+GUESTS=N takes another number of guests than 3, SECONDS=N another length of `fuzz`, `soak`, `breaker`, `storm`, `refusals`, `size` and `ways`.
+SEED=N is another first seed of `ways`, SEEDS=N another number of seeds than 8 for `breaker` and 16 for `refusals`; with SANITIZE=1 `breaker` runs under a library with sanitizers.
 Everything runs on this computer, over sockets in a folder of its own, which is removed afterwards. The last line is `N passed, M failed`, of
 cases (status 0 where none failed, else 1). benches/host.py has the cases that measure.
 """
@@ -33,10 +33,12 @@ import parts_cases  # noqa: E402
 import raw_cases  # noqa: E402
 import size_cases  # noqa: E402
 import system_cases  # noqa: E402
+import ways_cases  # noqa: E402
 from runner import cases_in, main  # noqa: E402
 
 CASES = cases_in([
     client_cases, bounds_cases, file_cases, breaker_cases, parts_cases, raw_cases, device_cases, size_cases, guest_cases, system_cases,
+    ways_cases,
 ])
 LONG = ("soak",)
 # What `make check` runs, and the seconds that each case has. A new case that needs no guest belongs here, but for those that time something.
@@ -47,6 +49,7 @@ IN_GATE = {
     "ranges": 60, "names": 60, "counts": 60, "refused": 60, "kvm": 300, "ends": 600, "postcopy": 240, "remote": 60, "waits": 180,
     "closed": 60, "malloc": 120, "lines": 60, "read-late": 60, "flags": 120, "policies": 120, "no-memory": 120,
     "filter": 240, "filter-by-itself": 60, "scans": 180, "guarded": 120, "said-early": 60,
+    "ways": 120,
 }
 
 if __name__ == "__main__":

@@ -144,7 +144,7 @@ BODIES = {
     "brings pages home that KSM may merge": Body("home.c", "if (cause == 0) cause = advice_say(address_of(window, home->first), home->count, MADV_UNMERGEABLE);", "", ["guards"]),
     "takes memory for unlocked that isn't known": Body("tasks.c", "int refused = locked_kib(&kib);", "int refused = 0 * locked_kib(&kib);", ["pages"]),
     "leaves the scratch area half made": Body("tasks.c", "lacks_scratch ? make_scratch(windows) : 0;", "lacks_scratch ? 0 : 0;", ["guards"]),
-    "takes a window for one mapping": Body("window.c", "window->seams = facts->mappings - 1;", "window->seams = 0 * facts->mappings;", ["pages"]),
+    "takes a window for one mapping": Body("window.c", "window->seams = facts.mappings - 1;", "window->seams = 0 * facts.mappings;", ["pages"]),
     "joins zeros that lie apart": Body("pages.c", ALONE, ALONE.replace("!joins_before", "is_over(&window->pages[first]) && !joins_before"), ["pages"]),
     "joins zeros of which too little was said": Body("pages.c", "is_alone || !is_said", "is_alone || (!is_said && false)", ["guards"]),
     "joins zeros that were written": Body("pages.c", "|| memchr(written, true, count) == NULL", "|| count > 0", ["guards"]),

@@ -35,7 +35,9 @@ static void note_given_up(struct window *window, size_t first, size_t count, boo
 
 /* Gives up pages in the window that are alike. Where they are in several mappings they are in one then. With the lock. */
 static struct window_result give_up(struct window *window, size_t first, size_t count) {
-    bool is_over_frame = is_over(&window->pages[first]), is_anew = is_over_frame || mappings_of(window, first, count) > 2;
+    /* (what is mapped anew the caller's own userfaultfd watches no more) */
+    bool is_over_frame = is_over(&window->pages[first]), is_watched = window->windows->is_watched;
+    bool is_anew = is_over_frame || (!is_watched && mappings_of(window, first, count) > 2);
     is_anew = is_anew && has_room_for_zeros(window, first, count);
     if (is_anew) is_anew = map_pages(window, first, count, ZEROS, PROT_READ | PROT_WRITE) == 0;
     bool are_cleared = is_over_frame && !is_anew;
@@ -251,15 +253,25 @@ static bool is_in_frames(const struct window *window, size_t page) {
     return is_over(&window->pages[page]) && !is_out(&window->pages[page]);
 }
 
-/* What is over frames still gets a copy of its own there. */
+/* Whether a page may show its frame still. */
+static bool may_show(const struct window *window, size_t page) {
+    return is_in_frames(window, page) && (is_lent(&window->pages[page]) || shows_past(&window->pages[page]));
+}
+
+/* What may show frames still gets a copy of its own there. (A write to what is one already might wait for the monitor's own userfaultfd.) */
 static struct window_result settle_home(struct window *window, size_t first, size_t count) {
-    for (size_t done = 0, run = 0; done < count; done += run) {
-        run = alike(window, first + done, count - done);
-        if (!is_in_frames(window, first + done)) continue;
-        int cause = copy_in_place(window, first + done, run);
+    for (size_t done = 0, run = 1; done < count; done += run, run = 1) {
+        const bool shows = may_show(window, first + done);
+        while (done + run < count && may_show(window, first + done + run) == shows) run++;
+        int cause = shows ? copy_in_place(window, first + done, run) : 0;
         if (cause != 0) return result_of(WINDOW_NO_MAPPING, cause);
     }
     return result_of(WINDOW_OK, 0);
+}
+
+struct window_result window_home(struct window *window, size_t first, size_t count, bool in_place) {
+    if (!is_in(window, first, count)) return result_of(WINDOW_BAD_RANGE, EINVAL);
+    return for_parts(window, first, count, in_place ? settle_home : take_home);
 }
 
 struct window_result take_home(struct window *window, size_t first, size_t count) {

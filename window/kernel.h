@@ -116,6 +116,8 @@ int advice_say(void *at, size_t pages, int advice);
 
 /* Finds whether `is_it` says so of any locked mapping of the process. It is called with the mapping's bounds. Returns 0 or an errno. */
 int locked_find(bool (*is_it)(void *opaque, const uint8_t *begin, const uint8_t *end), void *opaque, bool *any);
+/* The same of any that a userfaultfd watches. */
+int watched_find(bool (*is_it)(void *opaque, const uint8_t *begin, const uint8_t *end), void *opaque, bool *any);
 
 /*
  * Puts a copy of a mapping that nobody has written to in the place of pages, in one step also for a fork of another thread. What was said

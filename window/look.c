@@ -204,7 +204,7 @@ static bool look_in(struct look *look, bool is_return) {
     /* (the part may become whole) */
     if (part_of(window, first)->is.alone > 0) begin_turn(&windows->turn);
     lock_for_look(windows);
-    bool goes_on = !window->ended && windows->stuck_count == 0;
+    bool goes_on = !window->ended && windows->stuck_count == 0 && !windows->is_watched;
     if (goes_on) {
         make_ready(window, first, count, &look->unready);
         find_in_part(window, first, count, &findings);

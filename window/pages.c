@@ -44,7 +44,7 @@ struct pageshare_window_table_facts table_of(const struct window *window) {
                                                  .inherited = !window->advice.dont_fork,
                                                  .locked = windows->is_locked,
                                                  .ends = window->ends,
-                                                 .is_over = windows->is_over};
+                                                 .is_over = windows->is_over || windows->is_watched};
 }
 
 void find_facts(const struct window *window, const struct pageshare_window_table_facts *table, size_t number,

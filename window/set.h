@@ -139,8 +139,12 @@ struct windows {
     bool never_wait;        /* for a part to stay as it is for some looks */
     uint64_t crowded_until; /* this look: a page wasn't lent lately since mappings are short */
     bool is_locked;
-    bool is_over;     /* nothing is lent any more, for good */
-    int advice_cause; /* what the system refused advice with, since the last look; or 0 */
+    bool is_watched;           /* by a userfaultfd of the caller's own, for all that is known */
+    unsigned watches_open;     /* its requests that are being made */
+    uint64_t watches_begun;    /* and those that were made or are */
+    uint64_t watches_after_ns; /* smaps isn't read for them before this time */
+    bool is_over;              /* nothing is lent any more, for good */
+    int advice_cause;          /* what the system refused advice with, since the last look; or 0 */
     struct windows_counts counts;
     const char *trace_path;
     struct trace *trace;
@@ -196,7 +200,8 @@ static inline bool is_here(const struct window *window, size_t page) {
 
 /* Whether anything of a window may be lent. A child of a fork would go on showing frames that are released. With the lock. */
 static inline bool can_lend(const struct window *window) {
-    return window->advice.dont_fork && !window->ends && !window->windows->is_over;
+    const struct windows *windows = window->windows;
+    return window->advice.dont_fork && !window->ends && !windows->is_over && !windows->is_watched;
 }
 
 /* Counts those that are under way at the pages of a new window. Returns false if that can't be. With the lock. */

@@ -84,15 +84,22 @@ static bool has_page_between(void *set, const uint8_t *begin, const uint8_t *end
 }
 
 /*
- * Looks whether memory of a window was locked since the last time. That takes reading smaps, long if there are many mappings, so it is
- * done for a small part of the time only, and never with the lock.
+ * When smaps is read again after it took so much processor time: at most a tenth of the thread's share goes there, and a 200th of the
+ * time. That takes long if there are many mappings.
  */
+static uint64_t again_ns(const struct windows *windows, uint64_t begun_ns, uint64_t took_ns) {
+    enum { LEAST_TIMES = 200, OF_SHARE = 10, PERCENTS = 100 };
+    const unsigned percent = windows->has_budget ? windows->budget.percent : 0;
+    const uint64_t times = percent > 0 ? OF_SHARE * PERCENTS / percent : LEAST_TIMES;
+    return begun_ns + (times > LEAST_TIMES ? times : LEAST_TIMES) * took_ns;
+}
+
+/* Looks whether memory of a window was locked since the last time. Reads smaps, but never with the lock. */
 static void look_for_locks(struct windows *windows) {
-    enum { TIMES = 200 };
     size_t kib = 0;
     bool is_locked = false;
     int refused = locked_kib(&kib);
-    uint64_t begun = clock_now_ns();
+    uint64_t begun = clock_now_ns(), spent = clock_spent_ns();
     if (refused == 0 && (kib == windows->locked_kib || (kib > 0 && begun < windows->locks_after_ns))) return;
     if (refused == 0 && kib > 0) refused = locked_find(has_page_between, windows, &is_locked);
     if (refused != 0) { /* (the next time it tries again) */
@@ -103,7 +110,7 @@ static void look_for_locks(struct windows *windows) {
     lock_for_look(windows);
     windows->is_locked = is_locked;
     unlock_set(windows);
-    windows->locks_after_ns = begun + TIMES * (clock_now_ns() - begun);
+    if (kib > 0) windows->locks_after_ns = again_ns(windows, begun, clock_spent_ns() - spent);
     if (windows->is_locked) {
         take_all_home(windows);
         return;
@@ -115,6 +122,31 @@ static void look_for_locks(struct windows *windows) {
     unlock_set(windows);
 }
 
+/* ---- memory that the caller watches by a userfaultfd ---- */
+
+/* What it is to be asked about, or nothing while a request is being made. */
+static bool is_watch_to_find(struct windows *windows, uint64_t *begun) {
+    lock_for_look(windows);
+    bool is_due = windows->is_watched && windows->watches_open == 0 && clock_now_ns() >= windows->watches_after_ns;
+    *begun = windows->watches_begun;
+    unlock_set(windows);
+    return is_due;
+}
+
+/* Looks whether memory of a window is watched still. Reads smaps, but never with the lock: a request that was made meanwhile counts. */
+static void look_for_watches(struct windows *windows) {
+    uint64_t begun;
+    bool is_any = true;
+    if (!is_watch_to_find(windows, &begun)) return;
+    uint64_t begun_ns = clock_now_ns(), spent = clock_spent_ns();
+    int refused = watched_find(has_page_between, windows, &is_any);
+    lock_for_look(windows);
+    windows->watches_after_ns = again_ns(windows, begun_ns, clock_spent_ns() - spent);
+    if (refused == 0 && !is_any && windows->watches_begun == begun) windows->is_watched = false;
+    unlock_set(windows);
+    if (refused != 0) note_failure(windows, WINDOW_NO_PAGEMAP, refused);
+}
+
 /* ---- the tasks ---- */
 
 /* (a signal may end it early: the library says then how much is left) */
@@ -124,12 +156,14 @@ static bool sleep_on(struct look *look) {
     return true;
 }
 
-/* Other calls, and locks. Where memory is locked a look that hasn't begun goes on until it has said so. */
+/* Other calls, locks and watches. Where memory is locked a look that hasn't begun goes on until it has said so. */
 static bool attend(struct look *look) {
     struct windows *windows = look->windows;
     bool goes_on = windows->attend == NULL || windows->attend(windows->attend_opaque);
     look_for_locks(windows);
-    look->is_cut_short = look->is_cut_short || !goes_on || (look->has_begun && windows->is_locked);
+    look_for_watches(windows);
+    bool is_barred = windows->is_locked || windows_are_watched(windows);
+    look->is_cut_short = look->is_cut_short || !goes_on || (look->has_begun && is_barred);
     return !look->is_cut_short;
 }
 
@@ -156,14 +190,16 @@ static bool begin(struct look *look) {
     if (windows->counts.looks % LIMIT_EACH == 0) follow_limit(windows);
     windows->counts.pause = windows->counts.looks <= windows->crowded_until ? WINDOWS_CROWDED : WINDOWS_LENDING;
     if (!windows->has_lender || windows->lender_waits) windows->counts.pause = WINDOWS_NO_LENDER;
+    if (windows->is_watched) windows->counts.pause = WINDOWS_WATCHED;
     if (windows->is_locked) windows->counts.pause = WINDOWS_LOCKED;
     if (cause != 0) windows->counts.pause = WINDOWS_HELD;
     if (cause != 0) note_failure(windows, WINDOW_STUCK, cause);
     if (windows->is_locked) note_failure(windows, WINDOW_LOCKED, EPERM);
     if (windows->advice_cause != 0) note_failure(windows, WINDOW_ADVICE, windows->advice_cause);
     windows->advice_cause = 0;
+    bool may_look = cause == 0 && !windows->is_locked && !windows->is_watched;
     unlock_set(windows);
-    return cause == 0 && !windows->is_locked;
+    return may_look;
 }
 
 /* (windows that are made in a look come before its first one; that thread alone frees them) */

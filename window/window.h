@@ -17,7 +17,8 @@
  * Callers must:
  * - not discard (madvise), map, unmap, move or protect a part of a window, but by window_discard, window_cut and window_forget. A
  *   private page can be the copy of a frame, and a discard would uncover the frame;
- * - call window_cut or window_free before they register a part of a window with a userfaultfd of their own, or lock it (mlock);
+ * - call window_cut or window_free before they lock a part of a window (mlock); and one of these or windows_watch before they register it
+ *   with a userfaultfd of their own;
  * - say whether devices may write to pages by their physical addresses: see enum windows_pins.
  */
 #ifndef PAGESHARE_WINDOW_H
@@ -159,6 +160,15 @@ struct windows_transfer {
 struct windows_transfer windows_transfer_begin(struct windows *windows, const struct iovec *buffers, size_t count);
 void windows_transfer_end(struct windows *windows, struct windows_transfer transfer);
 
+/*
+ * A userfaultfd of the caller's own is about to watch memory of windows. From now on nothing is held, mapped or looked at, and pages show what they
+ * show; a look goes on once no userfaultfd watches a window. Returns 0, or an errno where pages are stuck. Then, and when the request has been
+ * made, windows_watch_made is called.
+ */
+int windows_watch(struct windows *windows);
+void windows_watch_made(struct windows *windows);
+bool windows_are_watched(struct windows *windows);
+
 /* Nothing is lent any more, for good, and the lender's file isn't read any more. Pages that show frames go on showing them until they are
  * taken home. */
 void windows_end(struct windows *windows);
@@ -220,6 +230,12 @@ int window_say_huge(struct window *window, size_t first, size_t count, bool may)
  */
 struct window_result window_discard(struct window *window, size_t first, size_t count);
 
+/*
+ * Pages get memory of their own, and stay in the window. `in_place`: as copies over their frames, which needs no guard, so that it can be done
+ * where the caller's own userfaultfd watches them.
+ */
+struct window_result window_home(struct window *window, size_t first, size_t count, bool in_place);
+
 /* How many pages from `first` on, of at most `most` (at least 1), are all the window's or all not; and which: see window_cut. */
 size_t window_run(struct window *window, size_t first, size_t most, bool *is_its);
 
@@ -255,6 +271,7 @@ enum windows_pause {
     WINDOWS_LOCKED,    /* memory was locked: all pages got memory of their own */
     WINDOWS_HELD,      /* pages couldn't be put back (WINDOW_STUCK) */
     WINDOWS_CROWDED,   /* as many mappings as there may be */
+    WINDOWS_WATCHED,   /* by a userfaultfd of the caller's */
 };
 
 enum { WINDOWS_TIMES = 24 };

@@ -238,6 +238,29 @@ void windows_set_pins(struct windows *windows, enum windows_pins pins) {
     unlock_set(windows);
 }
 
+int windows_watch(struct windows *windows) {
+    lock_set(windows);
+    windows->is_watched = true;
+    windows->watches_open++;
+    windows->watches_begun++;
+    int cause = free_stuck(windows);
+    unlock_set(windows);
+    return cause;
+}
+
+void windows_watch_made(struct windows *windows) {
+    lock_set(windows);
+    windows->watches_open--;
+    unlock_set(windows);
+}
+
+bool windows_are_watched(struct windows *windows) {
+    lock_set(windows);
+    bool are_watched = windows->is_watched;
+    unlock_set(windows);
+    return are_watched;
+}
+
 /* (were the frames mapped any longer, the system would make a copy of each where all memory is locked) */
 void windows_end(struct windows *windows) {
     lock_set(windows);

@@ -150,6 +150,10 @@ def case_postcopy() -> None:
     must(not wrong, f"{len(wrong)} of {len(pairs)} pages differ, such as {wrong[:5]}")
     must(sum(page[:8] == b"\xa5" * 8 for _, page in pairs) == KNOWN_PAGES // 16, "pages were written that didn't arrive")
     print(f"  completed after {took:.1f} s, requests {state['ram'].get('postcopy-requests')}; {len(pairs)} pages compared; {target.said()}")
+    good, took = until(60, lambda: target.counts().get("lent", 0) > KNOWN_PAGES // 16, 0.2)
+    must(good, f"lending doesn't go on: {target.counts()}")
+    print(f"  shares {target.counts()['lent']} pages {took:.1f} s later")
+    must(not any(one != other for one, other in zip(pages_of(source), pages_of(target))), "pages differ afterwards")
     for it in (source, target):
         it.kill()
     all_released(host)
@@ -157,7 +161,7 @@ def case_postcopy() -> None:
 
 
 def case_background() -> None:
-    """A background snapshot guards memory by a userfaultfd of QEMU's own: lending ends, and the snapshot completes."""
+    """Lending goes on with the capability of background snapshots, stops while QEMU guards the memory for one, and goes on afterwards."""
     host = Host("--trust-peers")
     made = guests(2, host, wrap=[])  # (as root: QEMU asks for a userfaultfd that holds up the kernel, too)
     settle(host, made)
@@ -166,6 +170,8 @@ def case_background() -> None:
     answer = monitor.do("migrate-set-capabilities", capabilities=capability)
     if "error" in answer:
         raise LeftOut(f"background snapshots: {answer['error']['desc']}")
+    time.sleep(3)
+    must(lent(made)[0] > 6000 and not made[0].said(), f"the capability alone: lent {lent(made)}, {made[0].said()}")
     answer = monitor.do("migrate", uri=f"exec:cat > {HERE.place.room / 'background'}")
     if "error" in answer:
         raise LeftOut(f"background snapshots: {answer['error']['desc']}")
@@ -174,9 +180,10 @@ def case_background() -> None:
     must(good and state["status"] == "completed", str(state))
     monitor.do("cont")
     go_on(made)
-    said = [line for line in made[0].said() if "userfaultfd" in line]
-    must(len(said) == 1, f"lending should end with one line: {made[0].said()}")
-    show(host, made, said[0])
+    took, said = settle(host, made), [line for line in made[0].said() if "userfaultfd" in line]
+    must(len(said) == 2 and "stops" in said[0] and "goes on" in said[1], f"{made[0].said()}")
+    go_on(made)
+    show(host, made, f"{said}, shares again after {took:.0f} s")
 
 
 def disk_case(aio: str, devices: int) -> None:

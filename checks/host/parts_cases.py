@@ -143,7 +143,8 @@ def ask_much(path: str, questions: int) -> None:
 
 def case_waits() -> None:
     """Nobody waits for what takes long in the library: a new range, the end of lending; and beside a busy disk pages are lent."""
-    run_parts(["range", "end", "disk"], program="waits")
+    run_parts(["range", "end", "guard", "disk"], program="waits")
+    run_parts(["locks"], more={"PAGESHARE_CPU": "2"}, program="waits")  # (each read takes 10 ms: one in 5 s)
 
 
 def case_newcomer() -> None:

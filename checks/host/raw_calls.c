@@ -101,7 +101,26 @@ static bool has_said(const char *words) {
     return strstr(text, words) != NULL;
 }
 
-static const char pinned[] = "devices may have pinned pages", over[] = "lending ends for good";
+static bool wait_until_said(const char *words) {
+    for (unsigned i = 0; i < SECONDS * 50 && !has_said(words); i++) usleep(20000);
+    return has_said(words);
+}
+
+static const char pinned[] = "devices may have pinned pages", over[] = "lending ends for good", stops[] = "lending stops";
+
+/* How many pages show a frame: they are a file's, though the memory is anonymous. */
+static size_t shown(const uint8_t *at, size_t pages) {
+    const uint64_t is_file = 1ull << 61;
+    size_t count = 0;
+    int file = open("/proc/self/pagemap", O_RDONLY | O_CLOEXEC);
+    for (size_t i = 0; i < pages; i++) {
+        uint64_t entry = is_file;
+        ssize_t got = pread(file, &entry, sizeof entry, (off_t)(((uintptr_t)at / PAGE + i) * sizeof entry));
+        count += got != sizeof entry || (entry & is_file) != 0;
+    }
+    close(file);
+    return count;
+}
 
 /* A file by O_DIRECT, which the process has from the beginning. */
 static int open_direct(void) {
@@ -187,10 +206,40 @@ static void raw_guard(void) {
     begin_hearing();
     uint8_t *at = lent(PAGES);
     struct uffdio_register asked = {.range = {(uintptr_t)at, PAGES * PAGE}, .mode = UFFDIO_REGISTER_MODE_WP};
+    struct uffdio_writeprotect guard = {.range = asked.range, .mode = UFFDIO_WRITEPROTECT_MODE_WP};
     check(syscall(SYS_ioctl, faults, UFFDIO_REGISTER, &asked) == 0, "UFFDIO_REGISTER");
-    check(has_said(over), "once memory is guarded, nothing is lent");
+    check(!has_said(stops), "memory that isn't guarded yet may show frames");
+    check(syscall(SYS_ioctl, faults, UFFDIO_WRITEPROTECT, &guard) == 0, "UFFDIO_WRITEPROTECT");
+    check(has_said(stops) && shown(at, PAGES) == 0, "once memory is guarded, it shows no frames");
     check(differing(at, 0, PAGES, 1) == 0, "pages keep their content");
+    close(faults);
+    fill(at, PAGES, 7);
+    check(wait_until_said("lending goes on") && wait_for_count("lent", PAGES, SECONDS), "without the guard all is lent again");
+    check(!has_said(over) && differing(at, 0, PAGES, 7) == 0, "pages keep their content then");
     check(mprotect(at, PAGE, PROT_READ) == 0 && munmap(at, PAGES * PAGE) == 0, "mprotect and munmap");
+}
+
+/* As for a postcopy: pages that are missing wait for the monitor, and all others are there. Then all is lent again. */
+static void raw_missing(void) {
+    int faults = open_faults(0);
+    if (faults < 0) return left_out("no userfaultfd of its own");
+    begin_hearing();
+    uint8_t *at = lent(PAGES), *page = mapped(1);
+    struct uffdio_register asked = {.range = {(uintptr_t)at, PAGES * PAGE}, .mode = UFFDIO_REGISTER_MODE_MISSING};
+    struct uffdio_copy copy = {.dst = (uintptr_t)at + 9 * PAGE, .src = (uintptr_t)page, .len = PAGE};
+    memset(page, 5, PAGE); /* (as `fill` fills that page) */
+    check(madvise(at + 9 * PAGE, PAGE, MADV_DONTNEED) == 0, "MADV_DONTNEED");
+    check(syscall(SYS_ioctl, faults, UFFDIO_REGISTER, &asked) == 0, "UFFDIO_REGISTER");
+    check(has_said(stops) && shown(at, PAGES) == 0, "once memory is watched, it shows no frames");
+    usleep(1500000); /* (looks don't touch what is missing) */
+    check(ioctl(faults, UFFDIO_COPY, &copy) == 0, "the discarded page is missing");
+    check(madvise(at + 11 * PAGE, PAGE, MADV_DONTNEED) == 0, "MADV_DONTNEED of a page that is watched");
+    copy.dst = (uintptr_t)at + 11 * PAGE;
+    memset(page, 6, PAGE);
+    check(ioctl(faults, UFFDIO_COPY, &copy) == 0 && differing(at, 0, PAGES, 1) == 0, "pages have their content");
+    check(ioctl(faults, UFFDIO_UNREGISTER, &asked.range) == 0, "UFFDIO_UNREGISTER");
+    check(wait_until_said("lending goes on") && wait_for_count("lent", PAGES, SECONDS), "without the watch all is lent again");
+    check(!has_said(over) && differing(at, 0, PAGES, 1) == 0, "pages keep their content then");
 }
 
 static void raw_advice(void) {
@@ -262,6 +311,45 @@ static void raw_signals(void) {
 
 static atomic_bool is_over;
 static atomic_uint made, failed;
+
+static void sets_up_again(int number) {
+    (void)number;
+    atomic_fetch_add(&failed, !can_set_up());
+    atomic_fetch_add(&made, 1);
+}
+
+/* Reads by O_DIRECT, with many buffers each, so that the library often has its lock. */
+static void *reads(void *with) {
+    enum { BUFFERS = 512 };
+    static struct iovec buffers[BUFFERS];
+    int file = open_direct();
+    for (size_t i = 0; i < BUFFERS; i++) buffers[i] = (struct iovec){(uint8_t *)with + i * PAGE, PAGE};
+    while (!atomic_load(&is_over))
+        if (preadv(file, buffers, BUFFERS, 0) != PAGE) atomic_fetch_add(&failed, errno != EINTR);
+    return NULL;
+}
+
+/* A signal's handler makes such a call wherever its thread is, also amid the library's own steps: nobody waits for ever. */
+static void raw_handler(void) {
+    enum { CALLS = 2000, WAITS = 50000 };
+    const struct sigaction action = {.sa_handler = sets_up_again, .sa_flags = SA_RESTART};
+    pthread_t thread;
+    uint8_t *at = lent(PAGES);
+    sigaction(SIGUSR1, &action, NULL);
+    pthread_create(&thread, NULL, reads, at);
+    for (unsigned i = 0; i < CALLS && atomic_load(&made) == i; i++) {
+        pthread_kill(thread, SIGUSR1);
+        for (unsigned waits = 0; waits < WAITS && atomic_load(&made) == i; waits++) usleep(100);
+        usleep(i * 37 % 300);
+    }
+    printf("  %u calls of the handler\n", atomic_load(&made));
+    check(atomic_load(&made) == CALLS, "each signal's handler ends");
+    check(atomic_load(&failed) == 0, "all calls are made");
+    check(differing(at, PAGES / 2, PAGES, 1) == 0, "pages that nobody writes keep their content");
+    if (wrong > 0) exit(1); /* (the thread may wait for ever) */
+    atomic_store(&is_over, true);
+    pthread_join(thread, NULL);
+}
 
 static void *makes(void *unused) {
     while (!atomic_load(&is_over)) {
@@ -470,10 +558,12 @@ static const struct way {
     {"raw-files", raw_files},
     {"raw-map", raw_map},
     {"raw-guard", raw_guard},
+    {"raw-missing", raw_missing},
     {"raw-advice", raw_advice},
     {"raw-child", raw_child},
     {"raw-signals", raw_signals},
     {"raw-threads", raw_threads},
+    {"raw-handler", raw_handler},
     {"raw-costs", raw_costs},
     {"stays", stays},
     {"said-early", said_early},

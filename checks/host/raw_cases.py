@@ -6,7 +6,7 @@ import subprocess
 from parts_cases import compile_parts, run_parts, start
 from places import AS_NOBODY, HERE, Host, all_released, must
 
-RAW = ("submit", "ring", "buffers", "files", "map", "guard", "advice", "child", "signals", "threads", "costs")
+RAW = ("submit", "ring", "buffers", "files", "map", "guard", "missing", "advice", "child", "signals", "handler", "threads", "costs")
 # Slow looks of a small share.
 SLOW = {"PAGESHARE_PERIOD_MS": "1000", "PAGESHARE_FILTER": "0"}
 

@@ -1,7 +1,9 @@
 /*
- * A stand-in for a monitor, of which some calls take long: waits range|end|disk. Others mustn't wait for them.
+ * A stand-in for a monitor, of which some calls take long: waits range|end|guard|disk|locks. Others mustn't wait for them.
  *   range   a range becomes a window while reading the process's mappings takes a second each time;
- *   end     lending ends, by a userfaultfd of the monitor's own;
+ *   end     all pages get memory of their own before the monitor watches for missing pages by a userfaultfd;
+ *   guard   and where they are before it guards them against writes by one;
+ *   locks   memory elsewhere is locked and unlocked, and reading the mappings takes long: it is read within a tenth of the thread's share;
  *   disk    threads read by O_DIRECT with many buffers each, and idle pages between these are lent.
  * Prints figures, and what isn't so. Status 0 if all is so, 77 if it is left out, else 1.
  */
@@ -22,6 +24,13 @@ enum { PAGE = 4096, LEFT_OUT = 77 };
 
 static atomic_bool is_slow, is_over;
 static atomic_int slow_reads;
+static atomic_int dear_ms; /* processor time that it takes beside that */
+
+static double clock_of(clockid_t clock) {
+    struct timespec time;
+    clock_gettime(clock, &time);
+    return (double)time.tv_sec + (double)time.tv_nsec / 1e9;
+}
 
 /* As the C library's, but that a list of mappings takes long to read. */
 __attribute__((visibility("default"))) int open(const char *path, int flags, ...) {
@@ -31,16 +40,15 @@ __attribute__((visibility("default"))) int open(const char *path, int flags, ...
     va_end(more);
     if (atomic_load(&is_slow) && strcmp(path, "/proc/self/smaps") == 0) {
         atomic_fetch_add(&slow_reads, 1);
-        sleep(1);
+        double end = clock_of(CLOCK_THREAD_CPUTIME_ID) + (double)atomic_load(&dear_ms) / 1000;
+        while (clock_of(CLOCK_THREAD_CPUTIME_ID) < end) {
+        }
+        if (atomic_load(&dear_ms) == 0) sleep(1);
     }
     return (int)syscall(SYS_openat, AT_FDCWD, path, flags, mode);
 }
 
-static double now(void) {
-    struct timespec time;
-    clock_gettime(CLOCK_MONOTONIC, &time);
-    return (double)time.tv_sec + (double)time.tv_nsec / 1e9;
-}
+static double now(void) { return clock_of(CLOCK_MONOTONIC); }
 
 static uint8_t *make_memory(size_t pages) {
     void *at = mmap(NULL, pages * PAGE, PROT_READ | PROT_WRITE, MAP_PRIVATE | MAP_ANONYMOUS, -1, 0);
@@ -116,28 +124,47 @@ static int range(void) {
     return atomic_load(&longest) < 0.5 ? 0 : 1;
 }
 
-static int end(void) {
-    enum { PAGES = 16384, GIVEN_UP = 5 };
+/* `of_writes`: the page that is given up lies outside what is guarded, as who guards pages gives none of them up. */
+static int end(bool of_writes) {
+    enum { PAGES = 16384, GIVEN_UP = 5, GUARDED = PAGES - GIVEN_UP - 1 };
     int faults = (int)syscall(SYS_userfaultfd, O_CLOEXEC | O_NONBLOCK | UFFD_USER_MODE_ONLY);
-    struct uffdio_api api = {.api = UFFD_API};
+    struct uffdio_api api = {.api = UFFD_API, .features = of_writes ? UFFD_FEATURE_PAGEFAULT_FLAG_WP : 0};
     if (faults < 0 || ioctl(faults, UFFDIO_API, &api) != 0)
         return printf("left out: userfaultfd: %s\n", strerror(errno)), LEFT_OUT;
     uint8_t *at = lend(PAGES);
-    struct uffdio_register all = {.range = {.start = (uintptr_t)at, .len = (size_t)PAGES * PAGE},
-                                  .mode = UFFDIO_REGISTER_MODE_WP};
+    struct uffdio_register all = {.range = {.start = (uintptr_t)at, .len = (size_t)GUARDED * PAGE},
+                                  .mode = of_writes ? UFFDIO_REGISTER_MODE_WP : UFFDIO_REGISTER_MODE_MISSING};
+    struct uffdio_writeprotect guard = {.range = all.range, .mode = UFFDIO_WRITEPROTECT_MODE_WP};
     pthread_t thread = start(give_up, at + (PAGES - GIVEN_UP) * PAGE);
     usleep(200000);
     atomic_store(&longest, 0);
     double begun = now();
     int status = ioctl(faults, UFFDIO_REGISTER, &all);
+    if (status == 0 && of_writes) status = ioctl(faults, UFFDIO_WRITEPROTECT, &guard);
     double took = now() - begun;
     stop(thread);
+    close(faults);
     size_t wrong = 0;
     for (size_t i = 0; i < PAGES; i++) wrong += has(at + i * PAGE, i == PAGES - GIVEN_UP ? 0 : 1 + i % (PAGES / 2)) ? 0 : 1;
     printf("  the end took %.0f ms, a discard meanwhile %.1f ms at most; %zu wrong pages\n", took * 1000,
            atomic_load(&longest) * 1000, wrong);
-    if (status != 0 || wrong > 0) return perror("UFFDIO_REGISTER"), 1;
+    if (status != 0 || wrong > 0) return perror("the monitor's userfaultfd"), 1;
     return atomic_load(&longest) < took / 2 ? 0 : 1;
+}
+
+/* Counts how often the mappings are read for locked memory. */
+static int locks(void) {
+    enum { PAGES = 512, SECONDS = 12, DEAR_MS = 10, READS_MOST = 4 };
+    uint8_t *other = make_memory(16);
+    lend(PAGES);
+    usleep(500000);
+    atomic_store(&dear_ms, DEAR_MS);
+    atomic_store(&is_slow, true);
+    for (size_t i = 0; i < SECONDS * 20; i++, usleep(50000))
+        if ((i % 2 == 0 ? mlock : munlock)(other, (1 + i / 2 % 16) * PAGE) != 0)
+            return printf("left out: mlock: %s\n", strerror(errno)), LEFT_OUT;
+    printf("  read %d times in %d s\n", atomic_load(&slow_reads), SECONDS);
+    return atomic_load(&slow_reads) > 0 && atomic_load(&slow_reads) <= READS_MOST ? 0 : 1;
 }
 
 enum { DISK_PAGES = 8192, APART = 4, READERS = 4, BUFFERS = 32 };
@@ -187,10 +214,12 @@ static int busy_disk(void) {
 
 int main(int count, char **words) {
     const char *way = count == 2 ? words[1] : "";
-    int status = strcmp(way, "range") == 0  ? range()
-                 : strcmp(way, "end") == 0  ? end()
-                 : strcmp(way, "disk") == 0 ? busy_disk()
-                                            : 2;
+    int status = strcmp(way, "range") == 0   ? range()
+                 : strcmp(way, "end") == 0   ? end(false)
+                 : strcmp(way, "guard") == 0 ? end(true)
+                 : strcmp(way, "disk") == 0  ? busy_disk()
+                 : strcmp(way, "locks") == 0 ? locks()
+                                             : 2;
     fflush(stdout);
     return status;
 }

@@ -31,23 +31,43 @@ bool calls_prepare_ring(void) {
 
 bool calls_prepare_registering(void) { return sharing_devices(DEVICES_PIN_PAGES); }
 
-/* Whether a userfaultfd is to watch memory of a window. (Where there is no such struct the system refuses the request.) */
-static bool watches_window(const void *with) {
+static void *begin_of(const struct uffdio_range *range) { return (void *)(uintptr_t)range->start; }
+
+/* A userfaultfd is to watch memory, perhaps of a window. (Where there is no such struct the system refuses the request.) */
+static bool prepare_watch(const void *with, bool *is_begun) {
     struct uffdio_register asked;
-    return buffers_may_meet() && buffers_read(&asked, with, sizeof asked) &&
-           sharing_meets((const void *)(uintptr_t)asked.range.start, asked.range.len);
+    bool is_it =
+        buffers_may_meet() && buffers_read(&asked, with, sizeof asked) && sharing_meets(begin_of(&asked.range), asked.range.len);
+    return !is_it || sharing_watch((asked.mode & ~UFFDIO_REGISTER_MODE_WP) != 0, is_begun);
 }
 
-bool calls_prepare_request(unsigned long request, const void *with) {
-    if (request == UFFDIO_REGISTER && watches_window(with))
-        return sharing_end("the process guards its memory by a userfaultfd of its own (postcopy migration, background snapshot)");
+/* One is to guard memory against writes, or no longer. */
+static bool prepare_guard(const void *with) {
+    struct uffdio_writeprotect asked;
+    bool is_it = buffers_may_meet() && buffers_read(&asked, with, sizeof asked) &&
+                 (asked.mode & UFFDIO_WRITEPROTECT_MODE_WP) != 0 && sharing_meets(begin_of(&asked.range), asked.range.len);
+    return !is_it || sharing_protect(begin_of(&asked.range), asked.range.len);
+}
+
+bool calls_prepare_request(unsigned long request, const void *with, bool *is_followed) {
+    *is_followed = kvm_offer_is_about(request);
+    if (request == UFFDIO_REGISTER) return prepare_watch(with, is_followed);
+    if (request == UFFDIO_WRITEPROTECT) return prepare_guard(with);
     enum devices devices = devices_of_request(request, with);
     return devices == DEVICES_NONE || sharing_devices(devices);
 }
 
+void calls_request_made(int descriptor, unsigned long request, const void *with, long status) {
+    int cause = errno;
+    if (request == UFFDIO_REGISTER) sharing_watch_made();
+    else if (status == 0) kvm_offer_seen(descriptor, request, with);
+    errno = cause;
+}
+
 size_t calls_requests(uint32_t requests[CALLS_REQUESTS_MOST]) {
-    size_t count = devices_requests(requests, CALLS_REQUESTS_MOST - 1);
+    size_t count = devices_requests(requests, CALLS_REQUESTS_MOST - 2);
     requests[count++] = UFFDIO_REGISTER;
+    requests[count++] = UFFDIO_WRITEPROTECT;
     return count + kvm_offer_requests(requests + count, CALLS_REQUESTS_MOST - count);
 }
 

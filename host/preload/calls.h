@@ -13,12 +13,15 @@
 
 /*
  * io_setup; io_uring_setup; buffers or files that are registered with an io_uring; a request of ioctl with what it is made with. Returns false,
- * with errno, if lending would have to end for the call and can't: then it isn't to be made.
+ * with errno, if lending would have to end for the call and can't: then it isn't to be made. `*is_followed`: once it has been made,
+ * calls_request_made is to be called.
  */
 bool calls_prepare_context(void);
 bool calls_prepare_ring(void);
 bool calls_prepare_registering(void);
-bool calls_prepare_request(unsigned long request, const void *with);
+bool calls_prepare_request(unsigned long request, const void *with, bool *is_followed);
+/* A request was made of a descriptor, and returned this. errno stays as it is. */
+void calls_request_made(int descriptor, unsigned long request, const void *with, long status);
 
 /* The requests of ioctl that matter, as many as are returned. */
 enum { CALLS_REQUESTS_MOST = 24 };

@@ -2,7 +2,6 @@
 #include "filter.h"
 #include "calls.h"
 #include "devices.h"
-#include "kvm_offer.h"
 #include "sharing.h"
 #include "slices.h"
 #include "trouble.h"
@@ -178,17 +177,17 @@ static void set(struct answer *answer, long status) {
 static void prepare(const struct seccomp_data *data, struct answer *answer) {
     const uint32_t request = (uint32_t)data->args[1];
     const void *with = (const void *)(uintptr_t)data->args[2];
-    bool may = true;
+    bool may = true, is_followed = false;
     ssize_t status;
     if (data->nr == SYS_io_setup) may = calls_prepare_context();
     if (data->nr == SYS_io_uring_setup) may = calls_prepare_ring();
     if (data->nr == SYS_io_uring_register) may = calls_prepare_registering();
-    if (data->nr == SYS_ioctl) may = calls_prepare_request(request, with);
+    if (data->nr == SYS_ioctl) may = calls_prepare_request(request, with, &is_followed);
     if (!may) return set(answer, -1);
-    if (data->nr == SYS_ioctl && kvm_offer_is_about(request)) {
-        /* (what is offered by it depends on how it ends. All threads have the same descriptors, and the same memory) */
+    if (is_followed) {
+        /* (what is done then depends on when and how it ends. All threads have the same descriptors, and the same memory) */
         long made = filter_pass(SYS_ioctl, (long)data->args[0], (long)request, (long)with, 0, 0);
-        if (made == 0) kvm_offer_seen((int)data->args[0], request, with);
+        calls_request_made((int)data->args[0], request, with, made);
         return set(answer, made);
     }
     bool is_advice = data->nr == SYS_process_madvise;

@@ -1,6 +1,7 @@
 #define _GNU_SOURCE
 #include "kvm_offer.h"
 #include "sharing.h"
+#include "signals.h"
 #include "trouble.h"
 #include <linux/kvm.h>
 #include <pthread.h>
@@ -43,6 +44,8 @@ static struct slot slot_of(int machine, const struct kvm_userspace_memory_region
 /* Puts a slot in the place of what the machine had by this number, which it returns. Where there is no place, `*slot` is empty. */
 static struct slot put(struct slot *slot) {
     struct slot *place = NULL, before = {.bytes = 0};
+    sigset_t signals;
+    signals_hold(&signals);
     pthread_mutex_lock(&lock);
     for (size_t i = 0; i < SLOTS_MOST; i++) {
         bool is_it = slots[i].bytes > 0 && slots[i].machine == slot->machine && slots[i].number == slot->number;
@@ -54,6 +57,7 @@ static struct slot put(struct slot *slot) {
     if (place) *place = *slot;
     else slot->bytes = 0;
     pthread_mutex_unlock(&lock);
+    signals_let(&signals);
     return before;
 }
 
@@ -61,12 +65,15 @@ static struct slot put(struct slot *slot) {
 static bool is_elsewhere(const struct slot *slot) {
     const char *begin = slot->at, *end = begin + slot->bytes;
     bool found = false;
+    sigset_t signals;
+    signals_hold(&signals);
     pthread_mutex_lock(&lock);
     for (size_t i = 0; i < SLOTS_MOST && !found; i++) {
         const char *at = slots[i].at;
         found = slots[i].bytes > 0 && at < end && at + slots[i].bytes > begin;
     }
     pthread_mutex_unlock(&lock);
+    signals_let(&signals);
     return found;
 }
 

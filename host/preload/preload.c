@@ -12,7 +12,6 @@
  */
 #include "calls.h"
 #include "filter.h"
-#include "kvm_offer.h"
 #include "sharing.h"
 #include "trouble.h"
 #include <dlfcn.h>
@@ -205,9 +204,10 @@ PUBLIC int ioctl(int descriptor, unsigned long request, ...) {
     va_start(rest, request);
     void *with = va_arg(rest, void *);
     va_end(rest);
-    if (!sharing_is_inside() && !calls_prepare_request(request, with)) return -1;
+    bool is_followed = false;
+    if (!sharing_is_inside() && !calls_prepare_request(request, with, &is_followed)) return -1;
     int status = (int)filter_pass(SYS_ioctl, descriptor, (long)request, (long)with, 0, 0);
-    if (status == 0 && !sharing_is_inside()) kvm_offer_seen(descriptor, request, with);
+    if (is_followed) calls_request_made(descriptor, request, with, status);
     return request == USERFAULTFD_IOC_NEW && sharing_is_inside() ? sharing_own(status) : status;
 }
 

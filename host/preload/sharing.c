@@ -3,6 +3,7 @@
 #include "connection.h"
 #include "filter.h"
 #include "ranges.h"
+#include "signals.h"
 #include "trouble.h"
 #include "window.h"
 #include <fcntl.h>
@@ -17,7 +18,7 @@
 
 enum {
     LEAST_BYTES = 65536,    /* a range that is smaller is no window: it saves nothing */
-    PART_BYTES = 1 << 21,   /* of a range, that leave its window at once when all do */
+    PART_BYTES = 1 << 18,   /* of a range, that leave its window at once when all do */
     REPORT_BYTES = 1 << 20, /* and of one that is smaller than that nothing is printed */
     REPORTS_MOST = 16,      /* lines of the process on standard error in all */
     SPARE_DESCRIPTORS = 32, /* the library's descriptors are among so many last ones */
@@ -85,30 +86,48 @@ void sharing_disown(int descriptor) {
 
 /* ---- ranges ---- */
 
+static _Thread_local sigset_t signals_before __attribute__((tls_model("initial-exec")));
+
+/* What this thread does is the library's, and no handler of a signal runs in between. */
+static void step_in(void) {
+    if (inside == 0) signals_hold(&signals_before);
+    inside++;
+}
+
+static void step_out(void) {
+    const int cause = errno;
+    if (--inside == 0) signals_let(&signals_before);
+    errno = cause;
+}
+
 /* Whether this thread could be cancelled before it took the lock. */
 static _Thread_local int could_cancel __attribute__((tls_model("initial-exec")));
 static _Thread_local int number __attribute__((tls_model("initial-exec"))); /* of this thread, or 0: it isn't known yet */
 
-static atomic_uint waiting; /* threads that wait for the lock: who takes it again and again lets them go first */
+/* Threads that wait for the lock, and how often it was taken: who takes it again and again lets those go first that wait. */
+static atomic_uint waiting, taken;
 
 /* All that concerns ranges is done between these two. A thread that was cancelled there would keep the lock for ever. */
 static void enter(void) {
     int before = PTHREAD_CANCEL_ENABLE;
-    inside++;
+    step_in();
     pthread_setcancelstate(PTHREAD_CANCEL_DISABLE, &before);
     if (number == 0) number = gettid();
     atomic_fetch_add(&waiting, 1);
     pthread_mutex_lock(&lock);
     atomic_fetch_sub(&waiting, 1);
+    atomic_fetch_add(&taken, 1);
     atomic_store(&holder, number);
     could_cancel = before;
 }
 
-/* Lets threads go first that wait for the lock. */
+/* Lets threads go first that wait for the lock. (On a busy computer one that is woken may get a processor some time later.) */
 static void give_way(void) {
-    enum { PAUSES = 100 };
+    const uint64_t most_ns = 1000000000, begun_ns = now_ns();
     const struct timespec pause = {.tv_nsec = 20000};
-    for (int i = 0; i < PAUSES && atomic_load(&waiting) > 0; i++) nanosleep(&pause, NULL);
+    const unsigned wait = atomic_load(&waiting), before = atomic_load(&taken);
+    while (atomic_load(&waiting) > 0 && atomic_load(&taken) - before < wait && now_ns() - begun_ns < most_ns)
+        nanosleep(&pause, NULL);
 }
 
 static void leave(void) {
@@ -116,7 +135,7 @@ static void leave(void) {
     atomic_store(&holder, 0);
     pthread_mutex_unlock(&lock);
     pthread_setcancelstate(before, NULL);
-    inside--;
+    step_out();
 }
 
 /* The end of a range of whole pages, as the system rounds it. */
@@ -196,22 +215,61 @@ static struct window_result leave_by(leave_window *call, const struct piece *pie
     return result;
 }
 
+/* What is done with a part of a range, with the lock. Adds to `*kept` how many pages stay over frames for good. */
+typedef struct window_result part_do(const struct piece *piece, size_t *kept);
+
+/* Does it with the next part before `end`, from `*at` on, which becomes its end. Returns false if there is none. With the lock. */
+static bool do_part(uint8_t **at, uint8_t *end, part_do *does, struct window_result *result, size_t *kept) {
+    struct piece piece = ranges_next(*at, end);
+    size_t most = PART_BYTES - (uintptr_t)piece.at % PART_BYTES;
+    if (!piece.range) return false;
+    if (piece.bytes > most) piece.bytes = most;
+    *at = piece.at + piece.bytes;
+    *result = does(&piece, kept);
+    return true;
+}
+
+/* Does it with all ranges between two addresses, part for part: between two of them other calls go on. Takes the lock. */
+static struct window_result do_parts(uint8_t *at, uint8_t *end, part_do *does, size_t *kept) {
+    struct window_result result = {.status = WINDOW_OK};
+    *kept = 0;
+    for (bool is_any = true; is_any && result.status == WINDOW_OK;) {
+        give_way();
+        enter();
+        is_any = do_part(&at, end, does, &result, kept);
+        leave();
+    }
+    return result;
+}
+
+static struct window_result do_all(part_do *does) {
+    size_t kept;
+    return do_parts(NULL, (uint8_t *)(UINTPTR_MAX / PAGE * PAGE), does, &kept);
+}
+
 /* The same by window_leave: the monitor may protect and lock the piece, and says no advice of it that counts. */
-static struct window_result cut(const struct piece *piece, size_t *kept) { return leave_by(window_leave, piece, kept); }
+static struct window_result cut(const struct piece *piece, size_t *kept) {
+    size_t found;
+    struct window_result result = leave_by(window_leave, piece, &found);
+    *kept += found;
+    return result;
+}
+
+/* Says of each range that meets these addresses that lending ends there. Takes the lock. */
+static void say_ends(uint8_t *at, uint8_t *end, const char *why) {
+    enter();
+    for (struct piece piece; (piece = ranges_next(at, end)).range != NULL; at = piece.at + piece.bytes)
+        if (piece.bytes >= REPORT_BYTES) say("lending ends", piece.bytes, why);
+    leave();
+}
 
 enum sharing_left sharing_leave(void *from, size_t bytes, const char *why) {
     uint8_t *at = from, *end = end_of(at, bytes);
-    struct window_result result = {.status = WINDOW_OK};
-    size_t kept = 0, all_kept = 0;
+    size_t kept = 0;
     if (!is_aligned(at)) return SHARING_LEFT; /* the system refuses it */
-    enter();
-    for (struct piece piece; result.status == WINDOW_OK && (piece = ranges_next(at, end)).range != NULL; all_kept += kept) {
-        at = piece.at + piece.bytes;
-        if (piece.bytes >= REPORT_BYTES) say("lending ends", piece.bytes, why);
-        result = cut(&piece, &kept);
-    }
-    leave();
-    if (result.status == WINDOW_OK) return all_kept == 0 ? SHARING_LEFT : SHARING_KEPT;
+    say_ends(at, end, why);
+    struct window_result result = do_parts(at, end, cut, &kept);
+    if (result.status == WINDOW_OK) return kept == 0 ? SHARING_LEFT : SHARING_KEPT;
     say("a part of a window can't leave it", bytes, window_status_words(result.status));
     errno = errno_of(result);
     return SHARING_REFUSED;
@@ -315,41 +373,26 @@ int sharing_say_huge(void *from, size_t bytes, bool may) {
     return -1;
 }
 
-/* The next part of a range leaves its window, from `*at` on, which becomes its end. Returns false if there is none. With the lock. */
-static bool leave_part(uint8_t **at, struct window_result *result) {
-    struct piece piece = ranges_next(*at, (uint8_t *)(UINTPTR_MAX / PAGE * PAGE));
-    size_t kept, most = PART_BYTES - (uintptr_t)piece.at % PART_BYTES;
-    if (!piece.range) return false;
-    if (piece.bytes > most) piece.bytes = most;
-    *at = piece.at + piece.bytes;
-    *result = cut(&piece, &kept);
-    return true;
-}
-
-/* All ranges leave their windows, part for part: between two of them other calls go on. Takes the lock. */
-static struct window_result leave_all(void) {
-    struct window_result result = {.status = WINDOW_OK};
-    bool is_any = true;
-    for (uint8_t *at = NULL; is_any && result.status == WINDOW_OK;) {
-        give_way();
-        enter();
-        is_any = leave_part(&at, &result);
-        leave();
-    }
-    return result;
+/* With the lock. */
+static size_t bytes_of_ranges(void) {
+    size_t bytes = 0;
+    for (size_t i = 0; i < ranges_count(); i++) bytes += ranges_at(i).bytes;
+    return bytes;
 }
 
 bool sharing_end(const char *why) {
     bool none = false;
     if (inside || !is_owner() || atomic_load(&all_home)) return true;
     enter();
-    size_t bytes = 0;
-    for (size_t i = 0; i < ranges_count(); i++) bytes += ranges_at(i).bytes;
+    size_t bytes = bytes_of_ranges();
     if (atomic_compare_exchange_strong(&over, &none, true)) say("lending ends for good", bytes, why);
-    struct windows *set = atomic_load(&windows);
-    if (set) windows_end(set);
     leave();
-    struct window_result result = leave_all();
+    /* (without the lock: to unmap all frames takes long) */
+    struct windows *set = atomic_load(&windows);
+    step_in();
+    if (set) windows_end(set);
+    step_out();
+    struct window_result result = do_all(cut);
     if (result.status == WINDOW_OK) atomic_store(&all_home, true);
     if (result.status == WINDOW_OK) return true;
     say("pages can't get memory of their own yet", bytes, window_status_words(result.status));
@@ -357,11 +400,91 @@ bool sharing_end(const char *why) {
     return false;
 }
 
-/* ---- devices ---- */
-
 static enum windows_pins pins_of(enum devices devices) {
     return devices < DEVICES_PIN_PAGES ? WINDOWS_PINS_NEVER : WINDOWS_PINS_POSSIBLE;
 }
+
+/* ---- a userfaultfd of the monitor's own ---- */
+
+static atomic_bool has_stopped; /* lending, as was said, until no userfaultfd watches a window */
+
+static struct window_result take_home(const struct piece *piece, size_t *kept) {
+    (void)kept;
+    const struct window_result none = {.status = WINDOW_OK};
+    return piece->window ? window_home(piece->window, piece->first, piece->bytes / PAGE, false) : none;
+}
+
+static struct window_result copy_home(const struct piece *piece, size_t *kept) {
+    (void)kept;
+    const struct window_result none = {.status = WINDOW_OK};
+    return piece->window ? window_home(piece->window, piece->first, piece->bytes / PAGE, true) : none;
+}
+
+/* Says once that lending stops or goes on. Takes the lock. */
+static void say_stopped(bool has, const char *what, const char *why) {
+    if (atomic_exchange(&has_stopped, has) == has) return;
+    enter();
+    size_t bytes = bytes_of_ranges();
+    leave();
+    say(what, bytes, why);
+}
+
+/* Whether pages came home for a watch that begins. `result` is what that came to. */
+static bool are_home(struct window_result result) {
+    say_stopped(true, "lending stops",
+                "the process guards its memory by a userfaultfd of its own (postcopy migration, background snapshot)");
+    if (result.status == WINDOW_OK) return true;
+    errno = errno_of(result);
+    return false;
+}
+
+/* No range that is just being read becomes a window for a while: then it is seen that it is watched. Takes the lock. */
+static void wait_all(void) {
+    enter();
+    for (size_t i = 0; i < ranges_count(); i++) ranges_at(i).range->said = now_ns();
+    leave();
+}
+
+bool sharing_watch(bool is_of_missing, bool *is_begun) {
+    struct windows *set = atomic_load(&windows);
+    *is_begun = false;
+    if (inside || !is_owner()) return true;
+    if (!set) return wait_all(), true;
+    step_in();
+    int cause = windows_watch(set);
+    step_out();
+    /* (where devices may pin pages, copies in place would stay private for good) */
+    bool is_whole = is_of_missing || pins_of((enum devices)atomic_load(&worst)) == WINDOWS_PINS_POSSIBLE;
+    *is_begun = cause == 0 && (!is_whole || are_home(do_all(take_home)));
+    if (*is_begun) return true;
+    cause = cause != 0 ? cause : errno;
+    sharing_watch_made();
+    errno = cause;
+    return false;
+}
+
+void sharing_watch_made(void) {
+    step_in();
+    windows_watch_made(atomic_load(&windows));
+    step_out();
+}
+
+bool sharing_protect(void *at, size_t bytes) {
+    size_t kept;
+    if (inside || !is_owner() || !is_aligned(at)) return true;
+    return are_home(do_parts(at, end_of(at, bytes), copy_home, &kept));
+}
+
+/* By the library's own thread. */
+static bool are_watched(void) {
+    struct windows *set = atomic_load(&windows);
+    bool are = set && windows_are_watched(set);
+    if (!are && !atomic_load(&over))
+        say_stopped(false, "lending goes on", "no userfaultfd of its own guards the process's memory any more");
+    return are;
+}
+
+/* ---- devices ---- */
 
 bool sharing_devices(enum devices devices) {
     static atomic_bool is_said;
@@ -372,9 +495,9 @@ bool sharing_devices(enum devices devices) {
     struct windows *set = atomic_load(&windows);
     if (devices == DEVICES_WRITE_ALL) return sharing_end("a device is given to the guest, or may write to its memory unnoticed");
     if (pins_of(devices) != WINDOWS_PINS_POSSIBLE || !is_owner()) return true;
-    inside++;
+    step_in();
     if (set) windows_set_pins(set, WINDOWS_PINS_POSSIBLE);
-    inside--;
+    step_out();
     if (!atomic_exchange(&is_said, true))
         log_line("devices may have pinned pages (io_uring, io_submit or aio_read with O_DIRECT, or vmx): those that were lent "
                  "and written stay private from now on");
@@ -397,18 +520,18 @@ void sharing_transfers_begin(struct sharing_transfers *transfers, const struct i
         if (!set) return;
         atomic_fetch_sub(&early, 1);
     }
-    inside++;
+    step_in();
     transfers->are = windows_transfer_begin(set, buffers, (size_t)count);
-    inside--;
+    step_out();
 }
 
 void sharing_transfers_end(const struct sharing_transfers *transfers) {
     struct windows *set = atomic_load(&windows);
     if (!is_owner()) return; /* (a child after a fork, where the lock inside may be another thread's for ever) */
-    inside++;
+    step_in();
     if (transfers->is_early) atomic_fetch_sub(&early, 1);
     else if (set) windows_transfer_end(set, transfers->are);
-    inside--;
+    step_out();
 }
 
 /* ---- windows ---- */
@@ -454,6 +577,7 @@ static void open_range(const struct piece *settled, uint64_t said, struct window
 void ranges_open(unsigned flags) {
     struct piece settled = {.range = NULL};
     uint64_t said = 0;
+    if (are_watched()) return;
     for (size_t left = RANGES_MOST; find_settled(&left, &settled, &said);) {
         struct window *read = NULL;
         struct window_result result = window_read(&read, atomic_load(&windows), settled.at, settled.bytes);

@@ -50,6 +50,16 @@ long sharing_replace(void *at, size_t bytes, long (*call)(void *with), void *wit
  */
 bool sharing_end(const char *why);
 
+/*
+ * A request is about to be made by which a userfaultfd of the monitor's own watches memory of a window. Nothing is lent from now on, until no
+ * userfaultfd does. `is_of_missing`: each page gets memory of its own first; otherwise it may show a frame until sharing_protect. Returns false,
+ * with errno, if the system has no memory for that: then the request isn't to be made. `*is_begun`: sharing_watch_made is to be called after it.
+ */
+bool sharing_watch(bool is_of_missing, bool *is_begun);
+void sharing_watch_made(void);
+/* Writes to these pages are about to be guarded by such a userfaultfd: those that are a window's get memory of their own. Returns as above. */
+bool sharing_protect(void *at, size_t bytes);
+
 /* Devices may write from now on. Returns false, with errno, if lending would have to end for them and can't. */
 bool sharing_devices(enum devices devices);
 

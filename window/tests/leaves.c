@@ -399,6 +399,50 @@ static void over(void) {
     munmap(at, PAGES * PAGE);
 }
 
+/* Whether each page has memory of its own, so that none shows a frame. */
+static bool are_own(const struct fixture *fixture, const uint8_t *at) {
+    bool own[PAGES], are = pagemap_find_copies(&fixture->windows->pagemap, at, PAGES, own) == 0;
+    for (size_t i = 0; i < PAGES; i++) are = are && own[i];
+    return are;
+}
+
+/* The caller watches a window by a userfaultfd of its own: for writes, or for missing pages, before which all is taken home. */
+static void begin_watch(struct fixture *fixture, struct window *window, const struct faults *faults, bool of_writes) {
+    check(windows_watch(fixture->windows) == 0, "windows_watch");
+    if (!of_writes) must(window_home(window, 0, PAGES, false), "window_home");
+    check(faults_watch(faults, window->at, PAGES, of_writes ? FAULTS_OF_WRITES : FAULTS_OF_MISSING) == 0, "the caller's watch");
+    windows_watch_made(fixture->windows);
+    if (of_writes) must(window_home(window, 0, PAGES, true), "window_home in place");
+}
+
+/* Meanwhile nothing is looked at or lent, and what is given up is missing. Afterwards all is lent again. */
+static void watched(bool of_writes) {
+    struct fixture fixture = fixture_make(&never_pinned, PAGES);
+    struct faults faults;
+    uint8_t *at = memory(PAGES);
+    struct window *window = window_over(&fixture, at, PAGES);
+    check(faults_open(&faults, 0, true) == 0, "a userfaultfd of the caller's");
+    fill(at, PAGES, 1);
+    check(look_until(&fixture, PAGES) == PAGES, "all pages are lent");
+    begin_watch(&fixture, window, &faults, of_writes);
+    check(are_own(&fixture, at), "no page shows a frame");
+    if (!of_writes) must(window_discard(window, 3, 1), "window_discard");
+    check(of_writes || is_missing(at + 3 * PAGE), "what is given up is missing");
+    memset(at + 5 * PAGE, 9, PAGE);
+    look_often(&fixture, 8);
+    struct windows_counts counts = counts_of(&fixture);
+    check(counts.lent == 0 && counts.pause == WINDOWS_WATCHED && slots_of(&fixture) == 0, "nothing is lent meanwhile");
+    check(of_writes || is_missing(at + 3 * PAGE), "and no look has touched it");
+    check(faults_end_watch(&faults, at, PAGES) == 0, "the watch's end");
+    for (int i = 0; i < 400 && counts_of(&fixture).lent < PAGES - 2; i++) look(fixture.windows), usleep(5000);
+    check(counts_of(&fixture).lent == PAGES - (of_writes ? 1 : 2), "then all is lent again");
+    check(are_bytes(at, 1) && are_bytes(at + 3 * PAGE, of_writes ? 1 : 0) && are_bytes(at + 5 * PAGE, 9), "with its content");
+    close(faults.fd);
+    must(window_free(window, WINDOW_DROP), "window_free");
+    fixture_free(&fixture);
+    munmap(at, PAGES * PAGE);
+}
+
 int main(void) {
     stays(WINDOW_TAKE_HOME);
     stays(WINDOW_DROP);
@@ -414,6 +458,8 @@ int main(void) {
     lent_anew();
     crowded();
     over();
+    watched(true);
+    watched(false);
     puts(check_count() == 0 ? "leaves: ok" : "leaves: WRONG");
     return check_count() == 0 ? 0 : 1;
 }
