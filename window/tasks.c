@@ -83,15 +83,11 @@ static bool has_page_between(void *set, const uint8_t *begin, const uint8_t *end
     return has;
 }
 
-/*
- * When smaps is read again after it took so much processor time: at most a tenth of the thread's share goes there, and a 200th of the
- * time. That takes long if there are many mappings.
- */
+/* When smaps is read again: that takes at most a tenth of the share, and a 200th of the time. It takes long if there are many mappings. */
 static uint64_t again_ns(const struct windows *windows, uint64_t begun_ns, uint64_t took_ns) {
-    enum { LEAST_TIMES = 200, OF_SHARE = 10, PERCENTS = 100 };
-    const unsigned percent = windows->has_budget ? windows->budget.percent : 0;
-    const uint64_t times = percent > 0 ? OF_SHARE * PERCENTS / percent : LEAST_TIMES;
-    return begun_ns + (times > LEAST_TIMES ? times : LEAST_TIMES) * took_ns;
+    enum { MOST_PERCENT = 5 };
+    const unsigned percent = windows->has_budget ? windows->budget.percent : MOST_PERCENT;
+    return pageshare_window_again(percent < MOST_PERCENT ? percent : MOST_PERCENT, begun_ns, took_ns, 0);
 }
 
 /* Looks whether memory of a window was locked since the last time. Reads smaps, but never with the lock. */
