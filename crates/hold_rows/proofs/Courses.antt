@@ -209,13 +209,13 @@ row_resumed frames first before old new row spots m c y ec ey en h zero b x eb e
 row_resumed frames first before old new row spots m c y ec ey en h (suc n) b x eb ex = absurd (omega (arith, in_list (c % 4 ∷ []) (suc n) b eb))
 
 pub each_page_is_held : EachPageIsHeld
-each_page_is_held frames first pages row spots (begins lead old new parts parts_new before after takings bytes held r) n b x eb ex =
+each_page_is_held frames start pages row spots (begins first lead old new parts parts_new before after takings bytes held r) n b x eb ex =
     row_begins frames first old new before after takings bytes held (r.pages refl) n b x eb ex
-each_page_is_held frames first pages row spots (asks lead table pins order old new parts parts_new its at c o) n b x eb ex =
+each_page_is_held frames start pages row spots (asks first lead table pins order old new parts parts_new its at c o) n b x eb ex =
     row_asks frames first lead table pins order old new parts parts_new its at o (each_page_is_held frames first old its at c) n b x eb ex
-each_page_is_held frames first pages row spots (comes_out lead begin done refused old new parts parts_new before after at next c d r) n b x eb ex =
+each_page_is_held frames start pages row spots (comes_out first lead begin done refused old new parts parts_new before after at next c d r) n b x eb ex =
     row_comes_out frames first begin done refused old new before after at next (r.pages refl) d (each_page_is_held frames first old before at c) n b x eb ex
-each_page_is_held frames first pages row spots (writes its bytes_of at m c y bytes course ec ey free place) n b x eb ex =
+each_page_is_held frames start pages row spots (writes first its bytes_of at m c y bytes course ec ey free place) n b x eb ex =
     row_written frames first its bytes_of at m c y bytes ec ey free place (each_page_is_held frames first its bytes_of at course) n b x eb ex
-each_page_is_held frames first pages row spots (resumes before old new its at m c y course ec ey en) n b x eb ex =
+each_page_is_held frames start pages row spots (resumes first before old new its at m c y course ec ey en) n b x eb ex =
     row_resumed frames first before old new its at m c y ec ey en (each_page_is_held frames before old its at course) n b x eb ex

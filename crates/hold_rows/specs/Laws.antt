@@ -25,19 +25,19 @@ pub record DidAll (frames : ℕ → List ℕ) (first begin done refused : ℕ) (
 -- The pages of a row and their bytes, and where the bytes of each page are, by the contracts of `begin`, `next` and `done`. No write to a page waited.
 -- Then orders are asked for and come out as they may, whichever they are, and guests write where that needn't wait. A page of a row may be taken up
 -- again, as a row of one page, by the contract of `again`: it is as it was, whatever other pages of its table are.
-pub data RowCourse (frames : ℕ → List ℕ) (first : ℕ) : List WindowPage → List ℕ → (ℕ → Spot) → Type 0 where
-  begins : (lead : ℕ) (old new : List WindowPage) (parts parts_new : List PartCounts) (row row_new takings : List ℕ) (bytes : ℕ → List ℕ)
+pub data RowCourse (frames : ℕ → List ℕ) : ℕ → List WindowPage → List ℕ → (ℕ → Spot) → Type 0 where
+  begins : (first lead : ℕ) (old new : List WindowPage) (parts parts_new : List PartCounts) (row row_new takings : List ℕ) (bytes : ℕ → List ℕ)
       → ((n : ℕ) (x : WindowPage) → n < length row → slice_get old (first + n) ≡ Some x → waiting (belief_of x) ≡ false)
       → RowBegins lead first takings true old new parts parts_new row row_new → RowCourse frames first new row_new (λ n. begun (taking_at takings n) (bytes n))
-  asks : (lead : ℕ) (table : TableFacts) (pins : List ℕ) (order : RowOrder) (old new : List WindowPage) (parts parts_new : List PartCounts) (row : List ℕ) (spots : ℕ → Spot)
+  asks : (first lead : ℕ) (table : TableFacts) (pins : List ℕ) (order : RowOrder) (old new : List WindowPage) (parts parts_new : List PartCounts) (row : List ℕ) (spots : ℕ → Spot)
       → RowCourse frames first old row spots → OrdersNext table pins lead first row order old new parts parts_new → RowCourse frames first new row spots
-  comes_out : (lead begin done refused : ℕ) (old new : List WindowPage) (parts parts_new : List PartCounts) (row row_new : List ℕ) (spots spots_new : ℕ → Spot)
+  comes_out : (first lead begin done refused : ℕ) (old new : List WindowPage) (parts parts_new : List PartCounts) (row row_new : List ℕ) (spots spots_new : ℕ → Spot)
       → RowCourse frames first old row spots → DidAll frames first begin done refused old row spots spots_new
       → RowCameOut lead first begin done refused true old new parts parts_new row row_new → RowCourse frames first new row_new spots_new
-  writes : (pages : List WindowPage) (row : List ℕ) (spots : ℕ → Spot) (n b : ℕ) (x : WindowPage) (bytes : List ℕ) → RowCourse frames first pages row spots
+  writes : (first : ℕ) (pages : List WindowPage) (row : List ℕ) (spots : ℕ → Spot) (n b : ℕ) (x : WindowPage) (bytes : List ℕ) → RowCourse frames first pages row spots
       → slice_get row n ≡ Some b → slice_get pages (first + n) ≡ Some x → is_held (belief_of x) ≡ false → is_at_place (place_in b) ≡ true
       → RowCourse frames first pages row (spots_with n (record (spots n) { content = bytes; here = Some bytes }) spots)
-  resumes : (before : ℕ) (old new : List WindowPage) (row : List ℕ) (spots : ℕ → Spot) (n b : ℕ) (x : WindowPage) → RowCourse frames before old row spots
+  resumes : (first before : ℕ) (old new : List WindowPage) (row : List ℕ) (spots : ℕ → Spot) (n b : ℕ) (x : WindowPage) → RowCourse frames before old row spots
       → slice_get row n ≡ Some b → slice_get old (before + n) ≡ Some x → slice_get new first ≡ Some x → RowCourse frames first new (b % 4 ∷ []) (λ m. spots n)
 
 -- each page of a row is in a hold of its own
