@@ -349,12 +349,19 @@ class Day:
         self.shares()
 
     def step_remove(self) -> None:
-        """The package is removed: the hosts end, guests go on."""
+        """The package is removed: the hosts end, guests go on and can be started."""
         said = self.shop.try_it("dpkg -r pageshare-host")
-        must(said.returncode == 0 and "web1" in said.stderr, f"{said}")
+        must(said.returncode == 0 and "the guest web1: virsh edit web1" in said.stderr and "web3" not in said.stderr, f"{said}")
         must(self.shop.try_it("pgrep -x pageshare-host").returncode != 0, "a host runs still")
         must(not [*(self.shop.root / METRICS.lstrip("/")).glob("pageshare-*")], "numbers are left for Prometheus")
         for it in self.guests:
+            it.goes_on()
+        # (guests that name the emulator can be started, and images restored; they share nothing)
+        self.guests[0].virsh("save NAME /root/saved")
+        self.guests[0].virsh("restore /root/saved")
+        self.guests[1].virsh("destroy NAME")
+        self.guests[1].virsh("start NAME")
+        for it in self.guests[:2]:
             it.goes_on()
 
     def step_purge(self) -> None:
