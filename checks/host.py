@@ -41,7 +41,7 @@ CASES = cases_in([
 LONG = ("soak",)
 # What `make check` runs, and the seconds that each case has. A new case that needs no guest belongs here, but for those that time something.
 IN_GATE = {
-    "words": 60, "hostile": 240, "tables": 300, "fuzz": 120, "stress": 240, "restarts": 300, "sanitizers": 600, "denied": 120, "hangup": 120,
+    "words": 60, "hostile": 240, "tables": 300, "fuzz": 120, "stress": 240, "restarts": 300, "sanitizers": 600, "denied": 120, "hangup": 120, "unit": 60,
     "descriptors-sent": 240, "quotas": 120, "slow-punch": 60, "refused-punch": 60, "breaker": 240, "storm": 240, "parts": 300, "calls": 300, "forks": 300,
     "pins": 600, "lent-again": 300, "newcomer": 120, "locks": 300, "endings": 300, "devices": 120, "size": 600, "runs": 180, "paced": 60,
     "ranges": 60, "names": 60, "counts": 60, "refused": 60, "kvm": 300, "ends": 600, "postcopy": 240, "remote": 60, "waits": 180,

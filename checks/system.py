@@ -227,6 +227,9 @@ class Day:
         self.shop.do("systemctl enable --now pageshare-host@web")
         until(30, self.shop.status, lambda: self.shop.do("systemctl status pageshare-host@web || true"))
         must(self.shop.try_it("systemctl start pageshare-host@none").returncode != 0, "a domain without settings starts")
+        self.shop.do("printf 'memory 128M\\nmemry 1G\\n' > /etc/pageshare/wrong.conf")
+        must(self.shop.try_it("systemctl start pageshare-host@wrong").returncode != 0, "a domain with a wrong word starts")
+        self.shop.do("rm /etc/pageshare/wrong.conf; systemctl reset-failed pageshare-host@wrong")
 
     def step_guests(self) -> None:
         """Three guests are started by virsh, and share."""
@@ -258,6 +261,7 @@ class Day:
         """Settings are read anew."""
         self.shop.do("printf 'memory 256M\\n' > /etc/pageshare/web.conf; systemctl reload pageshare-host@web")
         until(30, lambda: (self.shop.status() or {}).get("limit_bytes") == 256 << 20, lambda: self.shop.status())
+        must(self.shop.do("pgrep -x pageshare-host").strip(), "the host is called otherwise")
         self.shares()
 
     def step_suspend(self) -> None:

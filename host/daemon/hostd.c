@@ -6,6 +6,7 @@
  */
 #include "domain.h"
 #include "pageshare.h"
+#include "ready.h"
 #include "tables.h"
 #include "trouble.h"
 #include <fcntl.h>
@@ -77,6 +78,7 @@ static enum outcome serve_all(const struct settings *settings, int count, char *
     size_t begun = 0;
     sigset_t ends;
     int faults_device = open_faults_device();
+    prctl(PR_SET_NAME, "pageshare-host"); /* (one that has begun anew is called exe) */
     sigemptyset(&ends);
     sigaddset(&ends, SIGINT);
     sigaddset(&ends, SIGTERM);
@@ -87,9 +89,10 @@ static enum outcome serve_all(const struct settings *settings, int count, char *
     if (prctl(PR_SET_THP_DISABLE, 1, 0, 0, 0) != 0) trouble("prctl"); /* a huge page would take memory for 512 pages of zeros */
     bool good = start_all(domains, settings, &begun, faults_device);
     for (size_t i = 0; good && i < begun; i++)
-        log_line("domain %s serves at %s: up to %u clients, %llu MiB of frames", settings->domains[i].name,
+        log_note("domain %s serves at %s: up to %u clients, %llu MiB of frames", settings->domains[i].name,
                  settings->domains[i].socket, settings->domains[i].clients,
                  (unsigned long long)(settings->domains[i].memory >> 20));
+    if (good) ready_say();
     enum outcome outcome = good ? wait_for(&ends, settings, count, words) : OUTCOME_FAILED;
     for (size_t i = 0; i < begun; i++) domain_end(&domains[i]);
     if (faults_device >= 0) close(faults_device);
@@ -98,7 +101,7 @@ static enum outcome serve_all(const struct settings *settings, int count, char *
 
 /* Begins anew in the same process, of which nothing is left: each descriptor closes by itself. Returns only if that fails. */
 static int begin_anew(char **words) {
-    log_line("SIGHUP: the host begins anew");
+    log_note("SIGHUP: the host begins anew");
     execv("/proc/self/exe", words);
     trouble("/proc/self/exe");
     return 1;

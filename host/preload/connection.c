@@ -234,7 +234,7 @@ static bool connect_host(void) {
         my.was_reported = true;
         return false;
     }
-    if (my.was_reported) log_line("connected to the host at %s", settings.socket);
+    if (my.was_reported) log_note("connected to the host at %s", settings.socket);
     my.was_reported = false;
     if (my.windows) windows_pace(my.windows, share(), BURST_PERCENT);
     else if (!make_windows()) return false;
