@@ -4,6 +4,7 @@
  * pages share a frame. One thread serves one domain. This file reads the options, makes the domains and waits for a signal. SIGHUP lets
  * the host begin anew with its settings as they are by then.
  */
+#include "check/trial.h"
 #include "domain.h"
 #include "pageshare.h"
 #include "ready.h"
@@ -114,6 +115,8 @@ int main(int count, char **words) {
     case TASK_HELP: return fputs(settings_help, stdout) < 0;
     case TASK_VERSION: return puts("pageshare-host " PAGESHARE_VERSION) < 0;
     case TASK_STATUS: return status_show(settings.status, settings.form, settings.watch);
+    case TASK_CHECK: return check_show(settings.seconds);
+    case TASK_MEMBER: return member_run(settings.seconds);
     case TASK_SERVE: break;
     }
     enum outcome outcome = serve_all(&settings, count, words);

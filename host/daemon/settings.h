@@ -27,7 +27,7 @@ struct domain_settings {
     bool trust_peers;         /* takes clients that are root or of the host's own user */
 };
 
-enum task { TASK_SERVE, TASK_STATUS, TASK_HELP, TASK_VERSION };
+enum task { TASK_SERVE, TASK_STATUS, TASK_CHECK, TASK_MEMBER, TASK_HELP, TASK_VERSION };
 enum status_form { STATUS_TABLE, STATUS_JSON, STATUS_PROMETHEUS };
 
 struct settings {
@@ -39,6 +39,7 @@ struct settings {
     char status[PATH_MOST];
     enum status_form form;
     bool watch;
+    unsigned seconds; /* of a trial */
 };
 
 /* Reads the command line. Returns false if a word or a line of the file is wrong, after it has printed which. */

@@ -91,28 +91,34 @@ static uint64_t value_of(const struct number *number, const void *record) {
     return value * number->unit;
 }
 
-/* Connects, and takes the one message that is sent. */
-static bool receive(const char *socket_path, struct report *report) {
+/* Connects, and takes the one message that is sent. Returns false, with errno, which is EPROTO where it is of another version. */
+static bool take(const char *socket_path, struct report *report) {
     struct sockaddr_un name = {.sun_family = AF_UNIX};
     struct timeval patience = {.tv_sec = 5};
     int length = snprintf(name.sun_path, sizeof name.sun_path, "%s%s", socket_path, STATUS_SUFFIX);
-    if (length < 0 || (size_t)length >= sizeof name.sun_path) return (errno = ENAMETOOLONG, trouble(socket_path));
+    if (length < 0 || (size_t)length >= sizeof name.sun_path) return (errno = ENAMETOOLONG, false);
     int from = socket(AF_UNIX, SOCK_SEQPACKET | SOCK_CLOEXEC, 0);
-    if (from < 0) return trouble("socket");
+    if (from < 0) return false;
     ssize_t got = -1;
     if (setsockopt(from, SOL_SOCKET, SO_RCVTIMEO, &patience, sizeof patience) == 0 &&
         connect(from, (const struct sockaddr *)&name, sizeof name) == 0)
         got = recv(from, report, sizeof *report, 0);
     int cause = errno;
     close(from);
-    if (got < 0) return (errno = cause, trouble(name.sun_path));
+    if (got < 0) return (errno = cause, false);
     size_t totals = sizeof report->totals;
     bool is_whole = (size_t)got >= totals && report->totals.version == STATUS_VERSION &&
                     report->totals.listed <= STATUS_CLIENTS_MOST &&
                     (size_t)got == totals + report->totals.listed * sizeof *report->clients;
-    if (!is_whole) log_line("%s: not a status of this version", name.sun_path);
     report->totals.domain[NAME_MOST - 1] = 0;
-    return is_whole;
+    return is_whole || (errno = EPROTO, false);
+}
+
+/* The same, and prints why it fails. */
+static bool receive(const char *socket_path, struct report *report) {
+    if (take(socket_path, report)) return true;
+    log_line("%s%s: %s", socket_path, STATUS_SUFFIX, errno == EPROTO ? "not a status of this version" : strerror(errno));
+    return false;
 }
 
 static double mib(uint64_t pages) { return (double)pages * PAGE / (1 << 20); }
@@ -269,6 +275,13 @@ static void show_line(const struct report *report, bool is_first) {
     printf("%8llu %8llu %12.1f %12.1f %12.1f %12.1f\n", (unsigned long long)(totals->uptime_ns / 1000000000u),
            (unsigned long long)totals->clients, mib(totals->lent_pages), mib(totals->shared_pages), mib(totals->frames),
            mib(totals->reclaimed_pages));
+}
+
+bool status_totals_of(const char *socket_path, struct status_totals *totals) {
+    static struct report report;
+    if (!take(socket_path, &report)) return false;
+    *totals = report.totals;
+    return true;
 }
 
 int status_show(const char *socket_path, enum status_form form, bool watch) {

@@ -55,4 +55,7 @@ struct status_client {
  * process's status: 0, or 1 if the domain can't be asked. */
 int status_show(const char *socket, enum status_form form, bool watch);
 
+/* Asks a domain for its totals alone. Returns false, with errno, if it can't be asked. */
+bool status_totals_of(const char *socket, struct status_totals *totals);
+
 #endif
