@@ -31,6 +31,7 @@ import device_cases  # noqa: E402
 import file_cases  # noqa: E402
 import guest_cases  # noqa: E402
 import parts_cases  # noqa: E402
+import pausing_cases  # noqa: E402
 import raw_cases  # noqa: E402
 import size_cases  # noqa: E402
 import system_cases  # noqa: E402
@@ -38,7 +39,7 @@ from runner import cases_in, main  # noqa: E402
 
 CASES = cases_in([
     client_cases, bounds_cases, file_cases, breaker_cases, parts_cases, raw_cases, device_cases, size_cases, guest_cases, system_cases,
-    check_cases,
+    check_cases, pausing_cases,
 ])
 LONG = ("soak",)
 # What `make check` runs, and the seconds that each case has. A new case that needs no guest belongs here, but for those that time something.
@@ -49,7 +50,7 @@ IN_GATE = {
     "ranges": 60, "names": 60, "counts": 60, "refused": 60, "kvm": 300, "ends": 600, "postcopy": 240, "remote": 60, "waits": 180,
     "closed": 60, "malloc": 120, "lines": 60, "read-late": 60, "flags": 120, "policies": 120, "no-memory": 120,
     "filter": 240, "filter-by-itself": 60, "scans": 180, "guarded": 120, "said-early": 60,
-    "check": 120, "check-denied": 60, "check-wrong": 180, "check-refused": 300,
+    "check": 120, "check-denied": 60, "check-wrong": 180, "check-refused": 300, "pause": 240, "pause-busy": 120,
 }
 
 if __name__ == "__main__":

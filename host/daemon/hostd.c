@@ -7,6 +7,7 @@
 #include "check/trial.h"
 #include "domain.h"
 #include "pageshare.h"
+#include "pausing.h"
 #include "ready.h"
 #include "tables.h"
 #include "trouble.h"
@@ -117,6 +118,8 @@ int main(int count, char **words) {
     case TASK_STATUS: return status_show(settings.status, settings.form, settings.watch);
     case TASK_CHECK: return check_show(settings.seconds);
     case TASK_MEMBER: return member_run(settings.seconds);
+    case TASK_PAUSE:
+    case TASK_RESUME: return pausing_ask(settings.guest, settings.task == TASK_PAUSE);
     case TASK_SERVE: break;
     }
     enum outcome outcome = serve_all(&settings, count, words);

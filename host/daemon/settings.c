@@ -11,6 +11,7 @@ const char settings_help[] =
     "\n"
     "  pageshare-host --domain NAME=SOCKET [--domain NAME=SOCKET ..] [OPTIONS]     serves clients\n"
     "  pageshare-host --status SOCKET [--json | --prometheus] [--watch]            prints what a domain's clients share\n"
+    "  pageshare-host --pause NAME|PID | --resume NAME|PID                         switches a guest's sharing off and on\n"
     "  pageshare-host --check [--seconds N]                                        what this computer has, and a trial\n"
     "\n"
     "Of the domain named before it, or before the first one of all domains:\n"
@@ -190,6 +191,11 @@ static bool read_option(struct settings *settings, const char *option, const cha
     if (strcmp(option, "group") == 0) return read_group(value, &domain->group);
     if (strcmp(option, "user") == 0) return read_text(option, value, settings->user, sizeof settings->user);
     if (strcmp(option, "settings") == 0) return read_file(settings, value);
+    bool pauses = strcmp(option, "pause") == 0;
+    if (pauses || strcmp(option, "resume") == 0) {
+        settings->task = pauses ? TASK_PAUSE : TASK_RESUME;
+        return read_text(option, value, settings->guest, sizeof settings->guest);
+    }
     if (strcmp(option, "status") != 0) return wrong(option, value, "unknown option (see --help)");
     settings->task = TASK_STATUS;
     return read_text(option, value, settings->status, sizeof settings->status);

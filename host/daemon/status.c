@@ -17,8 +17,9 @@ struct report {
 /* What the reader finds out itself. */
 static struct {
     char names[STATUS_CLIENTS_MOST][GUEST_NAME_MOST]; /* of the clients' guests */
-    uint64_t table_bytes;                             /* page tables of all clients */
-    int64_t net_bytes;                                /* what is left of what is reclaimed */
+    char whys[STATUS_CLIENTS_MOST][COUNTS_WHY_MOST];  /* why a client lends nothing, as it says; or empty */
+    uint64_t table_bytes; /* page tables of all clients */
+    int64_t net_bytes;    /* what is left of what is reclaimed */
 } found;
 
 /*
@@ -81,6 +82,8 @@ static const struct number of_client[] = {
     TIME_OF_CLIENT("client_look_nanoseconds", "client_look_seconds", counts.round_ns, false,
                    "How long the client's last look took, as it says"),
     OF_CLIENT("client_filtered", counts.is_filtered, false, 1, "1 where a filter shows the library system calls, as it says"),
+    OF_CLIENT("client_pause", counts.state, false, 1,
+              "0: it shares, 1: --pause begins, 2: waits for memory, 3, 4: paused, as it says"),
     OF_CLIENT("client_devices", devices, false, 1, "0: none that pins pages, 1: seen calls, 2: unseen ones, 3: all, 4: unknown"),
 };
 enum { TOTALS_COUNT = sizeof of_totals / sizeof *of_totals, CLIENT_COUNT = sizeof of_client / sizeof *of_client, LABELS = 3 };
@@ -123,6 +126,13 @@ static bool receive(const char *socket_path, struct report *report) {
 
 static double mib(uint64_t pages) { return (double)pages * PAGE / (1 << 20); }
 
+/* Why a client has lent nothing: an operator's pause, or what it says itself. */
+static void find_why(const struct status_client *client, char why[COUNTS_WHY_MOST]) {
+    bool is_paused = client->counts.state == COUNTS_PAUSED || client->counts.state == COUNTS_STAYS;
+    if (client->lent_pages > 0) *why = 0;
+    else if (is_paused) snprintf(why, COUNTS_WHY_MOST, "an operator has paused it (--resume)");
+}
+
 /* Finds what can be seen of clients' processes: what devices may do to their memory, their guests' names, and what they take. */
 static void find(struct report *report) {
     const struct status_totals *totals = &report->totals;
@@ -133,7 +143,8 @@ static void find(struct report *report) {
         client->devices = devices_of_process(client->pid, &devices) ? (uint64_t)devices : STATUS_DEVICES_UNKNOWN;
         client->table_bytes = naming_tables_of(client->pid);
         client->looks_ns = naming_processor_of(client->pid);
-        naming_counts_of(client->pid, &client->counts);
+        naming_counts_of(client->pid, &client->counts, found.whys[i]);
+        find_why(client, found.whys[i]);
         naming_of_guest(client->pid, found.names[i]);
         found.table_bytes += client->table_bytes;
     }
@@ -215,7 +226,7 @@ static void show_json(const struct report *report) {
     printf(",\"table_bytes\":%llu,\"net_bytes\":%lld,\"processes\":[", (unsigned long long)found.table_bytes,
            (long long)found.net_bytes);
     for (size_t c = 0; c < report->totals.listed; c++) {
-        printf("%s{\"guest\":\"%s\"", c ? "," : "", found.names[c]); /* (nor has that of a guest) */
+        printf("%s{\"guest\":\"%s\",\"why\":\"%s\"", c ? "," : "", found.names[c], found.whys[c]); /* (nor have these) */
         for (size_t i = 0; i < CLIENT_COUNT; i++)
             printf(",\"%s\":%llu", of_client[i].name, (unsigned long long)value_of(&of_client[i], &report->clients[c]));
         printf("}");
