@@ -1,4 +1,4 @@
-"""Cases of what an operator does with a guest that runs: sharing is switched off and on."""
+"""Cases of what an operator does with a guest that runs: sharing is switched off and on, and a guest that shares nothing is listed with the cause."""
 from __future__ import annotations
 
 import os
@@ -9,10 +9,11 @@ from collections.abc import Sequence
 from typing import Any
 
 from breaker_cases import compile_folder, end_breakers, start_breaker
-from harness import StrPath
+from harness import PACKAGES, StrPath
 from parts_cases import compile_parts
-from places import AS_NOBODY, HERE, Host, all_released, in_time, must, preloaded, until
-from running_guests import go_on, guests, settle
+from places import AS_NOBODY, HERE, Host, LeftOut, all_released, in_time, must, preloaded, until
+from qemu_guests import QEMU, is_there
+from running_guests import go_on, guest, guests, settle
 
 # Pages that `stays` of raw_calls.c lends at least.
 LEAST = 1000
@@ -117,6 +118,49 @@ def case_pause_busy() -> None:
     print(f"  {paused} times paused")
     in_time(paused > 0, "nothing was paused")
     all_released(host)
+    host.stop()
+
+
+# QEMU's words, and what is said of it.
+NOT_SHARED: Sequence[tuple[str, dict[str, Any], str]] = (
+    ("mem-merge=off", {"machine": "q35,mem-merge=off"}, "mem-merge=off, in libvirt <nosharepages/>"),
+    ("mem-lock=on", {"more": ["-overcommit", "mem-lock=on"]}, "locks its memory"),
+    ("memfd", {"machine": "q35,memory-backend=m", "more": ["-object", "memory-backend-memfd,id=m,size=64M,share=on"]}, "not private"),
+)
+
+
+def why(host: Host, pid: int) -> tuple[str, str]:
+    """Where a status has a process, and the cause."""
+    state = host.status()
+    for place in ("processes", "others"):
+        for it in state[place]:
+            if it["pid"] == pid and it["why"]:
+                return place, it["why"]
+    return "", ""
+
+
+def case_shares_nothing() -> None:
+    """A process that shares nothing is listed with the cause: one that offers nothing, a QEMU without merging, one that locks, and one with a memfd."""
+    host = Host("--trust-peers", memory="64M")
+    idle = subprocess.Popen([*AS_NOBODY, "sleep", "100"], env=preloaded(host))
+    HERE.place.started.append(idle)
+    plain = subprocess.Popen([*AS_NOBODY, "sleep", "100"], env={**os.environ, "PAGESHARE_SOCKET": str(host.socket)})
+    HERE.place.started.append(plain)
+    good, _ = until(10, lambda: why(host, idle.pid) == ("others", "it offers nothing: it doesn't say MADV_MERGEABLE"), 0.2)
+    must(good and [it["pid"] for it in host.status()["others"]] == [idle.pid], f"{host.status()}")
+    if not is_there(QEMU):
+        raise LeftOut(f"guests, since there is no {QEMU}", PACKAGES[QEMU])
+    for number, (name, words, cause) in enumerate(NOT_SHARED):
+        may_lock = name == "mem-lock=on"  # (only root may lock so much)
+        made: Any = guest(number, host, work="none", mib=64, wrap=() if may_lock else AS_NOBODY, **words)
+        good, _ = until(30, lambda: cause in why(host, made.pid)[1], 0.2)
+        found = why(host, made.pid)
+        print(f"  {name}, {found[0]}: {found[1]}")
+        must(good, f"{name}: {found}; {host.status()}")
+        table = subprocess.run([HERE.host, "--status", host.socket], capture_output=True, text=True).stdout
+        must("shares nothing" in table and found[1] in table, table)
+        made.kill()
+    idle.kill()
     host.stop()
 
 

@@ -1,7 +1,7 @@
 #define _GNU_SOURCE
 #include "status.h"
 #include "devices.h"
-#include "naming.h"
+#include "others.h"
 #include "trouble.h"
 #include <stdlib.h>
 #include <sys/socket.h>
@@ -18,6 +18,8 @@ struct report {
 static struct {
     char names[STATUS_CLIENTS_MOST][GUEST_NAME_MOST]; /* of the clients' guests */
     char whys[STATUS_CLIENTS_MOST][COUNTS_WHY_MOST];  /* why a client lends nothing, as it says; or empty */
+    struct other others[OTHERS_MOST];                 /* processes that have the library, and are no clients */
+    size_t other_count;
     uint64_t table_bytes; /* page tables of all clients */
     int64_t net_bytes;    /* what is left of what is reclaimed */
 } found;
@@ -126,6 +128,13 @@ static bool receive(const char *socket_path, struct report *report) {
 
 static double mib(uint64_t pages) { return (double)pages * PAGE / (1 << 20); }
 
+static bool is_client(const void *of, uint64_t process) {
+    const struct report *report = of;
+    for (size_t i = 0; i < report->totals.listed; i++)
+        if (report->clients[i].pid == process) return true;
+    return false;
+}
+
 /* Why a client has lent nothing: an operator's pause, or what it says itself. */
 static void find_why(const struct status_client *client, char why[COUNTS_WHY_MOST]) {
     bool is_paused = client->counts.state == COUNTS_PAUSED || client->counts.state == COUNTS_STAYS;
@@ -179,6 +188,22 @@ static void show_clients(const struct report *report) {
         puts("unseen: pages that were shared and written stay private, since a device may have pinned them; use aio=threads");
 }
 
+/* A process that shares nothing. */
+static void show_idle(bool *is_first, uint64_t process, uint64_t user, const char *name, const char *why) {
+    if (*is_first) printf("%12s %12s  %s\n", "process", "user", "shares nothing");
+    *is_first = false;
+    printf("%12llu %12llu  %s: %s\n", (unsigned long long)process, (unsigned long long)user, *name ? name : "-", why);
+}
+
+/* The processes of a table that share nothing, for all that is known, each with the cause. */
+static void show_idles(const struct report *report) {
+    bool is_first = true;
+    for (size_t i = 0; i < report->totals.listed; i++)
+        if (*found.whys[i]) show_idle(&is_first, report->clients[i].pid, report->clients[i].uid, found.names[i], found.whys[i]);
+    for (const struct other *it = found.others; it < found.others + found.other_count; it++)
+        show_idle(&is_first, it->process, it->user, it->name, it->why);
+}
+
 /* What the clients of a table say of their windows. */
 static void show_windows(const struct report *report) {
     bool is_first = true;
@@ -215,6 +240,7 @@ static void show_table(const struct report *report) {
            (double)found.net_bytes / (1 << 20), (double)found.table_bytes / (1 << 20));
     show_clients(report);
     show_windows(report);
+    show_idles(report);
     if (totals->listed < totals->clients)
         printf("%12s and %llu more\n", "", (unsigned long long)(totals->clients - totals->listed));
 }
@@ -231,6 +257,10 @@ static void show_json(const struct report *report) {
             printf(",\"%s\":%llu", of_client[i].name, (unsigned long long)value_of(&of_client[i], &report->clients[c]));
         printf("}");
     }
+    printf("],\"others\":[");
+    for (size_t i = 0; i < found.other_count; i++)
+        printf("%s{\"guest\":\"%s\",\"pid\":%llu,\"uid\":%llu,\"why\":\"%s\"}", i ? "," : "", found.others[i].name,
+               (unsigned long long)found.others[i].process, (unsigned long long)found.others[i].user, found.others[i].why);
     printf("]}\n");
 }
 
@@ -301,6 +331,7 @@ int status_show(const char *socket_path, enum status_form form, bool watch) {
     for (bool is_first = true;; is_first = false) {
         if (!receive(socket_path, &report)) return 1;
         find(&report);
+        if (form != STATUS_PROMETHEUS) found.other_count = others_find(socket_path, is_client, &report, found.others);
         if (form == STATUS_JSON) show_json(&report);
         else if (form == STATUS_PROMETHEUS) show_prometheus(&report);
         else if (watch && !is_terminal) show_line(&report, is_first);
