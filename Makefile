@@ -158,7 +158,7 @@ HOST_LIBRARY = out/libpageshare_host.a
 WINDOW_LIBRARY = out/libpageshare_window.a
 HOST_FLAGS = -std=c11 -O2 -g -Wall -Wextra -Wconversion -Werror -pthread -Ilib/include -Iwindow -Ihost $(CFLAGS)
 HOST_LINK = -Wl,--wrap=memset
-HOST_SOURCES = $(wildcard host/*.c host/daemon/*.c) window/lines.c window/lender/bus.c
+HOST_SOURCES = $(wildcard host/*.c host/daemon/*.c host/check/*.c) window/lines.c window/lender/bus.c
 WINDOW_SOURCES = $(wildcard host/*.c host/preload/*.c window/*.c)
 HOST_HEADERS = $(wildcard host/*.h host/*/*.h window/*.h window/lender/bus.h lib/include/*.h)
 

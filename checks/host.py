@@ -25,11 +25,13 @@ sys.path.insert(0, str(pathlib.Path(__file__).resolve().parent / "host"))
 
 import bounds_cases  # noqa: E402
 import breaker_cases  # noqa: E402
+import check_cases  # noqa: E402
 import client_cases  # noqa: E402
 import device_cases  # noqa: E402
 import file_cases  # noqa: E402
 import guest_cases  # noqa: E402
 import parts_cases  # noqa: E402
+import pausing_cases  # noqa: E402
 import raw_cases  # noqa: E402
 import size_cases  # noqa: E402
 import system_cases  # noqa: E402
@@ -38,18 +40,19 @@ from runner import cases_in, main  # noqa: E402
 
 CASES = cases_in([
     client_cases, bounds_cases, file_cases, breaker_cases, parts_cases, raw_cases, device_cases, size_cases, guest_cases, system_cases,
-    ways_cases,
+    ways_cases, check_cases, pausing_cases,
 ])
 LONG = ("soak",)
 # What `make check` runs, and the seconds that each case has. A new case that needs no guest belongs here, but for those that time something.
 IN_GATE = {
-    "words": 60, "hostile": 240, "tables": 300, "fuzz": 120, "stress": 240, "restarts": 300, "sanitizers": 600, "denied": 120, "hangup": 120,
+    "words": 60, "hostile": 240, "tables": 300, "fuzz": 120, "stress": 240, "restarts": 300, "sanitizers": 600, "denied": 120, "hangup": 120, "unit": 60,
     "descriptors-sent": 240, "quotas": 120, "slow-punch": 60, "refused-punch": 60, "breaker": 240, "storm": 240, "parts": 300, "calls": 300, "forks": 300,
     "pins": 600, "lent-again": 300, "newcomer": 120, "locks": 300, "endings": 300, "devices": 120, "size": 600, "runs": 180, "paced": 60,
     "ranges": 60, "names": 60, "counts": 60, "refused": 60, "kvm": 300, "ends": 600, "postcopy": 240, "remote": 60, "waits": 180,
     "closed": 60, "malloc": 120, "lines": 60, "read-late": 60, "flags": 120, "policies": 120, "no-memory": 120,
     "filter": 240, "filter-by-itself": 60, "scans": 180, "guarded": 120, "said-early": 60,
     "ways": 120,
+    "check": 120, "check-denied": 60, "check-wrong": 180, "check-refused": 300, "pause": 240, "pause-busy": 120, "shares-nothing": 240,
 }
 
 if __name__ == "__main__":

@@ -221,6 +221,21 @@ def try_pages(tally: Tally, prefix: pathlib.Path, wanted: Iterable[str]) -> None
         tally.part(try_reader, reader, pages)
 
 
+def try_links(tally: Tally, prefix: pathlib.Path) -> None:
+    """Each link of an installed document leads to a file that is there."""
+    documents = sorted((prefix / "share/doc").rglob("*.md"))
+    dead = [f"{it.name}: {target}" for it in documents for _, target in stage.LINK.findall(it.read_text()) if not stage.leads(it, target)]
+    tally.holds("there is HOST.md", any(it.name == "HOST.md" for it in documents), documents)
+    tally.equal("links that lead nowhere", dead, [])
+
+
+def try_host_page(tally: Tally, prefix: pathlib.Path) -> None:
+    """The host's page is one for who has installed it."""
+    text = (prefix / "share/man/man8/pageshare-host.8").read_text()
+    tally.equal("sections of options", len(re.findall(r'(?m)^\.SH "?OPTIONS', text)), 1)
+    tally.equal("words of the source", re.findall(r"make \w+|out/host", text.replace("\\-", "-")), [])
+
+
 def try_reader(tally: Tally, reader: str, pages: Sequence[pathlib.Path]) -> None:
     """Each man page as a program reads it, without a warning."""
     needs(f"man pages by {reader}", reader)
@@ -377,6 +392,30 @@ def try_emulator(tally: Tally, prefix: pathlib.Path) -> None:
     tally.holds("without a host QEMU starts", said[0] == 0 and "QEMU" in said[1] and "ld.so" not in said[2], said)
 
 
+def try_removal(tally: Tally, room: pathlib.Path) -> None:
+    """A removal names guests and saved images that have the emulator, and leaves one that shares nothing until the purge."""
+    root, word = room / "removed", "<emulator>/usr/bin/pageshare-qemu</emulator>"
+    files = {"etc/libvirt/qemu/web1.xml": word, "etc/libvirt/qemu/db.xml": "<emulator>/usr/bin/qemu-system-x86_64</emulator>"}
+    files |= {"var/lib/libvirt/qemu/save/web2.save": f"LibvirtQemudSave\0\1{word}\0", "etc/pageshare/web.conf": "memory 1G\n", "usr/bin/other": ""}
+    for name, text in files.items():
+        (root / name).parent.mkdir(parents=True, exist_ok=True)
+        (root / name).write_text(text)
+    script, env = TOP / "packaging/debian/pageshare-host", {**PLAIN, "DPKG_ROOT": str(root)}
+    said = run("sh", f"{script}.prerm", "remove", env=env)
+    named = "guest web1: virsh edit web1" in said[2] and "image of web2: virsh start web2" in said[2] and " db" not in said[2]
+    tally.holds("a removal names guests and images", said[0] == 0 and named, said)
+    tally.equal("an upgrade says nothing", run("sh", f"{script}.prerm", "upgrade", "1", env=env), (0, "", ""))
+    tally.equal("a removal", run("sh", f"{script}.postrm", "remove", env=env), (0, "", ""))
+    emulator = root / "usr/bin/pageshare-qemu"
+    tally.holds("a removal leaves an emulator", os.access(emulator, os.X_OK) and (root / "etc/pageshare/web.conf").exists(), said)
+    if has("qemu-system-x86_64"):
+        said = run(emulator, "-name", "guest=web1", "--version")
+        tally.holds("it is QEMU", said[0] == 0 and "QEMU" in said[1] and not said[2], said)
+    tally.equal("a purge", run("sh", f"{script}.postrm", "purge", env=env), (0, "", ""))
+    left = sorted(str(it.relative_to(root)) for it in root.rglob("*") if it.is_file())
+    tally.equal("a purge leaves the others' files alone", left, sorted(set(files) - {"etc/pageshare/web.conf"}))
+
+
 def try_host(tally: Tally, prefix: pathlib.Path, room: pathlib.Path) -> None:
     """What is installed of the host, as its users read it."""
     tally.part(try_soname, prefix / "lib/libpageshare-window.so")
@@ -392,6 +431,9 @@ def try_host(tally: Tally, prefix: pathlib.Path, room: pathlib.Path) -> None:
     tally.part(try_rules, examples)
     try_dashboard(tally, examples, set(re.findall(r"(?m)^# TYPE (\w+) ", numbers)))
     tally.part(try_emulator, prefix)
+    tally.part(try_removal, room)
+    try_links(tally, prefix)
+    try_host_page(tally, prefix)
     try_completions(tally, prefix, "pageshare-host", "pageshare-host --prom", "--prometheus\n")
 
 

@@ -227,6 +227,9 @@ class Day:
         self.shop.do("systemctl enable --now pageshare-host@web")
         until(30, self.shop.status, lambda: self.shop.do("systemctl status pageshare-host@web || true"))
         must(self.shop.try_it("systemctl start pageshare-host@none").returncode != 0, "a domain without settings starts")
+        self.shop.do("printf 'memory 128M\\nmemry 1G\\n' > /etc/pageshare/wrong.conf")
+        must(self.shop.try_it("systemctl start pageshare-host@wrong").returncode != 0, "a domain with a wrong word starts")
+        self.shop.do("rm /etc/pageshare/wrong.conf; systemctl reset-failed pageshare-host@wrong")
 
     def step_guests(self) -> None:
         """Three guests are started by virsh, and share."""
@@ -258,6 +261,7 @@ class Day:
         """Settings are read anew."""
         self.shop.do("printf 'memory 256M\\n' > /etc/pageshare/web.conf; systemctl reload pageshare-host@web")
         until(30, lambda: (self.shop.status() or {}).get("limit_bytes") == 256 << 20, lambda: self.shop.status())
+        must(self.shop.do("pgrep -x pageshare-host").strip(), "the host is called otherwise")
         self.shares()
 
     def step_suspend(self) -> None:
@@ -349,12 +353,19 @@ class Day:
         self.shares()
 
     def step_remove(self) -> None:
-        """The package is removed: the hosts end, guests go on."""
+        """The package is removed: the hosts end, guests go on and can be started."""
         said = self.shop.try_it("dpkg -r pageshare-host")
-        must(said.returncode == 0 and "web1" in said.stderr, f"{said}")
+        must(said.returncode == 0 and "the guest web1: virsh edit web1" in said.stderr and "web3" not in said.stderr, f"{said}")
         must(self.shop.try_it("pgrep -x pageshare-host").returncode != 0, "a host runs still")
         must(not [*(self.shop.root / METRICS.lstrip("/")).glob("pageshare-*")], "numbers are left for Prometheus")
         for it in self.guests:
+            it.goes_on()
+        # (guests that name the emulator can be started, and images restored; they share nothing)
+        self.guests[0].virsh("save NAME /root/saved")
+        self.guests[0].virsh("restore /root/saved")
+        self.guests[1].virsh("destroy NAME")
+        self.guests[1].virsh("start NAME")
+        for it in self.guests[:2]:
             it.goes_on()
 
     def step_purge(self) -> None:

@@ -1,7 +1,7 @@
 /*
- * What the library counts in a client, for operators: a file without a name (memfd) that the process keeps open. Other processes
- * that may look at its descriptors find the file there, so no message is needed. A reader takes nothing for granted: the process
- * can write anything.
+ * What the library counts in a client, for operators, and what an operator wants of it: a file without a name (memfd) that the process keeps
+ * open. Other processes that may look at its descriptors find the file there, so no message is needed, and none that a host would have to keep.
+ * A reader takes nothing for granted: the process can write anything.
  */
 #ifndef HOST_COUNTS_H
 #define HOST_COUNTS_H
@@ -9,7 +9,17 @@
 #include <stdint.h>
 
 #define COUNTS_NAME "pageshare-counts"
-enum { COUNTS_VERSION = 2 };
+/* The file has COUNTS_BYTES bytes and is sealed: it grows and shrinks no more. */
+enum { COUNTS_VERSION = 3, COUNTS_BYTES = 4096, COUNTS_WHY_AT = 1024, COUNTS_WHY_MOST = 128, COUNTS_WANTED_AT = 2048 };
+
+/* What becomes of sharing. */
+enum counts_state {
+    COUNTS_SHARES,
+    COUNTS_COMES_HOME, /* an operator has paused it, and pages get memory of their own */
+    COUNTS_WAITS,      /* the same, and the system has no memory for them at present */
+    COUNTS_PAUSED,     /* all have memory of their own, and nothing is lent until it goes on */
+    COUNTS_STAYS       /* the same. Parts will stay as they are when it goes on, since devices may have pinned pages */
+};
 
 struct counts {
     uint64_t version;
@@ -18,6 +28,14 @@ struct counts {
     uint64_t parts_whole, parts_split, parts_huge; /* see HOST, Huge pages; huge: those of the whole ones that are a huge page */
     uint64_t round_ns;                             /* how long the last look took */
     uint64_t is_filtered;                          /* 1 if the system shows the library each call that may let devices write */
+    uint64_t lent;                                 /* pages */
+    uint64_t state;                                /* an enum counts_state */
 };
+_Static_assert(sizeof(struct counts) <= COUNTS_WHY_AT, "words stand behind the counts");
+
+/* At COUNTS_WHY_AT stands why nothing is lent of some memory, or of all: words that end with a zero, or nothing. */
+
+/* What an operator wants, a number at COUNTS_WANTED_AT. Any other number means COUNTS_SHARE. */
+enum counts_wanted { COUNTS_SHARE, COUNTS_PAUSE };
 
 #endif

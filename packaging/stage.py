@@ -15,6 +15,7 @@ from __future__ import annotations
 import argparse
 import os
 import pathlib
+import re
 import shutil
 import subprocess
 from collections.abc import Sequence
@@ -41,6 +42,8 @@ HOST_FILES = {
     "pageshare-qemu": ("bin/pageshare-qemu", 0o755),
     "write-metrics": ("libexec/pageshare/write-metrics", 0o755),
 }
+# A link of a document, but no picture: its words, and where it leads.
+LINK = re.compile(r"(?<!!)\[([^\[\]]*)\]\(([^()\s]+)\)")
 PACKAGE = """\
 {prefix}
 libdir={libdir}
@@ -168,11 +171,22 @@ class Stage:
             self.put(file, f"share/pageshare/rust/{file.relative_to(rust)}")
 
     def host_documents(self, at: str) -> None:
-        """What the host is documented by, and examples of its settings."""
-        for name in ("HOST.md", "SECURITY.md"):
-            self.put(TOP / "docs" / name, f"{at}/docs/{name}")
+        """What the host is documented by, with what that leads to, and examples of its settings."""
+        for file in sorted((TOP / "docs").iterdir()):
+            self.put(file, f"{at}/docs/{file.name}")
         for file in files_below(TOP / "examples/host", "__pycache__"):
             self.put_named(file, f"{at}/examples/host/{file.name}")
+
+    def cut_links(self, at: str) -> None:
+        """In documents a link to what isn't installed becomes its words."""
+        for file in (self.folder / at).rglob("*.md"):
+            text = file.read_text()
+            file.write_text(LINK.sub(lambda found: found[0] if leads(file, found[2]) else found[1], text))
+
+
+def leads(document: pathlib.Path, target: str) -> bool:
+    """Whether a link of a document leads somewhere: to another computer, within it, or to a file that is there."""
+    return target.startswith(("#", "http:", "https:", "mailto:")) or (document.parent / target.partition("#")[0]).exists()
 
 
 def stage(
@@ -190,6 +204,7 @@ def stage(
     if "host" in parts:
         made.host()
         made.host_documents(at)
+    made.cut_links(at)
     made.texts(parts)
 
 

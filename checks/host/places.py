@@ -199,6 +199,6 @@ def preloaded(host: Host, more: Mapping[str, str] | Iterable[tuple[str, str]] = 
 
 
 def sources(role: str) -> list[pathlib.Path]:
-    """The sources in host/ of one of the two programs, `daemon` or `preload`, and what the daemon has of window/."""
-    beside = [TOP / "window/lines.c", TOP / "window/lender/bus.c"] if role == "daemon" else []
+    """The sources in host/ of one of the two programs, `daemon` or `preload`, and what the daemon has besides."""
+    beside = [TOP / "window/lines.c", TOP / "window/lender/bus.c", *(TOP / "host/check").glob("*.c")] if role == "daemon" else []
     return sorted([*(TOP / "host").glob("*.c"), *(TOP / "host" / role).glob("*.c"), *beside])

@@ -7,6 +7,7 @@
 #include <dlfcn.h>
 #include <errno.h>
 #include <pthread.h>
+#include <signal.h>
 #include <stdarg.h>
 #include <stdatomic.h>
 #include <stdbool.h>
@@ -20,7 +21,6 @@
 
 struct epoll_event;
 struct pollfd;
-struct sigaction;
 struct stat;
 
 /* What fails. */
@@ -110,6 +110,16 @@ REFUSED(void *, (void *)-1, mmap, (void *at, size_t bytes, int access, int flags
 REFUSED(int, -1, madvise, (void *at, size_t bytes, int advice), (at, bytes, advice))
 REFUSED(int, -1, mincore, (void *at, size_t bytes, unsigned char *there), (at, bytes, there))
 REFUSED(ssize_t, -1, getrandom, (void *at, size_t bytes, unsigned flags), (at, bytes, flags))
+REFUSED(pid_t, -1, fork, (void), ())
+REFUSED(int, -1, execv, (const char *path, char *const words[]), (path, words))
+REFUSED(pid_t, -1, waitpid, (pid_t process, int *status, int how), (process, status, how))
+REFUSED(int, -1, kill, (pid_t process, int number), (process, number))
+REFUSED(int, -1, dup2, (int of, int place), (of, place))
+REFUSED(char *, NULL, mkdtemp, (char *path), (path))
+REFUSED(int, -1, rmdir, (const char *path), (path))
+REFUSED(int, -1, sigtimedwait, (const sigset_t *of, siginfo_t *got, const struct timespec *most), (of, got, most))
+REFUSED(int, -1, setenv, (const char *name, const char *value, int over), (name, value, over))
+REFUSED(int, -1, connect, (int socket, const struct sockaddr *to, socklen_t size), (socket, to, size))
 REFUSED(int, errno, pthread_create, (pthread_t * thread, const pthread_attr_t *how, void *(*run)(void *), void *with),
         (thread, how, run, with))
 
@@ -123,6 +133,18 @@ int fcntl(int file, int what, ...) {
     if (is_refused("fcntl")) return -1;
     *(void **)&next = next_of("fcntl");
     return next(file, what, value);
+}
+
+int ioctl(int of, unsigned long request, ...);
+int ioctl(int of, unsigned long request, ...) {
+    int (*next)(int, unsigned long, ...);
+    va_list more;
+    va_start(more, request);
+    void *with = va_arg(more, void *);
+    va_end(more);
+    if (is_refused("ioctl")) return -1;
+    *(void **)&next = next_of("ioctl");
+    return next(of, request, with);
 }
 
 int open(const char *path, int flags, ...);

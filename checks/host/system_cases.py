@@ -114,12 +114,15 @@ def case_names() -> None:
     host.kill()
 
 
-def counting(path: str, written: bytes) -> int:
-    """A client that has a file of the library's name with these bytes."""
-    code = "import os, sys, time; sys.path.insert(0, sys.argv[1]); from raw_client import RawClient; it = RawClient(sys.argv[2]); "
-    code += "file = os.memfd_create('pageshare-counts'); os.write(file, bytes.fromhex(sys.argv[3])); print('in', flush=True); time.sleep(60)"
+def counting(path: str, written: bytes, why: bytes = b"", seals: str = "fcntl.F_SEAL_SHRINK | fcntl.F_SEAL_GROW") -> int:
+    """A client that has a file of the library's name with these bytes, and words at their place."""
+    code = "import fcntl, os, sys, time; sys.path.insert(0, sys.argv[1]); from raw_client import RawClient; it = RawClient(sys.argv[2]); "
+    code += "file = os.memfd_create('pageshare-counts', os.MFD_CLOEXEC | os.MFD_ALLOW_SEALING); os.ftruncate(file, 4096); "
+    code += "os.pwrite(file, bytes.fromhex(sys.argv[3]), 0); os.pwrite(file, bytes.fromhex(sys.argv[4]), 1024); "
+    code += f"fcntl.fcntl(file, fcntl.F_ADD_SEALS, {seals}); print('in', flush=True); time.sleep(60)"
     folder = str(pathlib.Path(__file__).resolve().parent)
-    client = subprocess.Popen([*AS_NOBODY, sys.executable, "-c", code, folder, path, written.hex()], stdout=subprocess.PIPE, text=True)
+    words = [*AS_NOBODY, sys.executable, "-c", code, folder, path, written.hex(), why.hex()]
+    client = subprocess.Popen(words, stdout=subprocess.PIPE, text=True)
     HERE.place.started.append(client)
     must(client.stdout is not None and client.stdout.readline() == "in\n", "a client that counts isn't taken")
     return client.pid
@@ -127,17 +130,22 @@ def counting(path: str, written: bytes) -> int:
 
 def case_counts() -> None:
     """A status shows what clients say of their windows, and whatever a client writes there does no harm."""
-    names = ("mappings", "mappings_limit", "parts_whole", "parts_split", "parts_huge", "look_nanoseconds", "filtered")
-    numbers, most, nothing = (2, 1000, 20, 300, 4, 3, 2, 50, 1), 2**64 - 1, (0,) * 7
+    names = ("mappings", "mappings_limit", "parts_whole", "parts_split", "parts_huge", "look_nanoseconds", "filtered", "pause")
+    numbers, most, nothing = (3, 1000, 20, 300, 4, 3, 2, 50, 1, 7, 1), 2**64 - 1, (0,) * 8
     host = Host("--connection-rate", "1000", memory="64M")
+    written, wild = struct.pack("<11Q", *numbers), bytes(range(1, 256))
+    plain, odd = counting(str(host.socket), written, b"no cause"), counting(str(host.socket), written, wild)
     due = {
-        counting(str(host.socket), struct.pack("<9Q", *numbers)): numbers[2:], counting(str(host.socket), struct.pack("<8Q", *numbers[:8])): nothing,
-        counting(str(host.socket), struct.pack("<9Q", 1, *numbers[1:])): nothing, counting(str(host.socket), b""): nothing,
-        counting(str(host.socket), struct.pack("<9Q", 2, *[most] * 8)): (most,) * 7,
+        plain: (*numbers[2:9], 1), odd: (*numbers[2:9], 1), counting(str(host.socket), b""): nothing,
+        counting(str(host.socket), struct.pack("<11Q", 2, *numbers[1:])): nothing, counting(str(host.socket), written, b"x", "fcntl.F_SEAL_GROW"): nothing,
+        counting(str(host.socket), struct.pack("<11Q", 3, *[most] * 10)): (most,) * 8,
     }
     until(5, lambda: host.status()["clients"] == len(due), 0.1)
     found = {it["pid"]: tuple(it[f"client_{name}"] for name in names) for it in host.status()["processes"]}
     must(found == due, f"counts {found}, due {due}")
+    whys = {it["pid"]: it["why"] for it in host.status()["processes"]}
+    shown = "".join(chr(it) if 32 <= it < 127 and it not in b'"\\\\' else "?" for it in wild[:127])
+    must(whys[plain] == "no cause" and whys[odd] == shown, f"causes {whys}")
     for form, text in (("--prometheus", "pageshare_client_parts_split{"), ("", "of them huge")):
         ran = subprocess.run([HERE.host, "--status", host.socket, *form.split()], capture_output=True, text=True)
         must(ran.returncode == 0 and text in ran.stdout, f"{form}: {ran.stdout}")

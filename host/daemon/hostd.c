@@ -4,8 +4,11 @@
  * pages share a frame. One thread serves one domain. This file reads the options, makes the domains and waits for a signal. SIGHUP lets
  * the host begin anew with its settings as they are by then.
  */
+#include "check/trial.h"
 #include "domain.h"
 #include "pageshare.h"
+#include "pausing.h"
+#include "ready.h"
 #include "tables.h"
 #include "trouble.h"
 #include <fcntl.h>
@@ -77,6 +80,7 @@ static enum outcome serve_all(const struct settings *settings, int count, char *
     size_t begun = 0;
     sigset_t ends;
     int faults_device = open_faults_device();
+    prctl(PR_SET_NAME, "pageshare-host"); /* (one that has begun anew is called exe) */
     sigemptyset(&ends);
     sigaddset(&ends, SIGINT);
     sigaddset(&ends, SIGTERM);
@@ -87,9 +91,10 @@ static enum outcome serve_all(const struct settings *settings, int count, char *
     if (prctl(PR_SET_THP_DISABLE, 1, 0, 0, 0) != 0) trouble("prctl"); /* a huge page would take memory for 512 pages of zeros */
     bool good = start_all(domains, settings, &begun, faults_device);
     for (size_t i = 0; good && i < begun; i++)
-        log_line("domain %s serves at %s: up to %u clients, %llu MiB of frames", settings->domains[i].name,
+        log_note("domain %s serves at %s: up to %u clients, %llu MiB of frames", settings->domains[i].name,
                  settings->domains[i].socket, settings->domains[i].clients,
                  (unsigned long long)(settings->domains[i].memory >> 20));
+    if (good) ready_say();
     enum outcome outcome = good ? wait_for(&ends, settings, count, words) : OUTCOME_FAILED;
     for (size_t i = 0; i < begun; i++) domain_end(&domains[i]);
     if (faults_device >= 0) close(faults_device);
@@ -98,7 +103,7 @@ static enum outcome serve_all(const struct settings *settings, int count, char *
 
 /* Begins anew in the same process, of which nothing is left: each descriptor closes by itself. Returns only if that fails. */
 static int begin_anew(char **words) {
-    log_line("SIGHUP: the host begins anew");
+    log_note("SIGHUP: the host begins anew");
     execv("/proc/self/exe", words);
     trouble("/proc/self/exe");
     return 1;
@@ -111,6 +116,10 @@ int main(int count, char **words) {
     case TASK_HELP: return fputs(settings_help, stdout) < 0;
     case TASK_VERSION: return puts("pageshare-host " PAGESHARE_VERSION) < 0;
     case TASK_STATUS: return status_show(settings.status, settings.form, settings.watch);
+    case TASK_CHECK: return check_show(settings.seconds);
+    case TASK_MEMBER: return member_run(settings.seconds);
+    case TASK_PAUSE:
+    case TASK_RESUME: return pausing_ask(settings.guest, settings.task == TASK_PAUSE);
     case TASK_SERVE: break;
     }
     enum outcome outcome = serve_all(&settings, count, words);

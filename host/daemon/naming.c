@@ -2,13 +2,17 @@
 #include "naming.h"
 #include <ctype.h>
 #include <dirent.h>
+#include <errno.h>
 #include <fcntl.h>
 #include <stdio.h>
 #include <string.h>
 #include <sys/stat.h>
 #include <unistd.h>
 
-enum { WORDS_MOST = 65536 }; /* of a command line that is longer the rest isn't looked at */
+enum {
+    NO_FILE = -1,
+    WORDS_MOST = 65536 /* of a command line that is longer the rest isn't looked at */
+};
 
 static int open_of(uint64_t process, const char *what) {
     char path[128];
@@ -124,40 +128,74 @@ uint64_t naming_processor_of(uint64_t process) {
 
 /* Whether a descriptor of a process, by the name of its entry, has the library's name for its file of counts. */
 static bool is_counts(int folder, const char *descriptor) {
-    static const char wanted[] = "/memfd:" COUNTS_NAME;
+    static const char wanted[] = "/memfd:" COUNTS_NAME " (deleted)";
     char target[sizeof wanted];
     ssize_t length = readlinkat(folder, descriptor, target, sizeof target);
-    return length >= (ssize_t)sizeof wanted - 1 && memcmp(target, wanted, sizeof wanted - 1) == 0;
+    return length == (ssize_t)sizeof wanted - 1 && memcmp(target, wanted, sizeof wanted - 1) == 0;
 }
 
-/* Opens a file by another process's descriptor, if it is a regular file: to open anything else might do something. Returns it, or -1. */
-static int open_regular(int folder, const char *descriptor) {
-    struct stat facts;
+/* Opens a file again that is open, by its descriptor. */
+static int open_again(int descriptor, int flags) {
     char path[64];
-    int found = openat(folder, descriptor, O_PATH | O_CLOEXEC), file = -1;
-    if (found < 0) return -1;
-    snprintf(path, sizeof path, "/proc/self/fd/%d", found);
-    if (fstat(found, &facts) == 0 && S_ISREG(facts.st_mode)) file = open(path, O_RDONLY | O_CLOEXEC | O_NONBLOCK);
+    snprintf(path, sizeof path, "/proc/self/fd/%d", descriptor);
+    return open(path, flags | O_CLOEXEC | O_NONBLOCK);
+}
+
+/* Whether a file is the library's file of counts: any path can have its name, but only a file in memory has seals. */
+static bool is_sealed(int file) {
+    const int due = F_SEAL_SHRINK | F_SEAL_GROW;
+    struct stat facts;
+    int seals = fcntl(file, F_GET_SEALS);
+    return seals >= 0 && (seals & due) == due && fstat(file, &facts) == 0 && facts.st_size == COUNTS_BYTES && facts.st_nlink == 0;
+}
+
+/* Opens a file by another process's descriptor, if it is its file of counts: to open anything else might do something. Returns it, or -1. */
+static int open_sealed(int folder, const char *descriptor, int flags) {
+    struct stat facts;
+    int found = is_counts(folder, descriptor) ? openat(folder, descriptor, O_PATH | O_CLOEXEC) : NO_FILE;
+    if (found < 0) return NO_FILE;
+    int looked_at = fstat(found, &facts) == 0 && S_ISREG(facts.st_mode) ? open_again(found, O_RDONLY) : NO_FILE;
     close(found);
+    bool is_it = looked_at >= 0 && is_sealed(looked_at);
+    int file = is_it ? open_again(looked_at, flags) : NO_FILE;
+    if (looked_at >= 0) close(looked_at);
     return file;
 }
 
-static bool read_counts(int folder, const char *descriptor, struct counts *counts) {
-    int file = is_counts(folder, descriptor) ? open_regular(folder, descriptor) : -1;
-    if (file < 0) return false;
+int naming_open_counts(uint64_t process, int flags) {
+    char path[64];
+    int file = NO_FILE;
+    snprintf(path, sizeof path, "/proc/%llu/fd", (unsigned long long)process);
+    DIR *descriptors = opendir(path);
+    if (!descriptors) return NO_FILE;
+    for (const struct dirent *it; file < 0 && (it = readdir(descriptors)) != NULL;)
+        if (*it->d_name != '.') file = open_sealed(dirfd(descriptors), it->d_name, flags);
+    closedir(descriptors);
+    if (file < 0) errno = ENOENT;
+    return file;
+}
+
+bool naming_read_counts(int file, struct counts *counts) {
     bool is_read = pread(file, counts, sizeof *counts, 0) == (ssize_t)sizeof *counts && counts->version == COUNTS_VERSION;
-    close(file);
+    if (!is_read) *counts = (struct counts){0};
     return is_read;
 }
 
-bool naming_counts_of(uint64_t process, struct counts *counts) {
-    char path[64];
-    bool is_read = false;
-    snprintf(path, sizeof path, "/proc/%llu/fd", (unsigned long long)process);
-    DIR *descriptors = opendir(path);
-    for (const struct dirent *it; descriptors && !is_read && (it = readdir(descriptors)) != NULL;)
-        if (*it->d_name != '.') is_read = read_counts(dirfd(descriptors), it->d_name, counts);
-    if (descriptors) closedir(descriptors);
-    if (!is_read) *counts = (struct counts){0};
+/* Reads why nothing is lent. A process can write anything there. */
+static void read_why(int file, char why[COUNTS_WHY_MOST]) {
+    ssize_t got = pread(file, why, COUNTS_WHY_MOST - 1, COUNTS_WHY_AT);
+    why[got > 0 ? got : 0] = 0;
+    for (char *at = why; *at; at++)
+        if (*at < ' ' || *at > '~' || *at == '"' || *at == '\\') *at = '?';
+}
+
+bool naming_counts_of(uint64_t process, struct counts *counts, char why[COUNTS_WHY_MOST]) {
+    int file = naming_open_counts(process, O_RDONLY);
+    *counts = (struct counts){0};
+    *why = 0;
+    if (file < 0) return false;
+    bool is_read = naming_read_counts(file, counts);
+    if (is_read) read_why(file, why);
+    close(file);
     return is_read;
 }

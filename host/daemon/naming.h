@@ -21,7 +21,12 @@ void naming_of_words(const char *words, size_t bytes, char name[GUEST_NAME_MOST]
 uint64_t naming_tables_of(uint64_t process);
 /* The processor time of the thread by which the library looks in a process, in nanoseconds; 0 if there is none. */
 uint64_t naming_processor_of(uint64_t process);
-/* Reads what the library counts in a process, as the process says. Returns false if nothing can be read; then all is zeros. */
-bool naming_counts_of(uint64_t process, struct counts *counts);
+/* Reads what the library counts in a process, and why nothing is lent, as the process says. Returns false if nothing can be read; then all is
+ * zeros, and no words. */
+bool naming_counts_of(uint64_t process, struct counts *counts, char why[COUNTS_WHY_MOST]);
+/* Opens the file of these counts, with flags of open(2). Returns it, or -1 with errno: ENOENT if the process has none. */
+int naming_open_counts(uint64_t process, int flags);
+/* Reads the counts alone of that file. */
+bool naming_read_counts(int file, struct counts *counts);
 
 #endif

@@ -1,5 +1,6 @@
 #define _GNU_SOURCE
 #include "settings.h"
+#include "check/check.h"
 #include "trouble.h"
 #include <ctype.h>
 #include <grp.h>
@@ -10,6 +11,8 @@ const char settings_help[] =
     "\n"
     "  pageshare-host --domain NAME=SOCKET [--domain NAME=SOCKET ..] [OPTIONS]     serves clients\n"
     "  pageshare-host --status SOCKET [--json | --prometheus] [--watch]            prints what a domain's clients share\n"
+    "  pageshare-host --pause NAME|PID | --resume NAME|PID                         switches a guest's sharing off and on\n"
+    "  pageshare-host --check [--seconds N]                                        what this computer has, and a trial\n"
     "\n"
     "Of the domain named before it, or before the first one of all domains:\n"
     "  --memory SIZE          the most memory that shared pages take (default 1G; 512M, 16G, ..)\n"
@@ -26,6 +29,7 @@ const char settings_help[] =
     "Of the host:\n"
     "  --user NAME            becomes this user after it has opened /dev/userfaultfd\n"
     "  --settings FILE        reads options from a file: NAME VALUE or NAME = VALUE in a line, and comments behind a #\n"
+    "  --seconds N            how long --check tries sharing (default 20)\n"
     "  --help, --version\n"
     "\n"
     "A client is a monitor that was started with PAGESHARE_SOCKET=SOCKET LD_PRELOAD=libpageshare-window.so.\n";
@@ -125,6 +129,7 @@ static bool read_switch(struct settings *settings, struct domain_settings *domai
     else if (strcmp(option, "json") == 0) settings->form = STATUS_JSON;
     else if (strcmp(option, "prometheus") == 0) settings->form = STATUS_PROMETHEUS;
     else if (strcmp(option, "watch") == 0) settings->watch = true;
+    else if (strcmp(option, "check") == 0) settings->task = TASK_CHECK;
     else if (strcmp(option, "help") == 0) settings->task = TASK_HELP;
     else if (strcmp(option, "version") == 0) settings->task = TASK_VERSION;
     else *known = false;
@@ -158,6 +163,18 @@ static bool read_numbers(struct domain_settings *domain, const char *option, con
     return true;
 }
 
+/* How long a trial is. (--check-member is for the trial itself: it makes this process one of those that share.) */
+static bool read_seconds(struct settings *settings, const char *option, const char *value, bool *known) {
+    uint64_t number = 0;
+    bool is_member = strcmp(option, "check-member") == 0;
+    *known = is_member || strcmp(option, "seconds") == 0;
+    if (!*known) return true;
+    if (!read_number(option, value, 10, 1, CHECK_SECONDS_MOST, &number)) return false;
+    settings->seconds = (unsigned)number;
+    if (is_member) settings->task = TASK_MEMBER;
+    return true;
+}
+
 /* One option. `value` is NULL if none follows; `used` says whether it was one of the option's. */
 static bool read_option(struct settings *settings, const char *option, const char *value, bool *used) {
     struct domain_settings *domain = settings->domain_count ? &settings->domains[settings->domain_count - 1] : &settings->usual;
@@ -168,11 +185,17 @@ static bool read_option(struct settings *settings, const char *option, const cha
     *used = true;
     if (!value) return wrong(option, NULL, "unknown, or its value is missing (see --help)");
     bool good = read_numbers(domain, option, value, &known);
+    if (!known) good = read_seconds(settings, option, value, &known);
     if (known) return good;
     if (strcmp(option, "domain") == 0) return read_domain(settings, value);
     if (strcmp(option, "group") == 0) return read_group(value, &domain->group);
     if (strcmp(option, "user") == 0) return read_text(option, value, settings->user, sizeof settings->user);
     if (strcmp(option, "settings") == 0) return read_file(settings, value);
+    bool pauses = strcmp(option, "pause") == 0;
+    if (pauses || strcmp(option, "resume") == 0) {
+        settings->task = pauses ? TASK_PAUSE : TASK_RESUME;
+        return read_text(option, value, settings->guest, sizeof settings->guest);
+    }
     if (strcmp(option, "status") != 0) return wrong(option, value, "unknown option (see --help)");
     settings->task = TASK_STATUS;
     return read_text(option, value, settings->status, sizeof settings->status);
@@ -226,7 +249,7 @@ static bool read_file(struct settings *settings, const char *path) {
 }
 
 bool settings_read(struct settings *settings, int count, char **words) {
-    *settings = (struct settings){.usual = usual};
+    *settings = (struct settings){.usual = usual, .seconds = CHECK_SECONDS};
     for (int i = 1; i < count; i++) {
         bool used;
         if (strncmp(words[i], "--", 2) != 0) return wrong("", words[i], "not an option (see --help)");

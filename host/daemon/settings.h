@@ -27,7 +27,7 @@ struct domain_settings {
     bool trust_peers;         /* takes clients that are root or of the host's own user */
 };
 
-enum task { TASK_SERVE, TASK_STATUS, TASK_HELP, TASK_VERSION };
+enum task { TASK_SERVE, TASK_STATUS, TASK_CHECK, TASK_MEMBER, TASK_PAUSE, TASK_RESUME, TASK_HELP, TASK_VERSION };
 enum status_form { STATUS_TABLE, STATUS_JSON, STATUS_PROMETHEUS };
 
 struct settings {
@@ -37,8 +37,10 @@ struct settings {
     size_t domain_count;
     char user[NAME_MOST]; /* the user that the host becomes after it opened /dev/userfaultfd; "": it doesn't change */
     char status[PATH_MOST];
+    char guest[NAME_MOST]; /* whose sharing is to pause or go on: its name, or the number of its process */
     enum status_form form;
     bool watch;
+    unsigned seconds; /* of a trial */
 };
 
 /* Reads the command line. Returns false if a word or a line of the file is wrong, after it has printed which. */

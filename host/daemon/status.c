@@ -1,7 +1,7 @@
 #define _GNU_SOURCE
 #include "status.h"
 #include "devices.h"
-#include "naming.h"
+#include "others.h"
 #include "trouble.h"
 #include <stdlib.h>
 #include <sys/socket.h>
@@ -17,8 +17,11 @@ struct report {
 /* What the reader finds out itself. */
 static struct {
     char names[STATUS_CLIENTS_MOST][GUEST_NAME_MOST]; /* of the clients' guests */
-    uint64_t table_bytes;                             /* page tables of all clients */
-    int64_t net_bytes;                                /* what is left of what is reclaimed */
+    char whys[STATUS_CLIENTS_MOST][COUNTS_WHY_MOST];  /* why a client lends nothing, as it says; or empty */
+    struct other others[OTHERS_MOST];                 /* processes that have the library, and are no clients */
+    size_t other_count;
+    uint64_t table_bytes; /* page tables of all clients */
+    int64_t net_bytes;    /* what is left of what is reclaimed */
 } found;
 
 /*
@@ -81,6 +84,8 @@ static const struct number of_client[] = {
     TIME_OF_CLIENT("client_look_nanoseconds", "client_look_seconds", counts.round_ns, false,
                    "How long the client's last look took, as it says"),
     OF_CLIENT("client_filtered", counts.is_filtered, false, 1, "1 where a filter shows the library system calls, as it says"),
+    OF_CLIENT("client_pause", counts.state, false, 1,
+              "0: it shares, 1: --pause begins, 2: waits for memory, 3, 4: paused, as it says"),
     OF_CLIENT("client_devices", devices, false, 1, "0: none that pins pages, 1: seen calls, 2: unseen ones, 3: all, 4: unknown"),
 };
 enum { TOTALS_COUNT = sizeof of_totals / sizeof *of_totals, CLIENT_COUNT = sizeof of_client / sizeof *of_client, LABELS = 3 };
@@ -91,31 +96,51 @@ static uint64_t value_of(const struct number *number, const void *record) {
     return value * number->unit;
 }
 
-/* Connects, and takes the one message that is sent. */
-static bool receive(const char *socket_path, struct report *report) {
+/* Connects, and takes the one message that is sent. Returns false, with errno, which is EPROTO where it is of another version. */
+static bool take(const char *socket_path, struct report *report) {
     struct sockaddr_un name = {.sun_family = AF_UNIX};
     struct timeval patience = {.tv_sec = 5};
     int length = snprintf(name.sun_path, sizeof name.sun_path, "%s%s", socket_path, STATUS_SUFFIX);
-    if (length < 0 || (size_t)length >= sizeof name.sun_path) return (errno = ENAMETOOLONG, trouble(socket_path));
+    if (length < 0 || (size_t)length >= sizeof name.sun_path) return (errno = ENAMETOOLONG, false);
     int from = socket(AF_UNIX, SOCK_SEQPACKET | SOCK_CLOEXEC, 0);
-    if (from < 0) return trouble("socket");
+    if (from < 0) return false;
     ssize_t got = -1;
     if (setsockopt(from, SOL_SOCKET, SO_RCVTIMEO, &patience, sizeof patience) == 0 &&
         connect(from, (const struct sockaddr *)&name, sizeof name) == 0)
         got = recv(from, report, sizeof *report, 0);
     int cause = errno;
     close(from);
-    if (got < 0) return (errno = cause, trouble(name.sun_path));
+    if (got < 0) return (errno = cause, false);
     size_t totals = sizeof report->totals;
     bool is_whole = (size_t)got >= totals && report->totals.version == STATUS_VERSION &&
                     report->totals.listed <= STATUS_CLIENTS_MOST &&
                     (size_t)got == totals + report->totals.listed * sizeof *report->clients;
-    if (!is_whole) log_line("%s: not a status of this version", name.sun_path);
     report->totals.domain[NAME_MOST - 1] = 0;
-    return is_whole;
+    return is_whole || (errno = EPROTO, false);
+}
+
+/* The same, and prints why it fails. */
+static bool receive(const char *socket_path, struct report *report) {
+    if (take(socket_path, report)) return true;
+    log_line("%s%s: %s", socket_path, STATUS_SUFFIX, errno == EPROTO ? "not a status of this version" : strerror(errno));
+    return false;
 }
 
 static double mib(uint64_t pages) { return (double)pages * PAGE / (1 << 20); }
+
+static bool is_client(const void *of, uint64_t process) {
+    const struct report *report = of;
+    for (size_t i = 0; i < report->totals.listed; i++)
+        if (report->clients[i].pid == process) return true;
+    return false;
+}
+
+/* Why a client has lent nothing: an operator's pause, or what it says itself. */
+static void find_why(const struct status_client *client, char why[COUNTS_WHY_MOST]) {
+    bool is_paused = client->counts.state == COUNTS_PAUSED || client->counts.state == COUNTS_STAYS;
+    if (client->lent_pages > 0) *why = 0;
+    else if (is_paused) snprintf(why, COUNTS_WHY_MOST, "an operator has paused it (--resume)");
+}
 
 /* Finds what can be seen of clients' processes: what devices may do to their memory, their guests' names, and what they take. */
 static void find(struct report *report) {
@@ -127,7 +152,8 @@ static void find(struct report *report) {
         client->devices = devices_of_process(client->pid, &devices) ? (uint64_t)devices : STATUS_DEVICES_UNKNOWN;
         client->table_bytes = naming_tables_of(client->pid);
         client->looks_ns = naming_processor_of(client->pid);
-        naming_counts_of(client->pid, &client->counts);
+        naming_counts_of(client->pid, &client->counts, found.whys[i]);
+        find_why(client, found.whys[i]);
         naming_of_guest(client->pid, found.names[i]);
         found.table_bytes += client->table_bytes;
     }
@@ -160,6 +186,22 @@ static void show_clients(const struct report *report) {
     }
     if (any_unseen)
         puts("unseen: pages that were shared and written stay private, since a device may have pinned them; use aio=threads");
+}
+
+/* A process that shares nothing. */
+static void show_idle(bool *is_first, uint64_t process, uint64_t user, const char *name, const char *why) {
+    if (*is_first) printf("%12s %12s  %s\n", "process", "user", "shares nothing");
+    *is_first = false;
+    printf("%12llu %12llu  %s: %s\n", (unsigned long long)process, (unsigned long long)user, *name ? name : "-", why);
+}
+
+/* The processes of a table that share nothing, for all that is known, each with the cause. */
+static void show_idles(const struct report *report) {
+    bool is_first = true;
+    for (size_t i = 0; i < report->totals.listed; i++)
+        if (*found.whys[i]) show_idle(&is_first, report->clients[i].pid, report->clients[i].uid, found.names[i], found.whys[i]);
+    for (const struct other *it = found.others; it < found.others + found.other_count; it++)
+        show_idle(&is_first, it->process, it->user, it->name, it->why);
 }
 
 /* What the clients of a table say of their windows. */
@@ -198,6 +240,7 @@ static void show_table(const struct report *report) {
            (double)found.net_bytes / (1 << 20), (double)found.table_bytes / (1 << 20));
     show_clients(report);
     show_windows(report);
+    show_idles(report);
     if (totals->listed < totals->clients)
         printf("%12s and %llu more\n", "", (unsigned long long)(totals->clients - totals->listed));
 }
@@ -209,11 +252,15 @@ static void show_json(const struct report *report) {
     printf(",\"table_bytes\":%llu,\"net_bytes\":%lld,\"processes\":[", (unsigned long long)found.table_bytes,
            (long long)found.net_bytes);
     for (size_t c = 0; c < report->totals.listed; c++) {
-        printf("%s{\"guest\":\"%s\"", c ? "," : "", found.names[c]); /* (nor has that of a guest) */
+        printf("%s{\"guest\":\"%s\",\"why\":\"%s\"", c ? "," : "", found.names[c], found.whys[c]); /* (nor have these) */
         for (size_t i = 0; i < CLIENT_COUNT; i++)
             printf(",\"%s\":%llu", of_client[i].name, (unsigned long long)value_of(&of_client[i], &report->clients[c]));
         printf("}");
     }
+    printf("],\"others\":[");
+    for (size_t i = 0; i < found.other_count; i++)
+        printf("%s{\"guest\":\"%s\",\"pid\":%llu,\"uid\":%llu,\"why\":\"%s\"}", i ? "," : "", found.others[i].name,
+               (unsigned long long)found.others[i].process, (unsigned long long)found.others[i].user, found.others[i].why);
     printf("]}\n");
 }
 
@@ -271,12 +318,20 @@ static void show_line(const struct report *report, bool is_first) {
            mib(totals->reclaimed_pages));
 }
 
+bool status_totals_of(const char *socket_path, struct status_totals *totals) {
+    static struct report report;
+    if (!take(socket_path, &report)) return false;
+    *totals = report.totals;
+    return true;
+}
+
 int status_show(const char *socket_path, enum status_form form, bool watch) {
     static struct report report;
     bool is_terminal = isatty(STDOUT_FILENO) == 1;
     for (bool is_first = true;; is_first = false) {
         if (!receive(socket_path, &report)) return 1;
         find(&report);
+        if (form != STATUS_PROMETHEUS) found.other_count = others_find(socket_path, is_client, &report, found.others);
         if (form == STATUS_JSON) show_json(&report);
         else if (form == STATUS_PROMETHEUS) show_prometheus(&report);
         else if (watch && !is_terminal) show_line(&report, is_first);

@@ -12,7 +12,7 @@
 #include "settings.h"
 
 #define STATUS_SUFFIX ".status"
-enum { STATUS_VERSION = 5, STATUS_CLIENTS_MOST = 1024, STATUS_DEVICES_UNKNOWN = 4 };
+enum { STATUS_VERSION = 6, STATUS_CLIENTS_MOST = 1024, STATUS_DEVICES_UNKNOWN = 4 };
 
 struct status_totals {
     uint64_t version;
@@ -54,5 +54,8 @@ struct status_client {
 /* Prints what the domain at `socket` reports, in the form asked for; with `watch` each second until the reader ends it. Returns the
  * process's status: 0, or 1 if the domain can't be asked. */
 int status_show(const char *socket, enum status_form form, bool watch);
+
+/* Asks a domain for its totals alone. Returns false, with errno, if it can't be asked. */
+bool status_totals_of(const char *socket, struct status_totals *totals);
 
 #endif

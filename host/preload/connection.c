@@ -3,11 +3,13 @@
 #include "counts_file.h"
 #include "memory.h"
 #include "pageshare_window.h"
+#include "pausing.h"
 #include "remote.h"
 #include "sharing.h"
 #include "slices.h"
 #include "trouble.h"
 #include <fcntl.h>
+#include <poll.h>
 #include <pthread.h>
 #include <stdatomic.h>
 #include <stdlib.h>
@@ -217,8 +219,16 @@ static void report_no_host(int cause) {
     else log_line("no host at %s (%s); it is tried again each second", settings.socket, strerror(cause));
 }
 
+/* Where nothing changes nothing is said to the host, and so nothing is heard of its end. */
+static void notice_end(void) {
+    struct pollfd asked = {.fd = my.remote.socket, .events = POLLRDHUP};
+    if (my.remote.socket >= 0 && poll(&asked, 1, 0) > 0 && (asked.revents & (POLLRDHUP | POLLHUP | POLLERR)) != 0)
+        remote_disconnect(&my.remote);
+}
+
 /* Connects if there is no connection, and attaches its lender, not too often. Returns whether pages are lent by a host. */
 static bool connect_host(void) {
+    notice_end();
     bool is_connected = my.remote.socket >= 0;
     if (is_connected && my.is_attached) return true;
     if (my.is_refused || now_ns() < my.next_try_ns) return false;
@@ -233,7 +243,7 @@ static bool connect_host(void) {
         my.was_reported = true;
         return false;
     }
-    if (my.was_reported) log_line("connected to the host at %s", settings.socket);
+    if (my.was_reported) log_note("connected to the host at %s", settings.socket);
     my.was_reported = false;
     if (my.windows) windows_pace(my.windows, share(), BURST_PERCENT);
     else if (!make_windows()) return false;
@@ -308,7 +318,8 @@ static void find_devices(void) {
 static void do_chores(void) {
     struct windows_counts counts;
     find_devices();
-    if (my.is_attached && my.remote.socket >= 0) ranges_open(settings.flags);
+    pausing_heed(my.is_memory_short);
+    if (my.is_attached && my.remote.socket >= 0 && !pausing_is_on()) ranges_open(settings.flags);
     uint64_t begun_ns = now_ns(), spent_ns = clock_ns(CLOCK_THREAD_CPUTIME_ID);
     if (begun_ns < my.next_chores_ns) return;
     my.is_memory_short = memory_is_short();
@@ -375,7 +386,7 @@ static void write_times(const uint64_t *held, char *text, size_t room) {
 static void write_counts(const struct windows_counts *now) {
     char text[3584], held[WINDOWS_TIMES * 21];
     const struct windows_budget budget = windows_budget_of(my.windows);
-    counts_file_write(now);
+    counts_file_write(now, pausing_state());
     if (settings.counts < 0) return;
     write_times(now->held, held, sizeof held);
     int length = snprintf(
@@ -418,9 +429,13 @@ static uint64_t until_look_ms(void) {
 
 /* One turn of the thread. */
 static void turn(void) {
-    struct windows_counts counts;
+    struct windows_counts counts = {.windows = 0};
     connect_host();
-    if (!my.windows) return;
+    if (!my.windows) {
+        pausing_heed(false);
+        counts_file_write(&counts, pausing_state());
+        return;
+    }
     if (ranges_have_early()) {
         do_chores();
         return;

@@ -23,6 +23,14 @@ void ranges_open(unsigned flags);
 enum devices ranges_devices(void);
 /* Devices that were found to be open. */
 void ranges_found(enum devices devices);
+/*
+ * The next part of a window from `*at` on gets memory of its own and leaves the window, and `*at` becomes its end. Its range stays offered.
+ * Returns false if there is none. Where the result isn't WINDOW_OK some of its pages may show frames still.
+ */
+bool ranges_bring_home(uint8_t **at, struct window_result *result);
+/* Windows end of which all pages have left, and their ranges may become windows again. Returns false if one stays: devices may have pinned
+ * pages of it. */
+bool ranges_end_windows(void);
 /* Lending ends for good, since something is missing. */
 void ranges_refuse(const char *why);
 

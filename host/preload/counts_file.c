@@ -1,27 +1,50 @@
 #define _GNU_SOURCE
 #include "counts_file.h"
-#include "counts.h"
 #include "filter.h"
 #include "sharing.h"
 #include "trouble.h"
+#include <fcntl.h>
+#include <stdatomic.h>
 #include <sys/mman.h>
 #include <unistd.h>
 
 static int file = NOTHING;
+static _Atomic(const char *) noted;
 
-void counts_file_make(void) { file = sharing_own(memfd_create(COUNTS_NAME, MFD_CLOEXEC)); }
+void counts_file_make(void) {
+    file = sharing_own(memfd_create(COUNTS_NAME, MFD_CLOEXEC | MFD_ALLOW_SEALING));
+    if (file < 0) return;
+    /* (a reader that finds it unsealed, or of another size, leaves it alone) */
+    if (ftruncate(file, COUNTS_BYTES) == 0) fcntl(file, F_ADD_SEALS, F_SEAL_SHRINK | F_SEAL_GROW | F_SEAL_SEAL);
+    counts_file_write(&(struct windows_counts){.windows = 0}, COUNTS_SHARES);
+}
 
-void counts_file_write(const struct windows_counts *now) {
-    const struct counts counts = {.version = COUNTS_VERSION,
-                                  .pages = now->pages,
-                                  .mappings = now->mappings,
-                                  .mappings_most = now->mappings_most,
-                                  .parts_whole = now->parts_whole,
-                                  .parts_split = now->parts_split,
-                                  .parts_huge = now->parts_huge,
-                                  .round_ns = now->round_ns,
-                                  .is_filtered = filter_is_on()};
-    if (file < 0 || pwrite(file, &counts, sizeof counts, 0) == (ssize_t)sizeof counts) return;
+void counts_file_note(const char *why) { atomic_store(&noted, why); }
+
+void counts_file_write(const struct windows_counts *now, enum counts_state state) {
+    struct counts counts = {.version = COUNTS_VERSION,
+                            .pages = now->pages,
+                            .mappings = now->mappings,
+                            .mappings_most = now->mappings_most,
+                            .parts_whole = now->parts_whole,
+                            .parts_split = now->parts_split,
+                            .parts_huge = now->parts_huge,
+                            .round_ns = now->round_ns,
+                            .is_filtered = filter_is_on(),
+                            .lent = now->lent,
+                            .state = state};
+    const char *why = atomic_load(&noted);
+    char words[COUNTS_WHY_MOST] = "";
+    if (why) snprintf(words, sizeof words, "%s", why);
+    if (file < 0 || (pwrite(file, &counts, sizeof counts, 0) == (ssize_t)sizeof counts &&
+                     pwrite(file, words, sizeof words, COUNTS_WHY_AT) == (ssize_t)sizeof words))
+        return;
     close(file);
     file = NOTHING;
+}
+
+enum counts_wanted counts_file_wanted(void) {
+    uint64_t wanted = COUNTS_SHARE;
+    bool is_read = file >= 0 && pread(file, &wanted, sizeof wanted, COUNTS_WANTED_AT) == (ssize_t)sizeof wanted;
+    return is_read && wanted == COUNTS_PAUSE ? COUNTS_PAUSE : COUNTS_SHARE;
 }

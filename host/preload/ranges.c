@@ -66,6 +66,11 @@ void ranges_become(struct pageshare_window_range *range, struct window *window) 
     range->base = range->begin;
 }
 
+void ranges_end_being(const struct window *window) {
+    for (size_t i = 0; i < count; i++)
+        if (window_of(ranges[i].window) == window) ranges[i].window = ranges[i].base = 0;
+}
+
 /* Takes pages out of a range. */
 static bool take_out(const struct pageshare_window_range *range, uint64_t begin, uint64_t end) {
     bool is_out = pageshare_window_take_out(ranges, RANGES_MOST, &count, (size_t)(range - ranges), begin, end);

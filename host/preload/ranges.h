@@ -44,6 +44,8 @@ bool ranges_are_all(const struct piece *piece);
 bool ranges_add(uint8_t *at, size_t bytes, uint64_t now_ns);
 /* A range has become a window. */
 void ranges_become(struct pageshare_window_range *range, struct window *window);
+/* The window of some ranges has ended, and they aren't windows any more. */
+void ranges_end_being(const struct window *window);
 /*
  * Takes a piece out of its range, of which one or two parts may be left. Returns false if there is no place for the second one: then
  * nothing has changed.

@@ -1,6 +1,7 @@
 #define _GNU_SOURCE
 #include "sharing.h"
 #include "connection.h"
+#include "counts_file.h"
 #include "filter.h"
 #include "ranges.h"
 #include "signals.h"
@@ -55,6 +56,12 @@ static bool is_owner(void) {
 /* One line on standard error, and not very many of them. */
 static void say(const char *what, size_t bytes, const char *why) {
     if (atomic_fetch_add(&reported, 1) < REPORTS_MOST) log_line("%s of %zu MiB: %s", what, bytes >> 20, why);
+}
+
+/* The same of memory of which nothing is lent, also for who asks later. */
+static void say_none(size_t bytes, const char *why) {
+    say("nothing is lent", bytes, why);
+    counts_file_note(why);
 }
 
 /* ---- descriptors ---- */
@@ -385,7 +392,7 @@ bool sharing_end(const char *why) {
     if (inside || !is_owner() || atomic_load(&all_home)) return true;
     enter();
     size_t bytes = bytes_of_ranges();
-    if (atomic_compare_exchange_strong(&over, &none, true)) say("lending ends for good", bytes, why);
+    if (atomic_compare_exchange_strong(&over, &none, true)) say("lending ends for good", bytes, why), counts_file_note(why);
     leave();
     /* (without the lock: to unmap all frames takes long) */
     struct windows *set = atomic_load(&windows);
@@ -566,7 +573,7 @@ static void open_range(const struct piece *settled, uint64_t said, struct window
         read = NULL;
     }
     if (is_due && result.status != WINDOW_OK) {
-        if (now.bytes >= REPORT_BYTES) say("nothing is lent", now.bytes, window_status_words(result.status));
+        if (now.bytes >= REPORT_BYTES) say_none(now.bytes, window_status_words(result.status));
         ranges_remove(&now);
     }
     leave();
@@ -584,6 +591,41 @@ void ranges_open(unsigned flags) {
         open_range(&settled, said, read, result, flags);
     }
 }
+
+/* ---- an operator's pause ---- */
+
+bool ranges_bring_home(uint8_t **at, struct window_result *result) {
+    struct piece piece;
+    enter();
+    do {
+        piece = ranges_next(*at, (uint8_t *)(UINTPTR_MAX / PAGE * PAGE));
+        *at = piece.at + piece.bytes;
+    } while (piece.range && !piece.window);
+    if (piece.window) {
+        size_t kept, most = PART_BYTES - (uintptr_t)piece.at % PART_BYTES;
+        if (piece.bytes > most) piece.bytes = most;
+        *at = piece.at + piece.bytes;
+        *result = window_cut(piece.window, piece.first, piece.bytes / PAGE, &kept);
+    }
+    leave();
+    return piece.window != NULL;
+}
+
+bool ranges_end_windows(void) {
+    bool are_all = true;
+    enter();
+    for (size_t i = 0; i < ranges_count(); i++) {
+        struct window *window = ranges_at(i).window;
+        if (!window) continue;
+        bool is_ended = window_free(window, WINDOW_TAKE_HOME).status == WINDOW_OK;
+        if (is_ended) ranges_end_being(window);
+        are_all = are_all && is_ended;
+    }
+    leave();
+    return are_all;
+}
+
+/* ---- */
 
 enum devices ranges_devices(void) { return (enum devices)atomic_load(&worst); }
 

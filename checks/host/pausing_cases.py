@@ -1,0 +1,190 @@
+"""Cases of what an operator does with a guest that runs: sharing is switched off and on, and a guest that shares nothing is listed with the cause."""
+from __future__ import annotations
+
+import os
+import signal
+import subprocess
+import time
+from collections.abc import Sequence
+from typing import Any
+
+from breaker_cases import compile_folder, end_breakers, start_breaker
+from harness import PACKAGES, StrPath
+from parts_cases import compile_parts
+from places import AS_NOBODY, HERE, Host, LeftOut, all_released, in_time, must, preloaded, until
+from qemu_guests import QEMU, is_there
+from running_guests import go_on, guest, guests, settle
+
+# Pages that `stays` of raw_calls.c lends at least.
+LEAST = 1000
+LATE = 3
+
+
+def ask(what: str, whom: object, user: Sequence[str] = ()) -> subprocess.CompletedProcess[str]:
+    return subprocess.run([*user, HERE.host, f"--{what}", str(whom)], capture_output=True, text=True, timeout=100)
+
+
+def client(host: Host, pid: int) -> dict[str, Any]:
+    """What a status says of a client."""
+    found: list[dict[str, Any]] = [it for it in (host.status() or {"processes": []})["processes"] if it["pid"] == pid]
+    return found[0] if found else {"client_lent_bytes": 0, "client_pause": -1, "why": "", "connected": 0}
+
+
+def lends(host: Host, pid: int, least: int = LEAST) -> None:
+    good, _ = until(40, lambda: client(host, pid)["client_lent_bytes"] >= least * 4096, 0.1)
+    in_time(good, f"process {pid} doesn't share: {host.status()}")
+
+
+def stays(host: Host, program: StrPath, name: str) -> subprocess.Popen[str]:
+    """A process that shares and writes its pages now and then, by the name of a guest. It ends by a line, and then says whether all was right."""
+    env = preloaded(host, {"PAGESHARE_PERIOD_MS": "50", "PAGESHARE_CPU": "100", "PAGESHARE_COUNTS": str(HERE.place.room / f"{name}.json")})
+    ran = subprocess.Popen([*AS_NOBODY, program, "stays", "-name", f"guest={name}"], env=env, text=True, stdin=subprocess.PIPE, stdout=subprocess.PIPE,
+                           stderr=subprocess.STDOUT)
+    HERE.place.started.append(ran)
+    assert ran.stdout
+    line = ran.stdout.readline().strip()
+    must(line == "lent", f"{name} says {line}")
+    return ran
+
+
+def is_paused(host: Host, pid: int) -> bool:
+    it = client(host, pid)
+    return it["client_lent_bytes"] == 0 and it["client_pause"] == LATE and "paused" in it["why"]
+
+
+def case_pause() -> None:
+    """--pause takes a guest's memory home while others share; it stays so with a new host; --resume shares again; and what can't be asked."""
+    program, host = compile_parts("raw_calls"), Host(memory="64M")
+    one, other = stays(host, program, "web1"), stays(host, program, "web2")
+    for ran in (one, other):
+        lends(host, ran.pid)
+    paused = ask("pause", "web1")
+    must(paused.returncode == 0 and f"guest web1, process {one.pid}: all of its memory is its own" in paused.stdout, f"{paused}")
+    good, _ = until(10, lambda: is_paused(host, one.pid), 0.1)
+    must(good, f"web1 isn't paused: {host.status()}")
+    must(client(host, other.pid)["client_lent_bytes"] >= LEAST * 4096, f"web2 doesn't share any more: {host.status()}")
+    host.kill()
+    host.start()
+    lends(host, other.pid)
+    time.sleep(2)
+    must(is_paused(host, one.pid) and client(host, one.pid)["connected"], f"web1 isn't paused with a new host: {host.status()}")
+    resumed = ask("resume", one.pid)
+    must(resumed.returncode == 0 and "it shares again" in resumed.stdout, f"{resumed}")
+    lends(host, one.pid)
+    refuse_to_pause()
+    end_while_pausing(one)
+    said = other.communicate("\n", timeout=30)[0]
+    must(other.returncode == 0, said)
+    all_released(host)
+    host.stop()
+
+
+def refuse_to_pause() -> None:
+    """Whom nobody can ask."""
+    for whom, why in (("nobody", "no guest that is called nobody"), (2**22 + 5, "No such process"), (os.getpid(), "shares no memory"), (1, "shares no memory")):
+        ran = ask("pause", whom)
+        must(ran.returncode == 1 and why in ran.stderr and not ran.stdout, f"{whom}: {ran}")
+    ran = ask("pause", 1, AS_NOBODY)
+    must(ran.returncode == 1 and "ask as root" in ran.stderr, f"as nobody: {ran}")
+    for words in (["--pause"], ["--pause", ""], ["--resume", "x" * 100]):
+        must(subprocess.run([HERE.host, *words], capture_output=True).returncode == 2, f"{words} is taken")
+
+
+def end_while_pausing(ran: subprocess.Popen[str]) -> None:
+    """A guest whose library stands still is asked, and ends."""
+    ran.send_signal(signal.SIGSTOP)
+    asks = subprocess.Popen([HERE.host, "--pause", str(ran.pid)], stdout=subprocess.PIPE, stderr=subprocess.PIPE, text=True)
+    time.sleep(1)
+    must(asks.poll() is None, "a guest that stands still is paused")
+    ran.kill()
+    said = asks.communicate(timeout=20)
+    must(asks.returncode == 1 and "has ended meanwhile" in said[1], f"status {asks.returncode}: {said}")
+
+
+def case_pause_busy() -> None:
+    """Sharing is switched off and on while random calls of a monitor go on beside a shadow of each byte: SECONDS=N."""
+    program, host, seconds = compile_folder("breaker"), Host(memory="256M"), int(os.environ.get("SECONDS", "16"))
+    ran = [start_breaker(program, host, seed, seconds) for seed in range(4)]
+    pids, end, paused = [it.pid for _, it in ran], time.time() + seconds - 2, 0
+    for turn in range(1000):
+        if time.time() > end:
+            break
+        asked = [subprocess.Popen([HERE.host, f"--{'resume' if turn % 2 else 'pause'}", str(it)], stdout=subprocess.PIPE, text=True) for it in pids]
+        time.sleep(1.5)
+        for it in asked:
+            it.kill()
+            paused += "its memory is its own" in it.communicate()[0]
+    end_breakers(ran, seconds)
+    print(f"  {paused} times paused")
+    in_time(paused > 0, "nothing was paused")
+    all_released(host)
+    host.stop()
+
+
+# QEMU's words, and what is said of it.
+NOT_SHARED: Sequence[tuple[str, dict[str, Any], str]] = (
+    ("mem-merge=off", {"machine": "q35,mem-merge=off"}, "mem-merge=off, in libvirt <nosharepages/>"),
+    ("mem-lock=on", {"more": ["-overcommit", "mem-lock=on"]}, "locks its memory"),
+    ("memfd", {"machine": "q35,memory-backend=m", "more": ["-object", "memory-backend-memfd,id=m,size=64M,share=on"]}, "not private"),
+)
+
+
+def why(host: Host, pid: int) -> tuple[str, str]:
+    """Where a status has a process, and the cause."""
+    state = host.status()
+    for place in ("processes", "others"):
+        for it in state[place]:
+            if it["pid"] == pid and it["why"]:
+                return place, it["why"]
+    return "", ""
+
+
+def case_shares_nothing() -> None:
+    """A process that shares nothing is listed with the cause: one that offers nothing, a QEMU without merging, one that locks, and one with a memfd."""
+    host = Host("--trust-peers", memory="64M")
+    idle = subprocess.Popen([*AS_NOBODY, "sleep", "100"], env=preloaded(host))
+    HERE.place.started.append(idle)
+    plain = subprocess.Popen([*AS_NOBODY, "sleep", "100"], env={**os.environ, "PAGESHARE_SOCKET": str(host.socket)})
+    HERE.place.started.append(plain)
+    good, _ = until(10, lambda: why(host, idle.pid) == ("others", "it offers nothing: it doesn't say MADV_MERGEABLE"), 0.2)
+    must(good and [it["pid"] for it in host.status()["others"]] == [idle.pid], f"{host.status()}")
+    if not is_there(QEMU):
+        raise LeftOut(f"guests, since there is no {QEMU}", PACKAGES[QEMU])
+    for number, (name, words, cause) in enumerate(NOT_SHARED):
+        may_lock = name == "mem-lock=on"  # (only root may lock so much)
+        made: Any = guest(number, host, work="none", mib=64, wrap=() if may_lock else AS_NOBODY, **words)
+        good, _ = until(30, lambda: cause in why(host, made.pid)[1], 0.2)
+        found = why(host, made.pid)
+        print(f"  {name}, {found[0]}: {found[1]}")
+        must(good, f"{name}: {found}; {host.status()}")
+        table = subprocess.run([HERE.host, "--status", host.socket], capture_output=True, text=True).stdout
+        must("shares nothing" in table and found[1] in table, table)
+        made.kill()
+    idle.kill()
+    host.stop()
+
+
+def processor_ns(host: Host, pid: int) -> int:
+    return int(client(host, pid).get("client_processor_nanoseconds_total", 0))
+
+
+def case_pause_guests() -> None:
+    """A QEMU guest is paused while it works and shares again; its thread takes 1 % of a processor beside its share meanwhile."""
+    host = Host()
+    made = guests(2, host)
+    settle(host, made)
+    lent_mib, begun, spent = client(host, made[0].pid)["client_lent_bytes"] / (1 << 20), time.time(), processor_ns(host, made[0].pid)
+    paused = ask("pause", made[0].pid)
+    took, spent = time.time() - begun, processor_ns(host, made[0].pid) - spent
+    print(f"  {lent_mib:.1f} MiB came home in {took:.1f} s; its thread took {spent / 1e7 / took:.1f} % of a processor")
+    must(paused.returncode in (0, LATE), f"{paused}")
+    good, _ = until(300, lambda: is_paused(host, made[0].pid), 0.5)
+    must(good, f"{host.status()}")
+    go_on(made)
+    must(ask("resume", made[0].pid).returncode == 0, "it doesn't share again")
+    print(f"  shared again after {settle(host, made):.0f} s")
+    go_on(made)
+    for it in made:
+        it.kill()
+    all_released(host)
+    host.stop()
