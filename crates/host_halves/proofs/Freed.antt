@@ -1,0 +1,56 @@
+-- A client's slot that is released is free, and no other slot changes.
+use Rattle.std.proofs.Common.{◌≡◌, ◌≢◌, ◌∙◌, ℕ, ◌<◌, ◌≤◌, ◌⊎◌, inl, inr, Bool, true, false, cond, List, length, Option, Some, None, refl, ap, sym, subst}
+use Rattle.std.proofs.lemmas.Bool.{cases_eq, cases_lt}
+use Rattle.std.proofs.lemmas.List.{get_or-set_same, get_or-set_other, set_past, get_or_past}
+use Rattle.lent_slots.specs.declared.holding.Holding.{Holding}
+use Rattle.lent_slots.specs.Slots.{MachineView, holding, is_of, released_by, released}
+use Rattle.lent_slots.proofs.SlotLists.{held_within, set_same, set_other}
+use Rattle.share_domain.specs.declared.holding.Slot.{Slot}
+use Rattle.share_domain.specs.Domains.{DomainView, with_machines, with_released, machine_at, no_machine, held_in, after_release}
+
+abbrev slot_at : ℕ → ℕ → Slot
+slot_at machine ppn = record { machine = machine; ppn = ppn }
+
+same_slot : (a b : Slot) → a.machine ≡ b.machine → a.ppn ≡ b.ppn → a ≡ b
+same_slot a b e f = ap (λ (m : ℕ). slot_at m a.ppn) e ∙ ap (λ (k : ℕ). slot_at b.machine k) f
+
+released_other : (v : MachineView) (ppn other : ℕ) (held : Option Holding) → other ≢ ppn → holding (released_by v ppn held).slots other ≡ holding v.slots other
+released_other v ppn other None ne = refl
+released_other v ppn other (Some h) ne = set_other v.slots ppn other None ne
+
+-- another slot stays
+pub other_held : (d : DomainView) (client : ℕ) (slot s : Slot) → (s ≡ slot → ⊥) → held_in (after_release client slot d).machines s ≡ held_in d.machines s
+other_held d client slot s ne = pick (is_of client (held_in d.machines slot)) where
+  there : (cases : (s.machine ≡ slot.machine) ⊎ (s.machine ≡ slot.machine → ⊥)) → held_in (with_released slot d.machines) s ≡ held_in d.machines s
+  there (inr apart) = ap (λ (v : MachineView). holding v.slots s.ppn) (get_or-set_other d.machines slot.machine s.machine (released slot.ppn (machine_at d.machines slot.machine)) no_machine apart)
+  there (inl e) = within (cases_lt slot.machine (length d.machines)) where
+    within : (slot.machine < length d.machines) ⊎ (length d.machines ≤ slot.machine) → held_in (with_released slot d.machines) s ≡ held_in d.machines s
+    within (inr l) = ap (λ (ms : List MachineView). held_in ms s) (set_past d.machines slot.machine (released slot.ppn (machine_at d.machines slot.machine)) l)
+    within (inl l) =
+        ap (λ (k : ℕ). holding (machine_at (with_released slot d.machines) k).slots s.ppn) e
+        ∙ ap (λ (v : MachineView). holding v.slots s.ppn) (get_or-set_same d.machines slot.machine (released slot.ppn (machine_at d.machines slot.machine)) no_machine l)
+        ∙ released_other (machine_at d.machines slot.machine) slot.ppn s.ppn (holding (machine_at d.machines slot.machine).slots slot.ppn) (λ f. ne (same_slot s slot e f))
+        ∙ ap (λ (k : ℕ). holding (machine_at d.machines k).slots s.ppn) (sym e)
+
+  pick : (b : Bool) → held_in (let x : DomainView = cond b (with_machines d (with_released slot d.machines)) d in x.machines) s ≡ held_in d.machines s
+  pick false = refl
+  pick true = there (cases_eq s.machine slot.machine)
+
+-- a slot that a client holds
+a_holding : (client : ℕ) (o : Option Holding) → is_of client o ≡ true → (h : Holding) × (o ≡ Some h)
+a_holding client None e = cc
+a_holding client (Some h) e = (h, refl)
+
+none_past : (ppn : ℕ) (v : MachineView) (h : Holding) → v ≡ no_machine → holding v.slots ppn ≡ Some h → ⊥
+none_past ppn v h e f = let g : holding no_machine.slots ppn ≡ Some h = subst (λ (x : MachineView). holding x.slots ppn ≡ Some h) e f in cc
+
+pub own_held : (d : DomainView) (client : ℕ) (slot : Slot) → is_of client (held_in d.machines slot) ≡ true → held_in (after_release client slot d).machines slot ≡ None
+own_held d client slot is =
+    let x = a_holding client (held_in d.machines slot) is in
+    ap (λ (b : Bool). held_in (let y : DomainView = cond b (with_machines d (with_released slot d.machines)) d in y.machines) slot) is ∙ within x.0 x.1 (cases_lt slot.machine (length d.machines)) where
+      within : (h : Holding) → held_in d.machines slot ≡ Some h → (slot.machine < length d.machines) ⊎ (length d.machines ≤ slot.machine) → held_in (with_released slot d.machines) slot ≡ None
+      within h e (inr l) = absurd (none_past slot.ppn (machine_at d.machines slot.machine) h (get_or_past d.machines slot.machine no_machine l) e)
+      within h e (inl l) =
+          ap (λ (v : MachineView). holding v.slots slot.ppn) (get_or-set_same d.machines slot.machine (released slot.ppn (machine_at d.machines slot.machine)) no_machine l)
+          ∙ ap (λ (o : Option Holding). holding (released_by (machine_at d.machines slot.machine) slot.ppn o).slots slot.ppn) e
+          ∙ set_same (machine_at d.machines slot.machine).slots slot.ppn None (held_within (machine_at d.machines slot.machine).slots slot.ppn h e)

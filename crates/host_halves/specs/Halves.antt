@@ -1,0 +1,56 @@
+-- A session of a host as the host's half of a session.
+use Rattle.std.specs.Prelude.{◌≡◌, ℕ, ◌<◌, ◌≤◌, ◌==◌, nat_eq, false, if◌then◌else◌, List, [], length, Option, Some, None}
+use Rattle.lent_slots.specs.declared.holding.Holding.{Holding}
+use Rattle.share_domain.specs.declared.number.TheConstants.{SLOTS_APART, NO_FRAME}
+use Rattle.share_domain.specs.Domains.{DomainView, machine_at, held_in, region_frame, entered}
+use Rattle.share_domain.specs.Numbers.{slot_by}
+use Rattle.host_sessions.specs.declared.session.Begun.{Begun}
+use Rattle.host_messages.specs.declared.item.Lent.{Lent}
+use Rattle.host_sessions.specs.Table.{heard, heard_with, lost_of, new_session}
+use Rattle.host_sessions.specs.Table as table
+use Rattle.host_sessions.specs.Turns.{after_releases, slots_in, LendsInTurn}
+use Rattle.session_laws.specs.World.{HostSide, fresh, released, resumed, lent, AreFree}
+
+-- the number of the frame that a slot of a machine has, if it is the client's
+abbrev pub frame_if : ℕ → ℕ → ℕ → Option Holding → Option ℕ
+frame_if client frames machine None = None
+frame_if client frames machine (Some h) = if h.client == client then Some (region_frame frames machine h.frame) else None
+
+abbrev pub frame_for : ℕ → DomainView → ℕ → Option ℕ
+frame_for client d number = frame_if client d.frames (slot_by number).machine (held_in d.machines (slot_by number))
+
+-- a session that has begun, with these slots of its last reply to Lend, over a domain: this is the host's half
+pub record IsHalf (b : Begun) (slots : List ℕ) (d : DomainView) (h : HostSide) : Type 0 where
+  pub name : h.name ≡ Some b.name
+  pub loans : h.loans ≡ b.loans
+  pub last : slots_in h.last ≡ slots
+  pub held : (number : ℕ) → h.held number ≡ frame_for b.client d number
+
+-- a release that the host hears does what it does to the half
+abbrev pub ReleasesHalf : Type 0
+ReleasesHalf =
+    (b : Begun) (last slots : List ℕ) (d : DomainView) (h : HostSide) → IsHalf b last d h →
+    IsHalf (heard b) last (after_releases b.client slots d) (released slots h)
+
+-- and so does taking the session up
+abbrev pub ResumesHalf : Type 0
+ResumesHalf =
+    (b : Begun) (loans : ℕ) (last : List ℕ) (d : DomainView) (h : HostSide) → IsHalf b last d h →
+    IsHalf (heard_with b loans) [] (after_releases b.client (lost_of b loans last) d) (resumed loans h)
+
+-- A domain's slots have their numbers, and no frame has the number that stands for none.
+pub record HasNumbers (d : DomainView) : Type 0 where
+  pub slots : (m : ℕ) → length (machine_at d.machines m).slots ≤ SLOTS_APART
+  pub frames : (m mpn : ℕ) → mpn < length (machine_at d.machines m).frames → nat_eq (region_frame d.frames m mpn) NO_FRAME ≡ false
+
+-- and so does a lend, by slots that were free
+abbrev pub LendsHalf : Type 0
+LendsHalf =
+    (salt quota : ℕ) (b : Begun) (last : List ℕ) (pages : List (List ℕ)) (loans : List Lent) (old new : DomainView) (h : HostSide) → HasNumbers old → IsHalf b last old h →
+    LendsInTurn salt b.client quota pages loans old new → IsHalf (table.lent b) (slots_in loans) new (lent loans h) × AreFree loans h.held
+
+-- A session that begins with a client that has no slots is the half of one that has just begun.
+abbrev pub BeginsHalf : Type 0
+BeginsHalf =
+    (name : List ℕ) (client : ℕ) (d : DomainView) → ((number : ℕ) → frame_for client d number ≡ None) →
+    IsHalf (new_session name client) [] (entered d (Some client)) (fresh name)

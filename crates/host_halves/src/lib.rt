@@ -1,0 +1,27 @@
+//! Sessions of a proved host as the host's half of `session_laws`.
+//!
+//! The laws hold for every domain and session. The functions' bodies are empty: the contract is all there is.
+#![tactic(auto)]
+
+ghost use Rattle.host_halves.specs.Halves.{BeginsHalf, LendsHalf, ReleasesHalf, ResumesHalf};
+
+/// What a session's `Release` does to the domain is what it does to the half.
+pub fn release_law()
+    ensures { ReleasesHalf }
+{}
+
+/// When a session is taken up, what is released is what the half takes back.
+pub fn resume_law()
+    ensures { ResumesHalf }
+{}
+
+/// What a session's `Lend` does is what it does to the half, by slots that were free. The premise is that slots and frames have numbers
+/// of their own.
+pub fn lend_law()
+    ensures { LendsHalf }
+{}
+
+/// A session that begins is the half of one that has just begun. The premise is that its client has no slots.
+pub fn begin_law()
+    ensures { BeginsHalf }
+{}
