@@ -144,7 +144,7 @@ def case_postcopy() -> None:
     must(source.qmp().do("migrate-start-postcopy").get("return") == {}, "the postcopy doesn't begin")
     good, took = until(60, lambda: source.qmp().do("query-migrate")["return"]["status"] in ("completed", "failed", "postcopy-paused"), 0.2)
     state = source.qmp().do("query-migrate")["return"]
-    must(good and state["status"] == "completed", str(state))
+    must(good and state["status"] == "completed", f"{read(target.log)[-600:]} {state}")
     pairs = list(zip(pages_of(source), pages_of(target)))
     wrong = [number for number, (one, other) in enumerate(pairs) if one != other]
     must(not wrong, f"{len(wrong)} of {len(pairs)} pages differ, such as {wrong[:5]}")

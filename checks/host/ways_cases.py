@@ -1,6 +1,7 @@
 """QEMU's own ways to reach a guest's memory, by chance and one after another, beside a shadow of each byte (driven_guest.py)."""
 from __future__ import annotations
 
+import contextlib
 import copy
 import os
 import random
@@ -211,11 +212,20 @@ class Ways:
         self.driven.note(at + NET_HEADER, frame)
         at, size = self.by.choice(self.pages), self.by.randint(LEAST_FRAME, 1500)
         self.driven.store(HEADERS_AT, bytes(NET_HEADER))
+        self.empty_net()
         self.send.run([(HEADERS_AT, NET_HEADER, False), (at, size, False)])
         came = self.net.recv(4096)
-        while came[12:14] == RARP:  # (a machine that was migrated says so)
+        while came[12:14] == RARP:
             came = self.net.recv(4096)
         must(came == self.driven.known(at, size), f"a packet of what is at {at:#x}")
+
+    def empty_net(self) -> None:
+        """A machine that was migrated says so by packets, and more than some keep QEMU from sending others."""
+        self.net.settimeout(0)
+        with contextlib.suppress(BlockingIOError):
+            while self.net.recv(4096):
+                pass
+        self.net.settimeout(PATIENCE_SECONDS)
 
     def use_rng(self) -> None:
         at, size = self.by.choice(self.pages) + self.by.randrange(2048), self.by.randint(1, 2000)

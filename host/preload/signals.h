@@ -3,6 +3,7 @@
 #define HOST_SIGNALS_H
 
 #include <signal.h>
+#include <stddef.h>
 
 /*
  * Signals wait from now on, but for those that the thread itself causes. A handler must not run where its thread has a lock of the library:
