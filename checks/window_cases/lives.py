@@ -21,7 +21,7 @@ from harness import Tally
 
 # The table's pages are 1 to 4. Page 0 has another lender.
 PAGES, FIRST = 4, 1
-SEEDS, MOVES = 4, 12_000
+SEEDS, MOVES = 4, 20_000
 # The events for which an order stands, where that is done.
 EVENTS = {
     HOLD: ["guard"], HOLD_ZEROS: ["guard"], MAP: ["map"], LET_GO: ["unguard"], PUT_BACK: ["unguard"], RELEASE: ["release"],
