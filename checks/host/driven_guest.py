@@ -5,7 +5,6 @@ import base64
 import json
 import os
 import signal
-import socket
 import struct
 import subprocess
 import time
@@ -14,7 +13,7 @@ from typing import Any
 
 from harness import StrPath
 from places import HERE, must, until
-from qemu_guests import PAGE, QEMU, Qmp, read
+from qemu_guests import PAGE, QEMU, Qmp, connected, read
 
 RAM_BYTES, BELOW, DIMM_AT = 24 << 20, 1 << 20, 1 << 32
 PATIENCE_SECONDS, LINE_BYTES = 60, 1 << 15
@@ -79,9 +78,7 @@ class Driven:
         must(until(30, lambda: self.wire.exists() and self.monitor.exists(), 0.05)[0], f"QEMU doesn't begin: {read(self.log)[-400:]}")
         self.qmp = Events(self.monitor)
         self.qmp.socket.settimeout(PATIENCE_SECONDS)
-        self.qtest = socket.socket(socket.AF_UNIX)
-        self.qtest.settimeout(PATIENCE_SECONDS)
-        self.qtest.connect(str(self.wire))
+        self.qtest = connected(self.wire, PATIENCE_SECONDS)
         self.lines = self.qtest.makefile("r")
         self.memory = {0: bytearray(RAM_BYTES)}
         self.number = number

@@ -60,13 +60,25 @@ def initramfs(busybox: StrPath, modules: StrPath, most_bytes: int = 23 << 20) ->
     return archive(files)
 
 
+def connected(path: StrPath, seconds: float) -> socket.socket:
+    """A connection whose calls have so many seconds. (QEMU makes the file, and listens a little later.)"""
+    made, end = socket.socket(socket.AF_UNIX), time.time() + seconds
+    made.settimeout(seconds)
+    while True:
+        try:
+            made.connect(str(path))
+            return made
+        except ConnectionRefusedError:
+            if time.time() > end:
+                raise
+            time.sleep(0.02)
+
+
 class Qmp:
     """QEMU's monitor."""
 
     def __init__(self, path: StrPath) -> None:
-        self.socket = socket.socket(socket.AF_UNIX)
-        self.socket.settimeout(120)
-        self.socket.connect(str(path))
+        self.socket = connected(path, 120)
         self.lines = self.socket.makefile("r")
         self.lines.readline()
         self.do("qmp_capabilities")
