@@ -407,8 +407,8 @@ def try_removal(tally: Tally, room: pathlib.Path) -> None:
     tally.equal("an upgrade says nothing", run("sh", f"{script}.prerm", "upgrade", "1", env=env), (0, "", ""))
     tally.equal("a removal", run("sh", f"{script}.postrm", "remove", env=env), (0, "", ""))
     emulator = root / "usr/bin/pageshare-qemu"
-    tally.holds("a removal leaves an emulator", os.access(emulator, os.X_OK) and (root / "etc/pageshare/web.conf").exists(), said)
-    if has("qemu-system-x86_64"):
+    is_left = os.access(emulator, os.X_OK) and (root / "etc/pageshare/web.conf").exists()
+    if tally.holds("a removal leaves an emulator", is_left, said) and has("qemu-system-x86_64"):
         said = run(emulator, "-name", "guest=web1", "--version")
         tally.holds("it is QEMU", said[0] == 0 and "QEMU" in said[1] and not said[2], said)
     tally.equal("a purge", run("sh", f"{script}.postrm", "purge", env=env), (0, "", ""))

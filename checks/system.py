@@ -4,8 +4,8 @@
     checks/system.py [--root FOLDER] [--suite SUITE] [--mirror URL] [--keep]
 
 It makes a Debian by mmdebstrap, boots it by systemd-nspawn, installs the Debian package of the host, and starts three guests by virsh:
-two with the emulator of the package and one with variables. Then come, one case each: sharing, a restart and a kill of the host, a
-reload, suspend, save, managedsave, setmem, a dump by migration, destroy, a second domain, a refused connection, numbers for Prometheus,
+two with the emulator of the package and one with variables. Then come, one case each: `--check`, sharing, a restart and a kill of the host, a
+reload, suspend, save, managedsave, setmem, a dump by migration, destroy, a second domain, a pause, a refused connection, numbers for Prometheus,
 an upgrade, a removal and a purge. Each guest works on files and checks all that it reads; after each step each has gone on, and has
 read no wrong byte. Guests are emulated.
 
@@ -231,6 +231,12 @@ class Day:
         must(self.shop.try_it("systemctl start pageshare-host@wrong").returncode != 0, "a domain with a wrong word starts")
         self.shop.do("rm /etc/pageshare/wrong.conf; systemctl reset-failed pageshare-host@wrong")
 
+    def step_check(self) -> None:
+        """--check finds what the package has made, and its trial of sharing is right."""
+        said = self.shop.do("pageshare-host --check --seconds 10")
+        print("".join(f"  {line}\n" for line in said.splitlines()[-3:]), end="", flush=True)
+        must(re.search("(?m)^good +host's user", said) and re.search("(?m)^right", said), said)
+
     def step_guests(self) -> None:
         """Three guests are started by virsh, and share."""
         shutil.copy(self.kernel()[0], self.shop.root / "var/lib/libvirt/images/vmlinuz")
@@ -313,6 +319,19 @@ class Day:
         self.guests.append(Guest(self.shop, "build-1", 4, socket=BUILD))
         until(SECONDS, lambda: self.shop.lent(BUILD).get("build-1", 0) >= 4, lambda: f"{self.shop.lent(BUILD)}; {self.guests[-1].said()}")
         must("build-1" not in self.shop.lent(), "the guest is in both domains")
+        self.shares()
+
+    def step_pause(self) -> None:
+        """A guest is paused by its name, stays so with a new host while others share, and is resumed."""
+        said = self.shop.try_it("pageshare-host --pause web1")
+        print(f"  {said.stdout}", end="", flush=True)
+        must(said.returncode in (0, 3), f"{said}")
+        until(SECONDS, lambda: not self.shop.lent().get("web1"), lambda: self.shop.status())
+        self.guests[0].goes_on()
+        self.shop.do("systemctl restart pageshare-host@web")
+        until(SECONDS, lambda: self.shop.lent().get("web2", 0) >= 8, lambda: self.shop.status())
+        until(SECONDS, lambda: self.shop.lent().get("web1") == 0, lambda: self.shop.status())
+        self.shop.do("pageshare-host --resume web1")
         self.shares()
 
     def step_refused(self) -> None:

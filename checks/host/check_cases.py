@@ -137,7 +137,7 @@ def refused(shim: pathlib.Path, call: str, turn: int) -> str:
     status, text = ended(start_check(room, 1, more=env), room)
     is_right = re.search(r"^right", text, re.M) is not None
     must(status == (0 if is_right else 1) and (is_right or "WRONG: " in text), f"{call} {turn}: status {status}: {text}")
-    return "right" if is_right else re.findall("WRONG: (.*)", text)[0]
+    return "right" if is_right else str(re.findall("WRONG: (.*)", text)[0])
 
 
 def case_check_refused() -> None:

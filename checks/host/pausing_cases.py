@@ -54,20 +54,20 @@ def is_paused(host: Host, pid: int) -> bool:
 
 def case_pause() -> None:
     """--pause takes a guest's memory home while others share; it stays so with a new host; --resume shares again; and what can't be asked."""
-    program, host = compile_parts("raw_calls"), Host(memory="64M")
-    one, other = stays(host, program, "web1"), stays(host, program, "web2")
+    program, host, name = compile_parts("raw_calls"), Host(memory="64M"), f"one-{os.getpid()}"  # (no other guest here is called so)
+    one, other = stays(host, program, name), stays(host, program, f"other-{os.getpid()}")
     for ran in (one, other):
         lends(host, ran.pid)
-    paused = ask("pause", "web1")
-    must(paused.returncode == 0 and f"guest web1, process {one.pid}: all of its memory is its own" in paused.stdout, f"{paused}")
+    paused = ask("pause", name)
+    must(paused.returncode == 0 and f"guest {name}, process {one.pid}: all of its memory is its own" in paused.stdout, f"{paused}")
     good, _ = until(10, lambda: is_paused(host, one.pid), 0.1)
-    must(good, f"web1 isn't paused: {host.status()}")
-    must(client(host, other.pid)["client_lent_bytes"] >= LEAST * 4096, f"web2 doesn't share any more: {host.status()}")
+    must(good, f"{name} isn't paused: {host.status()}")
+    must(client(host, other.pid)["client_lent_bytes"] >= LEAST * 4096, f"the other doesn't share any more: {host.status()}")
     host.kill()
     host.start()
     lends(host, other.pid)
     time.sleep(2)
-    must(is_paused(host, one.pid) and client(host, one.pid)["connected"], f"web1 isn't paused with a new host: {host.status()}")
+    must(is_paused(host, one.pid) and client(host, one.pid)["connected"], f"{name} isn't paused with a new host: {host.status()}")
     resumed = ask("resume", one.pid)
     must(resumed.returncode == 0 and "it shares again" in resumed.stdout, f"{resumed}")
     lends(host, one.pid)

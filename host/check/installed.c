@@ -80,6 +80,11 @@ static bool version_of(const char *program, char *line, size_t room) {
     return used > 0;
 }
 
+static void say_qemu(const char *line) {
+    bool is_tried = strstr(line, "version 7.2.") || strstr(line, "version 10.0.");
+    check_say(is_tried ? FOUND_GOOD : FOUND_NOTE, "QEMU", NULL, "%s; 7.2 and 10.0 were tried", line);
+}
+
 static void check_qemu(void) {
     static const char *const programs[] = {"/usr/bin/qemu-system-x86_64", "/usr/libexec/qemu-kvm", "/usr/bin/qemu-kvm"};
     char line[256];
@@ -87,7 +92,7 @@ static void check_qemu(void) {
         if (access(programs[i], X_OK) != 0) continue;
         if (!version_of(programs[i], line, sizeof line))
             check_say(FOUND_UNKNOWN, "QEMU", NULL, "%s prints no version", programs[i]);
-        else check_say(strstr(line, "version 7.2") ? FOUND_GOOD : FOUND_NOTE, "QEMU", NULL, "%s (7.2 was tried)", line);
+        else say_qemu(line);
         return;
     }
     check_say(FOUND_NOTE, "QEMU", NULL, "none where Debian and Fedora install it");

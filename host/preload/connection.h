@@ -28,9 +28,9 @@ void ranges_found(enum devices devices);
  * Returns false if there is none. Where the result isn't WINDOW_OK some of its pages may show frames still.
  */
 bool ranges_bring_home(uint8_t **at, struct window_result *result);
-/* Windows end of which all pages have left, and their ranges may become windows again. Returns false if one stays: devices may have pinned
- * pages of it. */
-bool ranges_end_windows(void);
+/* Windows end of which all pages have left, and their ranges may become windows again. Returns how one failed, or WINDOW_OK: WINDOW_PINNED where
+ * copies have to stay over frames. */
+struct window_result ranges_end_windows(void);
 /* Lending ends for good, since something is missing. */
 void ranges_refuse(const char *why);
 

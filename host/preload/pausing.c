@@ -29,7 +29,8 @@ static enum counts_state bring_home(void) {
         return COUNTS_WAITS;
     }
     if (is_any) return COUNTS_COMES_HOME;
-    return ranges_end_windows() ? COUNTS_PAUSED : COUNTS_STAYS;
+    result = ranges_end_windows();
+    return result.status == WINDOW_OK ? COUNTS_PAUSED : result.status == WINDOW_PINNED ? COUNTS_STAYS : COUNTS_WAITS;
 }
 
 void pausing_heed(bool is_memory_short) {

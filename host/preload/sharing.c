@@ -611,18 +611,18 @@ bool ranges_bring_home(uint8_t **at, struct window_result *result) {
     return piece.window != NULL;
 }
 
-bool ranges_end_windows(void) {
-    bool are_all = true;
+struct window_result ranges_end_windows(void) {
+    struct window_result result = {.status = WINDOW_OK};
     enter();
     for (size_t i = 0; i < ranges_count(); i++) {
         struct window *window = ranges_at(i).window;
         if (!window) continue;
-        bool is_ended = window_free(window, WINDOW_TAKE_HOME).status == WINDOW_OK;
-        if (is_ended) ranges_end_being(window);
-        are_all = are_all && is_ended;
+        const struct window_result ended = window_free(window, WINDOW_TAKE_HOME);
+        if (ended.status == WINDOW_OK) ranges_end_being(window);
+        else result = ended;
     }
     leave();
-    return are_all;
+    return result;
 }
 
 /* ---- */
