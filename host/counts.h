@@ -16,7 +16,7 @@ enum { COUNTS_VERSION = 3, COUNTS_BYTES = 4096, COUNTS_WHY_AT = 1024, COUNTS_WHY
 enum counts_state {
     COUNTS_SHARES,
     COUNTS_COMES_HOME, /* an operator has paused it, and pages get memory of their own */
-    COUNTS_WAITS,      /* the same, and the system has no memory for them at present */
+    COUNTS_WAITS,      /* the same, and the system has no memory for them at present, or the monitor watches its memory by a userfaultfd */
     COUNTS_PAUSED,     /* all have memory of their own, and nothing is lent until it goes on */
     COUNTS_STAYS       /* the same. Parts will stay as they are when it goes on, since devices may have pinned pages */
 };

@@ -93,7 +93,7 @@ static int await_pause(const struct asked *guest) {
         return 0;
     }
     const char *why = counts.state == COUNTS_SHARES  ? "its library hasn't begun"
-                      : counts.state == COUNTS_WAITS ? "it waits until the computer has memory"
+                      : counts.state == COUNTS_WAITS ? "it waits until the computer has memory, or a snapshot or migration ends"
                                                      : "that goes on by itself";
     snprintf(text, sizeof text, "after %d s %.1f MiB aren't its own yet; %s", PAUSE_SECONDS,
              (double)counts.lent * PAGE / (1 << 20), why);

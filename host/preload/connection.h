@@ -23,6 +23,8 @@ void ranges_open(unsigned flags);
 enum devices ranges_devices(void);
 /* Devices that were found to be open. */
 void ranges_found(enum devices devices);
+/* Whether a userfaultfd of the monitor's own watches memory of a window: then nothing there may be mapped anew. */
+bool ranges_are_watched(void);
 /*
  * The next part of a window from `*at` on gets memory of its own and leaves the window, and `*at` becomes its end. Its range stays offered.
  * Returns false if there is none. Where the result isn't WINDOW_OK some of its pages may show frames still.

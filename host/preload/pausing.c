@@ -21,6 +21,7 @@ static enum counts_state bring_home(void) {
     struct window_result result = {.status = WINDOW_OK};
     const uint64_t end_ns = clock_ns(CLOCK_THREAD_CPUTIME_ID) + home_ns;
     bool is_any = true;
+    if (ranges_are_watched()) return COUNTS_WAITS;
     while (is_any && clock_ns(CLOCK_THREAD_CPUTIME_ID) < end_ns) {
         uint8_t *before = my.at;
         is_any = ranges_bring_home(&my.at, &result);

@@ -483,7 +483,7 @@ bool sharing_protect(void *at, size_t bytes) {
 }
 
 /* By the library's own thread. */
-static bool are_watched(void) {
+bool ranges_are_watched(void) {
     struct windows *set = atomic_load(&windows);
     bool are = set && windows_are_watched(set);
     if (!are && !atomic_load(&over))
@@ -584,7 +584,7 @@ static void open_range(const struct piece *settled, uint64_t said, struct window
 void ranges_open(unsigned flags) {
     struct piece settled = {.range = NULL};
     uint64_t said = 0;
-    if (are_watched()) return;
+    if (ranges_are_watched()) return;
     for (size_t left = RANGES_MOST; find_settled(&left, &settled, &said);) {
         struct window *read = NULL;
         struct window_result result = window_read(&read, atomic_load(&windows), settled.at, settled.bytes);
