@@ -156,6 +156,8 @@ BODIES = {
     "believes no copy": Body("look.c", "    if (!outcome->is_own) return;", "    outcome->is_own = false;\n    if (!outcome->is_own) return;", ["pages"]),
     "reads another page": Body("look.c", "fingerprint_of(window->windows->lender.salt, address_of(window, number));",
                                "fingerprint_of(window->windows->lender.salt, address_of(window, 0));", ["pages"]),
+    "copies what was given up": Body("lend.c", "if (part->is.whole || !is_there(window, number)) return false;",
+                                     "if (part->is.whole) return false;", ["leaves"]),
     "forgets that the caller watches": Body("windows.c", "    windows->is_watched = true;\n", "", ["leaves"]),
     "takes a watch for ended": Body("tasks.c", "if (refused == 0 && !is_any && ", "if (refused == 0 && ", ["leaves"]),
     "attends to nothing": Body("tasks.c", "windows->attend == NULL || ", "windows->attend == NULL || true || ", ["tasks"]),

@@ -327,6 +327,14 @@ static bool seems_equal(const struct window *window, size_t number) {
            are_equal(address_of(window, number), windows->frames_at + bytes_of(page->frame));
 }
 
+/*
+ * Whether a page is there. One that was given up since it was found is missing, and reading it would put the kernel's page of zeros there: who
+ * watches for missing pages later, as QEMU does for a postcopy, couldn't put another one in its place. With the lock.
+ */
+static bool is_there(const struct window *window, size_t number) {
+    return is_over(&window->pages[number]) || pagemap_is_own(&window->windows->pagemap, address_of(window, number));
+}
+
 /* A page that was written since its bytes were copied stays private. */
 static void note_changed(struct window *window, size_t number) {
     window->windows->counts.changed++;
@@ -368,7 +376,7 @@ static bool order_hold(struct window *window, size_t number, enum wish wish) {
     if (is_zeros && !pageshare_window_choose(page, part_counts(window, number), &facts, true)) return false;
     enum pageshare_window_order order = order_of(window, number);
     bool is_hold = order == (is_zeros ? PAGESHARE_WINDOW_HOLD_ZEROS : PAGESHARE_WINDOW_HOLD);
-    bool is_equal = is_hold && seems_equal(window, number);
+    bool is_equal = is_hold && is_there(window, number) && seems_equal(window, number);
     if (is_equal && !part_of(window, number)->is.whole) return true;
     if (is_hold) note_order(window, number, false);
     else pageshare_window_withdraw(page);
@@ -515,8 +523,8 @@ bool ask_lender(struct look *look) {
 static bool copy_one(struct window *window, size_t number, unsigned char *to, uint64_t fingerprint) {
     struct part *part = part_of(window, number);
     const struct pageshare_window_facts facts = facts_of(window, number);
-    if (part->is.whole || !pageshare_window_choose(&window->pages[number], part_counts(window, number), &facts, false))
-        return false;
+    if (part->is.whole || !is_there(window, number)) return false;
+    if (!pageshare_window_choose(&window->pages[number], part_counts(window, number), &facts, false)) return false;
     if (order_of(window, number) != PAGESHARE_WINDOW_COPY) return false;
     copy_page(to, address_of(window, number));
     /* (its fingerprint may be that of an earlier look) */

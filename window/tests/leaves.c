@@ -399,6 +399,62 @@ static void over(void) {
     munmap(at, PAGES * PAGE);
 }
 
+/* A lender while whose calls pages of the window are given up: one that was asked about, and one that has a loan. */
+struct giver {
+    const struct window_lender *lender;
+    struct window *window;
+    bool has_asked, has_lent;
+};
+enum { GIVEN_UP_ASKED = 3, GIVEN_UP_LENT = 5 };
+static bool is_among(const uint32_t *pages, size_t count, uint32_t page) {
+    for (size_t i = 0; i < count; i++)
+        if (pages[i] == page) return true;
+    return false;
+}
+static int giver_ask(void *opaque, const uint32_t *pages, const uint64_t *fingerprints, const bool *passing, size_t count,
+                     unsigned char *seen) {
+    struct giver *giver = opaque;
+    int cause = giver->lender->ask(giver->lender->opaque, pages, fingerprints, passing, count, seen);
+    if (giver->has_asked || !is_among(pages, count, GIVEN_UP_ASKED)) return cause;
+    must(window_discard(giver->window, GIVEN_UP_ASKED, 1), "window_discard");
+    giver->has_asked = true;
+    return cause;
+}
+static int giver_lend(void *opaque, const uint32_t *pages, size_t count, struct window_loan *loans) {
+    struct giver *giver = opaque;
+    int cause = giver->lender->lend(giver->lender->opaque, pages, count, loans);
+    if (giver->has_lent || !is_among(pages, count, GIVEN_UP_LENT)) return cause;
+    must(window_discard(giver->window, GIVEN_UP_LENT, 1), "window_discard");
+    giver->has_lent = true;
+    return cause;
+}
+static int giver_release(void *opaque, const uint64_t *slots, size_t count) {
+    const struct giver *giver = opaque;
+    return giver->lender->release(giver->lender->opaque, slots, count);
+}
+
+/* What is given up between two steps of a lend is missing, and no later step puts a page there. */
+static void given_up_meanwhile(void) {
+    struct fixture fixture = fixture_make(&never_pinned, PAGES);
+    uint8_t *at = memory(PAGES);
+    struct window *window = window_over(&fixture, at, PAGES);
+    struct giver giver = {.lender = lender_interface(fixture.lender), .window = window};
+    struct window_lender lender = *giver.lender;
+    lender.opaque = &giver;
+    lender.ask = giver_ask;
+    lender.lend = giver_lend;
+    lender.release = giver_release;
+    windows_detach(fixture.windows);
+    must(windows_attach(fixture.windows, &lender), "windows_attach");
+    fill(at, PAGES, 1);
+    check(look_until(&fixture, PAGES - 2) == PAGES - 2, "all others are lent");
+    check(giver.has_asked && giver.has_lent, "pages were given up meanwhile");
+    check(is_missing(at + GIVEN_UP_ASKED * PAGE) && is_missing(at + GIVEN_UP_LENT * PAGE), "what was given up is missing");
+    must(window_free(window, WINDOW_DROP), "window_free");
+    fixture_free(&fixture);
+    munmap(at, PAGES * PAGE);
+}
+
 /* Whether each page has memory of its own, so that none shows a frame. */
 static bool are_own(const struct fixture *fixture, const uint8_t *at) {
     bool own[PAGES], are = pagemap_find_copies(&fixture->windows->pagemap, at, PAGES, own) == 0;
@@ -458,6 +514,7 @@ int main(void) {
     lent_anew();
     crowded();
     over();
+    given_up_meanwhile();
     watched(true);
     watched(false);
     puts(check_count() == 0 ? "leaves: ok" : "leaves: WRONG");
