@@ -33,7 +33,7 @@
 enum { RANGES = 3, LARGE = PART, MIDDLE = 96, SMALL = 64, ARENA = 6 * PART, FRAMES = 36 };
 /* Ways in which the scenario runs: with all that the system has, or with less of it, and a limit of the process. */
 enum { UNLIMITED, LIMITED, WAYS };
-enum { STEPS = 15, ROUNDS_MOST = 60, MODES = 4, WAIT_SECONDS = 60, CALM_LOOKS = 2 };
+enum { STEPS = 14, ROUNDS_MOST = 60, MODES = 4, WAIT_SECONDS = 60, CALM_LOOKS = 2 };
 
 /* A range of memory, which is a window most of the time. */
 struct range {
