@@ -232,7 +232,8 @@ int __wrap_ioctl(int fd, unsigned long request, ...) {
     if (call == CALL_WATCH && is_counted && before_watch != NULL) before_watch((uintptr_t)watched->start, (size_t)watched->len);
     int cause = call < CALLS ? count(call) : 0;
     if (cause == 0) return __real_ioctl(fd, request, with);
-    bool is_half = planned.is_half && call_has_half(call);
+    /* (the system looks for another watch in all mappings before it begins with the first one) */
+    bool is_half = planned.is_half && call_has_half(call) && !(call == CALL_WATCH && cause == EBUSY);
     if (is_half && request == SCAN_PAGES) return scan_half(fd, with);
     if (is_half && request == MOVE_PAGES) return move_half(fd, with, cause);
     if (is_half) do_half(fd, request, with);
