@@ -363,10 +363,11 @@ static void *makes(void *unused) {
     return unused;
 }
 
+/* Discards a quarter of the pages, which no other thread touches. */
 static void *discards(void *with) {
     uint8_t *at = with;
     for (unsigned i = 0; !atomic_load(&is_over); i++) {
-        uint8_t *page = at + i * 37 % (PAGES / 2) * PAGE;
+        uint8_t *page = at + i * 37 % (PAGES / 4) * PAGE;
         memset(page, (int)(i % 251), PAGE);
         if (madvise(page, PAGE, MADV_DONTNEED) != 0 || page[17] != 0) atomic_fetch_add(&failed, 1);
     }
@@ -378,7 +379,8 @@ static void raw_threads(void) {
     enum { THREADS = 6 };
     pthread_t threads[THREADS];
     uint8_t *at = lent(PAGES);
-    for (size_t i = 0; i < THREADS; i++) pthread_create(&threads[i], NULL, i < THREADS - 2 ? makes : discards, at);
+    for (size_t i = 0; i < THREADS; i++)
+        pthread_create(&threads[i], NULL, i < THREADS - 2 ? makes : discards, at + i % 2 * (PAGES / 4) * PAGE);
     for (unsigned i = 0; i < 40; i++) {
         int status = 1;
         pid_t child = fork();
