@@ -50,7 +50,7 @@ IN_GATE = {
     "pins": 600, "lent-again": 300, "newcomer": 120, "locks": 300, "endings": 300, "devices": 120, "size": 600, "runs": 180, "paced": 60,
     "ranges": 60, "names": 60, "counts": 60, "refused": 60, "kvm": 300, "ends": 600, "postcopy": 240, "remote": 60, "waits": 180,
     "closed": 60, "malloc": 120, "lines": 60, "read-late": 60, "flags": 120, "policies": 120, "no-memory": 120,
-    "filter": 240, "filter-by-itself": 60, "scans": 180, "guarded": 120, "said-early": 60,
+    "filter": 480, "filter-by-itself": 60, "scans": 180, "guarded": 120, "said-early": 60,
     "ways": 120,
     "check": 120, "check-denied": 60, "check-wrong": 180, "check-refused": 300, "pause": 240, "pause-busy": 120, "shares-nothing": 240,
 }
