@@ -158,6 +158,7 @@ BODIES = {
                                "fingerprint_of(window->windows->lender.salt, address_of(window, 0));", ["pages"]),
     "copies what was given up": Body("lend.c", "if (part->is.whole || !is_there(window, number)) return false;",
                                      "if (part->is.whole) return false;", ["leaves"]),
+    "compares what was given up": Body("lend.c", "is_hold && is_there(window, number) && seems_equal(", "is_hold && seems_equal(", ["leaves"]),
     "forgets that the caller watches": Body("windows.c", "    windows->is_watched = true;\n", "", ["leaves"]),
     "takes a watch for ended": Body("tasks.c", "if (refused == 0 && !is_any && ", "if (refused == 0 && ", ["leaves"]),
     "attends to nothing": Body("tasks.c", "windows->attend == NULL || ", "windows->attend == NULL || true || ", ["tasks"]),

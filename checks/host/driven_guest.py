@@ -61,7 +61,8 @@ class Driven:
         room = HERE.place.room
         names = (room / f"driven{number}.{it}" for it in ("log", "json", "qmp", "qtest"))
         self.log, self.count_file, self.monitor, self.wire = names
-        for path in (self.count_file, self.monitor, self.wire):
+        self.debugged = room / f"driven{number}.gdb"
+        for path in (self.count_file, self.monitor, self.wire, self.debugged):
             path.unlink(missing_ok=True)
         firmware = room / "halts"
         firmware.write_bytes(FIRMWARE)
@@ -70,7 +71,8 @@ class Driven:
         command = [*wrap, QEMU, "-machine", "pc,accel=tcg", "-bios", str(firmware), "-nodefaults", "-display", "none"]
         command += ["-m", f"{RAM_BYTES >> 20}M,slots=4,maxmem=1G"]
         command += ["-qmp", f"unix:{self.monitor},server=on,wait=off"]
-        command += ["-qtest", f"unix:{self.wire},server=on,wait=off", "-qtest-log", "/dev/null", *more]
+        command += ["-qtest", f"unix:{self.wire},server=on,wait=off", "-qtest-log", "/dev/null"]
+        command += ["-gdb", f"unix:{self.debugged},server=on,wait=off", *more]
         command += ["-incoming", incoming] if incoming else []
         with open(self.log, "a", encoding="utf-8") as log:
             self.process = subprocess.Popen(command, env=words, stdin=subprocess.DEVNULL, stdout=log, stderr=subprocess.STDOUT)
@@ -254,6 +256,78 @@ def begin_virtio(driven: Driven, slot: int, ports: int, rings: Sequence[tuple[in
     queues = [Queue(driven, ports, index, at) for index, at in rings]
     driven.put("outb", ports + 18, 7)
     return queues
+
+
+class SharedFile:
+    """A file of a folder that a virtio-9p device shares, by 9P2000.L."""
+
+    VERSION, ATTACH, WALK, OPEN, READ, WRITE = 100, 104, 110, 12, 116, 118
+    LONGEST, ANSWER_AT, ANSWER_BYTES, HEAD_BYTES = 1 << 18, 512, 64, 11
+
+    def __init__(self, queue: Queue, at: int, name: str) -> None:
+        self.queue, self.at = queue, at
+
+        def text(words: str) -> bytes:
+            return struct.pack("<H", len(words)) + words.encode()
+
+        self.do(self.VERSION, struct.pack("<I", self.LONGEST) + text("9P2000.L"))
+        self.do(self.ATTACH, struct.pack("<Ii", 0, -1) + text("") + text("") + struct.pack("<i", -1))
+        self.do(self.WALK, struct.pack("<IIH", 0, 1, 1) + text(name))
+        self.do(self.OPEN, struct.pack("<II", 1, os.O_RDWR))
+
+    def do(self, kind: int, words: bytes, sends: Sequence[tuple[int, int]] = (), gets: Sequence[tuple[int, int]] = ()) -> None:
+        """Sends a message with what is in some buffers. What its answer has behind its head goes to others."""
+        driven, answer_at = self.queue.driven, self.at + self.ANSWER_AT
+        length = 7 + len(words) + sum(size for _, size in sends)
+        answer_bytes = self.HEAD_BYTES if gets else self.ANSWER_BYTES
+        driven.store(self.at, struct.pack("<IBH", length, kind, 0) + words)
+        outward = [(self.at, 7 + len(words), False), *((at, size, False) for at, size in sends)]
+        self.queue.run([*outward, (answer_at, answer_bytes, True), *((at, size, True) for at, size in gets)])
+        answer = driven.adopt(answer_at, answer_bytes)
+        must(answer[4] == kind + 1, f"the shared folder says {answer.hex()} to message {kind}")
+
+    def transfer(self, is_write: bool, begin: int, buffers: Sequence[tuple[int, int]]) -> None:
+        """Reads or writes so many bytes of the file as the buffers have, from a place in it on."""
+        words = struct.pack("<IQI", 1, begin, sum(size for _, size in buffers))
+        self.do(self.WRITE, words, sends=buffers) if is_write else self.do(self.READ, words, gets=buffers)
+
+
+class Debugger:
+    """A debugger at the machine, which stands still meanwhile, by the protocol of gdb."""
+
+    def __init__(self, driven: Driven) -> None:
+        self.socket = connected(driven.debugged, PATIENCE_SECONDS)
+        self.came = b""
+        self.do("Qqemu.PhyMemMode:1")
+
+    def packet(self) -> str:
+        while b"#" not in self.came[:-2]:
+            part = self.socket.recv(8192)
+            must(part != b"", f"the debugger's socket ends after {self.came!r}")
+            self.came += part
+        begin, end = self.came.index(b"$") + 1, self.came.index(b"#")
+        words, self.came = self.came[begin:end].decode(), self.came[end + 3:]
+        self.socket.sendall(b"+")
+        return words
+
+    def do(self, words: str) -> str:
+        self.socket.sendall(f"${words}#{sum(words.encode()) % 256:02x}".encode())
+        answer = self.packet()
+        while answer.startswith("T"):  # (the machine stands still)
+            answer = self.packet()
+        must(not answer.startswith("E"), f"the debugger gets {answer} to {words[:40]}")
+        return answer
+
+    def load(self, at: int, size: int) -> bytes:
+        return bytes.fromhex(self.do(f"m{at:x},{size:x}"))
+
+    def store(self, at: int, data: bytes) -> None:
+        self.do(f"M{at:x},{len(data):x}:{data.hex()}")
+
+    def detach(self) -> None:
+        """Leaves the machine, which goes on."""
+        self.do("D")
+        self.socket.close()
 
 
 class Nvme:

@@ -12,7 +12,7 @@ import time
 from collections.abc import Callable, Sequence
 from typing import Any
 
-from driven_guest import BELOW, DIMM_AT, PATIENCE_SECONDS, RAM_BYTES, Driven, Nvme, Queue, begin_virtio
+from driven_guest import BELOW, DIMM_AT, PATIENCE_SECONDS, RAM_BYTES, Debugger, Driven, Nvme, Queue, SharedFile, begin_virtio
 from harness import PACKAGES
 from places import AS_NOBODY, HERE, Host, LeftOut, all_released, in_time, must, until
 from qemu_guests import PAGE, QEMU, is_there, read
@@ -43,7 +43,7 @@ class Ways:
         self.moves = seed % 2 == 1
         self.cache = self.by.choice(("none", "directsync", "writeback"))
         self.aio = self.by.choice(("threads", "io_uring", *(("native",) if self.cache != "writeback" else ())))
-        self.disks = [Disk(f"ways{seed}.{number}", "qcow2" if self.moves else "raw") for number in range(3)]
+        self.disks = [Disk(f"ways{seed}.{number}", "qcow2" if self.moves else "raw") for number in range(4)]
         self.wire, self.peer = (HERE.place.room / f"ways{seed}.{name}" for name in ("net", "peer"))
         self.peer.unlink(missing_ok=True)
         self.net = socket.socket(socket.AF_UNIX, socket.SOCK_DGRAM)
@@ -66,7 +66,7 @@ class Ways:
         self.wire.unlink(missing_ok=True)
         more = [*self.sandbox, "-object", "iothread,id=t"]
         for number, disk in enumerate(self.disks):
-            if number < 2 or not self.moves:
+            if number < 2 or (number == 2 and not self.moves):
                 more += ["-drive", f"file={disk.file},format={disk.kind},if=none,id=d{number},cache={self.cache},aio={self.aio}"]
         more += ["-device", f"virtio-blk-pci,drive=d0,addr=3.0,{OLDER}" + (",iothread=t" if self.seed % 3 == 0 else "")]
         more += ["-device", f"virtio-scsi-pci,id=s,addr=4.0,{OLDER}", "-device", "scsi-hd,drive=d1,bus=s.0"]
@@ -74,18 +74,23 @@ class Ways:
         net = f"dgram,id=n,local.type=unix,local.path={self.wire},remote.type=unix,remote.path={self.peer}"
         more += ["-netdev", net, "-device", f"virtio-net-pci,netdev=n,addr=6.0,romfile=,{OLDER}"]
         more += ["-object", "rng-builtin,id=r", "-device", f"virtio-rng-pci,rng=r,addr=7.0,{OLDER}"]
-        more += ["-device", f"virtio-balloon-pci,addr=8.0,{OLDER}"]
+        more += ["-device", f"virtio-balloon-pci,free-page-reporting=on,addr=8.0,{OLDER}"]
+        if not self.moves:
+            more += ["-fsdev", f"local,id=f,path={HERE.place.room},security_model=none"]
+            more += ["-device", f"virtio-9p-pci,fsdev=f,mount_tag=f,addr=9.0,{OLDER}"]
         # (as root where it is to make a userfaultfd that holds up the kernel, too)
         user: Sequence[str] = () if self.moves else AS_NOBODY
         return Driven(self.seed, self.host, more, user, incoming)
 
     def begin_devices(self) -> None:
         places = iter(range(OWN_AT, HEADERS_AT, 1 << 16))
-        slots = ((3, (0,)), (4, (2,)), (6, (0, 1)), (7, (0,)), (8, (0,)))
-        made = [begin_virtio(self.driven, slot, 0xC000 + 0x100 * slot, [(index, next(places)) for index in its]) for slot, its in slots]
-        (self.blk,), (self.scsi,), (self.receive, self.send), (self.rng,), (self.balloon,) = made
-        self.queues = [queue for queues in made for queue in queues]
+        def begin(slot: int, *indices: int) -> list[Queue]:
+            return begin_virtio(self.driven, slot, 0xC000 + 0x100 * slot, [(index, next(places)) for index in indices])
+
+        self.queues = made = [*begin(3, 0), *begin(4, 2), *begin(6, 0, 1), *begin(7, 0), *begin(8, 0, 3)]
+        self.blk, self.scsi, self.receive, self.send, self.rng, self.balloon, self.reports = made
         self.nvme = None if self.moves else Nvme(self.driven, 5, 0xE0000000, next(places))
+        self.file = None if self.moves else SharedFile(begin(9, 0)[0], HEADERS_AT, self.disks[3].file.name)
 
     def fill(self, begin: int, end: int) -> None:
         for at in range(begin, end, 1 << 20):
@@ -197,6 +202,14 @@ class Ways:
             self.nvme.transfer(is_write, first, pages)
             self.transfer(self.disks[2], is_write, first, [(at, PAGE) for at in pages])
 
+    def use_file(self) -> None:
+        """A folder of the host's, whose file QEMU reads into the guest's memory itself."""
+        assert self.file
+        buffers, is_write = self.parts(self.some(16)), self.by.random() < 0.4
+        first = self.by.randrange((DISK_BYTES - 16 * PAGE) // SECTOR)
+        self.file.transfer(is_write, first * SECTOR, buffers)
+        self.transfer(self.disks[3], is_write, first, buffers)
+
     # ---- other devices ----
 
     def use_net(self) -> None:
@@ -244,7 +257,25 @@ class Ways:
         for at in pages:
             self.driven.note(at, bytes(PAGE))
 
+    def use_reports(self) -> None:
+        """The guest says of pages that they are free; each is zeros when it is used next."""
+        pages = self.some(30)
+        self.reports.run([(at, PAGE, True) for at in pages])
+        for at in pages:
+            self.driven.note(at, bytes(PAGE))
+
     # ---- what QEMU does by itself ----
+
+    def debug(self) -> None:
+        """A debugger comes, reads and writes, and goes."""
+        debugger = Debugger(self.driven)
+        for at in self.some(6):
+            begin, size = at + self.by.randrange(PAGE - 1024), self.by.randint(1, 1024)
+            must(debugger.load(begin, size) == self.driven.known(begin, size), f"a debugger's load from {begin:#x}")
+            data = self.by.randbytes(size)
+            debugger.store(begin, data)
+            self.driven.note(begin, data)
+        self.driven.qmp.after("RESUME", debugger.detach)
 
     def dump(self) -> None:
         """A dump has what the memory has."""
@@ -365,8 +396,8 @@ class Ways:
 
     def ways(self) -> tuple[list[Callable[[], None]], list[int]]:
         weights = {self.store: 6, self.store_little: 4, self.load: 2, self.idle: 10, self.use_blk: 8, self.use_scsi: 8, self.use_net: 3,
-                   self.use_rng: 2, self.use_balloon: 3, self.dump: 1, self.reset: 1}
-        weights |= {self.save: 1, self.migrate: 1, self.background: 1} if self.moves else {self.use_nvme: 8, self.plug: 1}
+                   self.use_rng: 2, self.use_balloon: 3, self.use_reports: 3, self.debug: 2, self.dump: 1, self.reset: 1}
+        weights |= {self.save: 1, self.migrate: 1, self.background: 1} if self.moves else {self.use_nvme: 8, self.use_file: 6, self.plug: 1}
         return list(weights), list(weights.values())
 
     def count(self, name: str) -> None:
@@ -389,7 +420,7 @@ class Ways:
         print(f"  seed {self.seed}: {kind}: {self.done}; {numbers}", flush=True)
         self.net.close()
         self.driven.quit()
-        for number, disk in enumerate(self.disks[:2 if self.moves else 3]):
+        for number, disk in enumerate(self.disks[:2 if self.moves else 4]):
             plain = HERE.place.room / f"ways{self.seed}.plain"
             subprocess.run(["qemu-img", "convert", "-f", disk.kind, "-O", "raw", disk.file, plain], check=True)
             must(plain.read_bytes() == disk.bytes, f"seed {self.seed}: disk {number} has other bytes than were written")

@@ -399,13 +399,13 @@ static void over(void) {
     munmap(at, PAGES * PAGE);
 }
 
-/* A lender while whose calls pages of the window are given up: one that was asked about, and one that has a loan. */
+/* A lender while whose calls pages of the window are given up: one that was asked about, and two that have a loan. Of one nothing is said. */
 struct giver {
     const struct window_lender *lender;
     struct window *window;
     bool has_asked, has_lent;
 };
-enum { GIVEN_UP_ASKED = 3, GIVEN_UP_LENT = 5 };
+enum { GIVEN_UP_ASKED = 3, GIVEN_UP_LENT = 5, GIVEN_UP_UNSAID = 6 };
 static bool is_among(const uint32_t *pages, size_t count, uint32_t page) {
     for (size_t i = 0; i < count; i++)
         if (pages[i] == page) return true;
@@ -425,6 +425,7 @@ static int giver_lend(void *opaque, const uint32_t *pages, size_t count, struct 
     int cause = giver->lender->lend(giver->lender->opaque, pages, count, loans);
     if (giver->has_lent || !is_among(pages, count, GIVEN_UP_LENT)) return cause;
     must(window_discard(giver->window, GIVEN_UP_LENT, 1), "window_discard");
+    check(madvise(giver->window->at + GIVEN_UP_UNSAID * PAGE, PAGE, MADV_DONTNEED) == 0, "madvise");
     giver->has_lent = true;
     return cause;
 }
@@ -447,9 +448,10 @@ static void given_up_meanwhile(void) {
     windows_detach(fixture.windows);
     must(windows_attach(fixture.windows, &lender), "windows_attach");
     fill(at, PAGES, 1);
-    check(look_until(&fixture, PAGES - 2) == PAGES - 2, "all others are lent");
+    check(look_until(&fixture, PAGES - 3) == PAGES - 3, "all others are lent");
     check(giver.has_asked && giver.has_lent, "pages were given up meanwhile");
     check(is_missing(at + GIVEN_UP_ASKED * PAGE) && is_missing(at + GIVEN_UP_LENT * PAGE), "what was given up is missing");
+    check(is_missing(at + GIVEN_UP_UNSAID * PAGE), "what was given up without a word is missing");
     must(window_free(window, WINDOW_DROP), "window_free");
     fixture_free(&fixture);
     munmap(at, PAGES * PAGE);
