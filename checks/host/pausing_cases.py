@@ -10,7 +10,7 @@ from typing import Any
 
 from breaker_cases import compile_folder, end_breakers, start_breaker
 from harness import PACKAGES, StrPath
-from parts_cases import compile_parts
+from parts_cases import compile_parts, start
 from places import AS_NOBODY, HERE, Host, LeftOut, all_released, in_time, must, preloaded, until
 from qemu_guests import QEMU, is_there
 from running_guests import go_on, guest, guests, settle
@@ -75,6 +75,32 @@ def case_pause() -> None:
     end_while_pausing(one)
     said = other.communicate("\n", timeout=30)[0]
     must(other.returncode == 0, said)
+    all_released(host)
+    host.stop()
+
+
+def case_pause_guarded() -> None:
+    """--pause waits while a monitor guards its memory itself, as for a snapshot, and goes on by itself."""
+    program, host = compile_parts("raw_calls"), Host(memory="64M")
+    ran = start(program, "stays-guarded", host, {"PAGESHARE_FILTER": "1"})
+    HERE.place.started.append(ran)
+    assert ran.stdout and ran.stdin
+    said = ran.stdout.readline().strip()
+    if said.startswith("left out: "):
+        raise LeftOut(said.removeprefix("left out: "))
+    must(said == "guarded", said)
+    asks = subprocess.Popen([HERE.host, "--pause", str(ran.pid)], stdout=subprocess.PIPE, stderr=subprocess.STDOUT, text=True)
+    time.sleep(3)
+    must(asks.poll() is None and not is_paused(host, ran.pid), f"guarded memory came home: {host.status()}")
+    ran.stdin.write("\n")
+    ran.stdin.flush()
+    must(ran.stdout.readline().strip() == "free", "the guard doesn't end")
+    asked = asks.communicate(timeout=100)[0]
+    must(asks.returncode == 0 and is_paused(host, ran.pid), f"status {asks.returncode}: {asked}; {host.status()}")
+    must(ask("resume", ran.pid).returncode == 0, "it doesn't share again")
+    lends(host, ran.pid)
+    said = ran.communicate("\n", timeout=30)[0]
+    must(ran.returncode == 0, said)
     all_released(host)
     host.stop()
 

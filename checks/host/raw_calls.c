@@ -436,11 +436,32 @@ static void said_early(void) {
 }
 
 /* It shares until it is told to end. */
+/* Says a word, and waits for a line. */
+static void says(const char *word) {
+    puts(word);
+    fflush(stdout);
+    while (getchar() > ' ') continue;
+}
+
 static void stays(void) {
     lent(PAGES);
-    printf("lent\n");
-    fflush(stdout);
-    getchar();
+    says("lent");
+}
+
+/* The same, and then a part of the memory is guarded by the monitor for a while. */
+static void stays_guarded(void) {
+    int faults = open_faults(UFFD_FEATURE_PAGEFAULT_FLAG_WP);
+    if (faults < 0) return left_out("no userfaultfd of its own");
+    uint8_t *at = lent(PAGES);
+    struct uffdio_register asked = {.range = {(uintptr_t)at, PAGES * PAGE}, .mode = UFFDIO_REGISTER_MODE_WP};
+    struct uffdio_writeprotect guard = {.range = {(uintptr_t)at, PAGE}, .mode = UFFDIO_WRITEPROTECT_MODE_WP};
+    check(syscall(SYS_ioctl, faults, UFFDIO_REGISTER, &asked) == 0, "UFFDIO_REGISTER");
+    check(syscall(SYS_ioctl, faults, UFFDIO_WRITEPROTECT, &guard) == 0, "UFFDIO_WRITEPROTECT");
+    says("guarded");
+    close(faults);
+    fill(at, PAGES, 7);
+    says("free");
+    check(differing(at, 0, PAGES, 7) == 0, "pages keep their content");
 }
 
 /* ---- many descriptors, and memory that is guarded first ---- */
@@ -568,6 +589,7 @@ static const struct way {
     {"raw-handler", raw_handler},
     {"raw-costs", raw_costs},
     {"stays", stays},
+    {"stays-guarded", stays_guarded},
     {"said-early", said_early},
     {"descriptors", descriptors},
     {"ringed", ringed},

@@ -17,7 +17,7 @@ from places import HERE, Late, Place, Wrong
 
 # Cases by their names.
 Cases = Mapping[str, Callable[[], object]]
-# The seconds of a case that isn't in the gate.
+# The seconds of a case outside the gate.
 SECONDS_OF_CASE = 1800
 
 
@@ -85,7 +85,7 @@ def run_cases(tally: Tally, cases: Cases, names: Sequence[str], long: Sequence[s
     signal.signal(signal.SIGTERM, lambda *_: sys.exit(1))
     signal.signal(signal.SIGALRM, too_late)
     for name in names:
-        seconds = in_gate.get(name, SECONDS_OF_CASE) + int(os.environ.get("SECONDS", "600" if name in long else "0"))
+        seconds = (in_gate[name] if HERE.is_short else SECONDS_OF_CASE) + int(os.environ.get("SECONDS", "600" if name in long else "0"))
         run_case(tally, name, cases[name], seconds)
     return tally.close()
 
