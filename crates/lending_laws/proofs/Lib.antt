@@ -1,0 +1,10 @@
+pub mod Beliefs
+pub mod Holds
+pub mod Kept
+pub mod Looks
+pub mod Notes
+pub mod Outcomes
+pub mod Over
+pub mod Pages
+pub mod Slots
+pub mod Wrong

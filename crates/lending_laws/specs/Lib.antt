@@ -1,0 +1,7 @@
+pub mod Histories
+pub mod Holds
+pub mod Looks
+pub mod Notes
+pub mod Reading
+pub mod Slots
+pub mod Wrong

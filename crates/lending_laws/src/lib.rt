@@ -1,0 +1,84 @@
+//! What a guest reads while its pages are lent: laws from the calls for a window's pages, over all that others do.
+//!
+//! The laws hold for every history. The functions do nothing: the contract is all there is.
+#![tactic(auto)]
+
+ghost use Rattle.lending_laws.specs.Histories.{CarriedOut, Given, IsTold};
+ghost use Rattle.lending_laws.specs.Holds.{EachComparisonIsTrue, EachHoldReadsTheSame, EachRowIsHeld, EachStepAgrees, EachTruthIsInBytes, EachZeroIsTrue};
+ghost use Rattle.lending_laws.specs.Looks.{EachStepReadsWhatItMay};
+ghost use Rattle.lending_laws.specs.Notes.{EachIsDetached, EachLookIsCalls, EachNoteIsACall, EachStepTells};
+ghost use Rattle.lending_laws.specs.Reading.{EachBeliefIsRight, EachEventKeepsReading, EachFrameIsNoted, EachOrderIsDue, EachOrderIsPossible, EachPageIsRead, StartBegins};
+ghost use Rattle.lending_laws.specs.Slots.{EachSlotIsOnes, NoSlotIsLost, NoneIsReleasedShown};
+ghost use Rattle.lending_laws.specs.Wrong.{MapsAfterDiscard, one_forgotten, slot_7, two_given};
+ghost use Rattle.page_lender.specs.Events.{DoneByEvents, StaysRight};
+ghost use Rattle.page_lender.specs.declared.belief.Belief.TheVariants as Belief;
+ghost use Rattle.page_lender.specs.declared.order.Order.TheVariants as Order;
+ghost use Rattle.page_lender.specs.declared.order.Outcome.TheVariants as Outcome;
+
+use hold_rows::laws::row_law;
+
+/// *Each page of a window reads what its guest stored last*, at each moment of every history, also while an order of it is open, or was
+/// carried out and nobody is told. What is believed of it is right, each order that is carried out is possible in the protocol, and an
+/// outcome is of the order that was given. A page that shows a frame is noted to lie over one. The start of the protocol begins a history,
+/// and from any mappings where a page is right each event keeps it so.
+pub fn reads_law()
+    ensures reads { EachPageIsRead }
+    ensures believed { EachBeliefIsRight }
+    ensures possible { EachOrderIsPossible }
+    ensures named { EachOrderIsDue }
+    ensures over { EachFrameIsNoted }
+    ensures events { EachEventKeepsReading }
+    ensures begins { StartBegins }
+{}
+
+/// Calls for many pages, for held pages and for looks are calls of a history. Each page of a range of which something is noted changes by
+/// one, or was detached. What a step of a hold takes is the outcome of the page's order, or the page stays. What comes of a step of a look
+/// is calls.
+pub fn calls_law()
+    ensures notes { EachNoteIsACall }
+    ensures detached { EachIsDetached }
+    ensures steps { EachStepTells }
+    ensures looks { EachLookIsCalls }
+{}
+
+/// With a host that gives only slots that it hasn't given: *each slot that it gave and hasn't got back is exactly one page's*, at each
+/// moment of every history. And when a slot is to be released, no page that has it shows a frame.
+pub fn one_slot_law()
+    ensures ones { NoSlotIsLost }
+    ensures unshown { NoneIsReleasedShown }
+{}
+
+/// A hold of a page, in bytes, and a history of its window say the same: whoever reads the page finds the bytes that the protocol shows.
+/// A comparison that says equal in bytes, of a page that is guarded, is true of its order, and the other way round.
+pub fn hold_reads_law()
+    ensures reads { EachHoldReadsTheSame }
+    ensures compared { EachComparisonIsTrue }
+    ensures zeros { EachZeroIsTrue }
+    ensures in_bytes { EachTruthIsInBytes }
+    ensures steps { EachStepAgrees }
+{}
+
+/// Each page of a row of held pages is in such a hold, by the law of rows.
+pub fn row_reads_law()
+    ensures { EachRowIsHeld }
+{
+    row_law();
+}
+
+/// At every step of a look that reads bytes of a page or has found something, the page is its window's and is there, nothing is lent of it,
+/// and nothing bars it.
+pub fn touched_law()
+    ensures { EachStepReadsWhatItMay }
+{}
+
+/// What the laws refuse: two pages with one slot; a slot that no page has; a stuck page, to which writes wait, that is forgotten; a page
+/// that is mapped after it was discarded; an outcome that is taken for another order's, or is told before the order was carried out.
+pub fn wrong_windows()
+    ensures gives_twice { EachSlotIsOnes two_given slot_7 → ⊥ }
+    ensures forgets_a_slot { EachSlotIsOnes one_forgotten slot_7 → ⊥ }
+    ensures forgets_a_stuck_page { StaysRight Belief.PuttingBack Belief.Private → ⊥ }
+    ensures maps_after_discard { MapsAfterDiscard → ⊥ }
+    ensures takes_for_another { DoneByEvents (Belief.Equal 7 0) Order.Hold Outcome.Done (Belief.Shown 7 0) → ⊥ }
+    ensures tells_of_another { IsTold Outcome.Done (Order.Map 0) (CarriedOut Order.Hold) → ⊥ }
+    ensures tells_too_early { IsTold Outcome.Done (Order.Map 0) (Given (Order.Map 0)) → ⊥ }
+{}
