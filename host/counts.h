@@ -10,7 +10,7 @@
 
 #define COUNTS_NAME "pageshare-counts"
 /* The file has COUNTS_BYTES bytes and is sealed: it grows and shrinks no more. */
-enum { COUNTS_VERSION = 3, COUNTS_BYTES = 4096, COUNTS_WHY_AT = 1024, COUNTS_WHY_MOST = 128, COUNTS_WANTED_AT = 2048 };
+enum { COUNTS_VERSION = 4, COUNTS_BYTES = 4096, COUNTS_WHY_AT = 1024, COUNTS_WHY_MOST = 128, COUNTS_WANTED_AT = 2048 };
 
 /* What becomes of sharing. */
 enum counts_state {
@@ -30,6 +30,8 @@ struct counts {
     uint64_t is_filtered;                          /* 1 if the system shows the library each call that may let devices write */
     uint64_t lent;                                 /* pages */
     uint64_t state;                                /* an enum counts_state */
+    uint64_t zeros;                                /* pages that were given back as zeros, and weren't found written */
+    uint64_t library_bytes;                        /* what the library's tables take */
 };
 _Static_assert(sizeof(struct counts) <= COUNTS_WHY_AT, "words stand behind the counts");
 

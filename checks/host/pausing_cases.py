@@ -4,6 +4,7 @@ from __future__ import annotations
 import os
 import signal
 import subprocess
+import sys
 import time
 from collections.abc import Sequence
 from typing import Any
@@ -119,6 +120,57 @@ def case_pause_busy() -> None:
     in_time(paused > 0, "nothing was paused")
     all_released(host)
     host.stop()
+
+
+def run_python(host: Host, code: str, period_ms: int, *words: object) -> subprocess.Popen[str]:
+    env = preloaded(host, {"PAGESHARE_CPU": "100", "PAGESHARE_PERIOD_MS": str(period_ms)})
+    ran = subprocess.Popen([*AS_NOBODY, sys.executable, "-c", code, *map(str, words)], env=env, text=True, stdin=subprocess.PIPE)
+    HERE.place.started.append(ran)
+    return ran
+
+
+def say(ran: subprocess.Popen[str], line: str) -> None:
+    assert ran.stdin
+    ran.stdin.write(line)
+    ran.stdin.flush()
+
+
+# A process with pages of its own numbers, and as many zeros, that gives all up when it reads a line. Words: its first number, and how many pages.
+OFFERS = """
+import mmap, sys
+first, pages = map(int, sys.argv[1:])
+own, zeros = (mmap.mmap(-1, pages * 4096, flags=mmap.MAP_PRIVATE | mmap.MAP_ANONYMOUS) for _ in range(2))
+for it in own, zeros:
+    it.madvise(mmap.MADV_NOHUGEPAGE), it.madvise(mmap.MADV_DONTFORK), it.madvise(mmap.MADV_MERGEABLE)
+for page in range(pages):
+    own[page * 4096:(page + 1) * 4096] = (first + page).to_bytes(8, "little") * 512
+    zeros[page * 4096:(page + 1) * 4096] = bytes(4096)
+sys.stdin.readline(), own.close(), zeros.close(), sys.stdin.readline()
+"""
+
+
+def case_account() -> None:
+    """Zeros count in the gain; pages that --lent or --memory refuses are told apart; and who offers nothing any more is listed with that cause."""
+    pages, most = 1024, 512
+    for memory, lent, by_lent in (("64M", f"{most * 4}K", True), (f"{most * 4}K", "64M", False)):
+        host = Host("--lent", lent, memory=memory)
+        made = [run_python(host, OFFERS, 50, 1, pages) for _ in range(2)]
+        good, _ = until(40, lambda: (it := host.status())["refused_pages_total"] > 0 and it["zero_bytes"] >= 2 * pages * 4096, 0.2)
+        state = host.status()
+        in_time(good, f"nothing was refused, or few zeros were given back: {state}")
+        most_bytes = state["lent_limit_bytes"] if by_lent else state["limit_bytes"]
+        must(most_bytes == most * 4096, f"the limit is {most_bytes}: {state}")
+        must((state["refused_by_lent_pages_total"] == state["refused_pages_total"]) == by_lent, f"refused by --lent: {state}")
+        must(by_lent or state["refused_by_lent_pages_total"] == 0, f"refused by --lent: {state}")
+        must(state["zero_bytes"] == 2 * pages * 4096, f"{2 * pages} pages of zeros: {state}")
+        must(state["net_bytes"] > state["zero_bytes"] - (32 << 20), f"zeros aren't in the gain: {state}")
+        say(made[0], "\n")
+        good, _ = until(20, lambda: why(host, made[0].pid) == ("processes", "none of its memory is offered now"), 0.2)
+        must(good, f"a process that offers nothing any more: {host.status()}")
+        for it in made:
+            it.communicate("\n\n", timeout=30)
+        all_released(host)
+        host.stop()
 
 
 # QEMU's words, and what is said of it.

@@ -32,7 +32,9 @@ void counts_file_write(const struct windows_counts *now, enum counts_state state
                             .round_ns = now->round_ns,
                             .is_filtered = filter_is_on(),
                             .lent = now->lent,
-                            .state = state};
+                            .state = state,
+                            .zeros = now->zeros_now,
+                            .library_bytes = now->table_bytes};
     const char *why = atomic_load(&noted);
     char words[COUNTS_WHY_MOST] = "";
     if (why) snprintf(words, sizeof words, "%s", why);
