@@ -32,12 +32,19 @@ struct counts {
     uint64_t state;                                /* an enum counts_state */
     uint64_t zeros;                                /* pages that were given back as zeros, and weren't found written */
     uint64_t library_bytes;                        /* what the library's tables take */
+    uint64_t percent;                              /* of one processor, that the library's thread may use */
+    uint64_t limit;                                /* the percentage that an operator lets it use, as far as it has heard; or 0 */
 };
 _Static_assert(sizeof(struct counts) <= COUNTS_WHY_AT, "words stand behind the counts");
 
 /* At COUNTS_WHY_AT stands why nothing is lent of some memory, or of all: words that end with a zero, or nothing. */
 
-/* What an operator wants, a number at COUNTS_WANTED_AT. Any other number means COUNTS_SHARE. */
-enum counts_wanted { COUNTS_SHARE, COUNTS_PAUSE };
+/* What an operator wants, at COUNTS_WANTED_AT. */
+struct counts_wanted {
+    uint64_t sharing; /* COUNTS_PAUSE, or any other number: COUNTS_SHARE */
+    uint64_t limit;   /* the percentage of one processor that the library's thread may use, 1 to 100. Any other number: no limit */
+};
+enum counts_sharing { COUNTS_SHARE, COUNTS_PAUSE };
+enum { COUNTS_LIMIT_MOST = 100 };
 
 #endif

@@ -135,16 +135,17 @@ def counting(path: str, written: bytes, why: bytes = b"", seals: str = "fcntl.F_
 
 def case_counts() -> None:
     """A status shows what clients say of their windows, and whatever a client writes there does no harm."""
-    names = ("mappings", "mappings_limit", "parts_whole", "parts_split", "parts_huge", "look_nanoseconds", "filtered", "pause")
-    numbers, most, nothing = (4, 1000, 20, 300, 4, 3, 2, 50, 1, 7, 1, 5, 6), 2**64 - 1, (0,) * 8
+    names = ("mappings", "mappings_limit", "parts_whole", "parts_split", "parts_huge", "look_nanoseconds", "filtered", "pause", "cpu_percent",
+             "cpu_limit_percent")
+    numbers, most, nothing = (4, 1000, 20, 300, 4, 3, 2, 50, 1, 7, 1, 5, 6, 8, 9), 2**64 - 1, (0,) * 10
     host = Host("--connection-rate", "1000", memory="64M")
-    written, wild = struct.pack("<13Q", *numbers), bytes(range(1, 256))
-    said = (*numbers[2:9], 1)
-    boaster = counting(str(host.socket), struct.pack("<13Q", 4, *[most] * 12))
+    written, wild = struct.pack("<15Q", *numbers), bytes(range(1, 256))
+    said = (*numbers[2:9], 1, 8, 9)
+    boaster = counting(str(host.socket), struct.pack("<15Q", 4, *[most] * 14))
     plain, odd = counting(str(host.socket), written, b"no cause"), counting(str(host.socket), written, wild)
     due = {
-        plain: said, odd: said, counting(str(host.socket), b""): nothing, boaster: (most,) * 8,
-        counting(str(host.socket), struct.pack("<13Q", 3, *numbers[1:])): nothing, counting(str(host.socket), written, b"x", "fcntl.F_SEAL_GROW"): nothing,
+        plain: said, odd: said, counting(str(host.socket), b""): nothing, boaster: (most,) * 10,
+        counting(str(host.socket), struct.pack("<15Q", 3, *numbers[1:])): nothing, counting(str(host.socket), written, b"x", "fcntl.F_SEAL_GROW"): nothing,
     }
     until(5, lambda: host.status()["clients"] == len(due), 0.1)
     found = {it["pid"]: tuple(it[f"client_{name}"] for name in names) for it in host.status()["processes"]}

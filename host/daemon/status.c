@@ -112,6 +112,9 @@ static const struct number of_client[] = {
                    "How long the client's last look took, as it says"),
     WORDS_OF_CLIENT("client_filtered", counts.is_filtered, "found by", scans_or_filter,
                     "1 where a filter shows the library system calls, as it says"),
+    OF_CLIENT("client_cpu_percent", counts.percent, GAUGE, 1, "CPU %",
+              "Percent of one processor that the library's thread may use, as the client says"),
+    OF_CLIENT("client_cpu_limit_percent", counts.limit, GAUGE, 1, NULL, "The same as an operator limits it, as it says, or 0"),
     OF_CLIENT("client_pause", counts.state, GAUGE, 1, NULL,
               "0: it shares, 1: --pause begins, 2: waits for memory, 3, 4: paused, as it says"),
 };
