@@ -53,7 +53,7 @@ IN_GATE = {
     "filter": 480, "filter-by-itself": 60, "scans": 180, "guarded": 120, "said-early": 60,
     "ways": 120,
     "check": 120, "check-denied": 60, "check-wrong": 180, "check-refused": 300, "pause": 240, "pause-busy": 120, "pause-guarded": 120,
-    "shares-nothing": 240,
+    "limit": 120, "account": 180, "shares-nothing": 240,
 }
 
 if __name__ == "__main__":

@@ -10,7 +10,7 @@
 
 #define COUNTS_NAME "pageshare-counts"
 /* The file has COUNTS_BYTES bytes and is sealed: it grows and shrinks no more. */
-enum { COUNTS_VERSION = 3, COUNTS_BYTES = 4096, COUNTS_WHY_AT = 1024, COUNTS_WHY_MOST = 128, COUNTS_WANTED_AT = 2048 };
+enum { COUNTS_VERSION = 4, COUNTS_BYTES = 4096, COUNTS_WHY_AT = 1024, COUNTS_WHY_MOST = 128, COUNTS_WANTED_AT = 2048 };
 
 /* What becomes of sharing. */
 enum counts_state {
@@ -30,12 +30,21 @@ struct counts {
     uint64_t is_filtered;                          /* 1 if the system shows the library each call that may let devices write */
     uint64_t lent;                                 /* pages */
     uint64_t state;                                /* an enum counts_state */
+    uint64_t zeros;                                /* pages that were given back as zeros, and weren't found written */
+    uint64_t library_bytes;                        /* what the library's tables take */
+    uint64_t percent;                              /* of one processor, that the library's thread may use */
+    uint64_t limit;                                /* the percentage that an operator lets it use, as far as it has heard; or 0 */
 };
 _Static_assert(sizeof(struct counts) <= COUNTS_WHY_AT, "words stand behind the counts");
 
 /* At COUNTS_WHY_AT stands why nothing is lent of some memory, or of all: words that end with a zero, or nothing. */
 
-/* What an operator wants, a number at COUNTS_WANTED_AT. Any other number means COUNTS_SHARE. */
-enum counts_wanted { COUNTS_SHARE, COUNTS_PAUSE };
+/* What an operator wants, at COUNTS_WANTED_AT. */
+struct counts_wanted {
+    uint64_t sharing; /* COUNTS_PAUSE, or any other number: COUNTS_SHARE */
+    uint64_t limit;   /* the percentage of one processor that the library's thread may use, 1 to 100. Any other number: no limit */
+};
+enum counts_sharing { COUNTS_SHARE, COUNTS_PAUSE };
+enum { COUNTS_LIMIT_MOST = 100 };
 
 #endif

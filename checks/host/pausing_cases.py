@@ -3,7 +3,9 @@ from __future__ import annotations
 
 import os
 import signal
+import struct
 import subprocess
+import sys
 import time
 from collections.abc import Sequence
 from typing import Any
@@ -14,6 +16,7 @@ from parts_cases import compile_parts, start
 from places import AS_NOBODY, HERE, Host, LeftOut, all_released, in_time, must, preloaded, until
 from qemu_guests import QEMU, is_there
 from running_guests import go_on, guest, guests, settle
+from system_cases import counting
 
 # Pages that `stays` of raw_calls.c lends at least.
 LEAST = 1000
@@ -145,6 +148,132 @@ def case_pause_busy() -> None:
     in_time(paused > 0, "nothing was paused")
     all_released(host)
     host.stop()
+
+
+def percent(host: Host, pid: int) -> tuple[int, int]:
+    """What a process says that its thread may use, and what an operator's limit is."""
+    it = client(host, pid)
+    return it["client_cpu_percent"], it["client_cpu_limit_percent"]
+
+
+def spends(host: Host, pid: int, seconds: float) -> float:
+    """The percentage of a processor that a process's thread takes in this time."""
+    begun, spent = time.time(), processor_ns(host, pid)
+    time.sleep(seconds)
+    return (processor_ns(host, pid) - spent) / (time.time() - begun) / 1e7
+
+
+# A process that writes all of its pages again and again, from when it reads a line. Word: how many pages.
+WRITES = """
+import mmap, sys
+pages = int(sys.argv[1])
+it = mmap.mmap(-1, pages * 4096, flags=mmap.MAP_PRIVATE | mmap.MAP_ANONYMOUS)
+it.madvise(mmap.MADV_NOHUGEPAGE), it.madvise(mmap.MADV_DONTFORK), it.madvise(mmap.MADV_MERGEABLE)
+sys.stdin.readline()
+for turn in range(1, 1 << 32):
+    for page in range(pages):
+        it[page * 4096:page * 4096 + 8] = (turn + page).to_bytes(8, "little")
+"""
+
+
+def run_python(host: Host, code: str, period_ms: int, *words: object) -> subprocess.Popen[str]:
+    env = preloaded(host, {"PAGESHARE_CPU": "100", "PAGESHARE_PERIOD_MS": str(period_ms)})
+    ran = subprocess.Popen([*AS_NOBODY, sys.executable, "-c", code, *map(str, words)], env=env, text=True, stdin=subprocess.PIPE)
+    HERE.place.started.append(ran)
+    return ran
+
+
+def say(ran: subprocess.Popen[str], line: str) -> None:
+    assert ran.stdin
+    ran.stdin.write(line)
+    ran.stdin.flush()
+
+
+def is_kept(host: Host, pid: int, when: str) -> None:
+    """A limit of 1 % is kept: its time is counted in ticks of 10 ms, and a call that it makes may take longer than its budget."""
+    kept = spends(host, pid, 4)
+    print(f"  {when}: {kept:.1f} % of a processor")
+    must(kept <= 2, f"{when} a limit of 1 % leaves it {kept:.1f} %")
+
+
+def refuse_to_limit(host: Host) -> None:
+    """Whom nobody can ask, who never hears of it, whose file refuses it, and words that are no limit."""
+    shares, seals = struct.pack("<15Q", 4, *[0] * 14), "fcntl.F_SEAL_SHRINK | fcntl.F_SEAL_GROW"
+    ran = ask("limit", f"{counting(str(host.socket), shares)}=5")
+    must(ran.returncode == LATE and "hasn't heard of the limit" in ran.stdout, f"one that doesn't hear: {ran}")
+    ran = ask("limit", f"{counting(str(host.socket), shares, seals=f'{seals} | fcntl.F_SEAL_WRITE')}=5")
+    must(ran.returncode == 1 and "the guest's file: Operation not permitted" in ran.stderr and not ran.stdout, f"a file that refuses it: {ran}")
+    for whom, cause in (("nobody=5", "no guest that is called nobody"), (f"{os.getpid()}=5", "shares no memory")):
+        ran = ask("limit", whom)
+        must(ran.returncode == 1 and cause in ran.stderr and not ran.stdout, f"{whom}: {ran}")
+    for word in ("x", "=5", "x=", "x=0", "x=101", "x=5%", "x=NONE", "x" * 64 + "=5", ""):
+        must(subprocess.run([HERE.host, "--limit", word], capture_output=True).returncode == 2, f"--limit {word} is taken")
+
+
+def case_limit() -> None:
+    """--limit keeps a guest's thread to a part of a processor, also for what is new and with a new host, until it says none."""
+    host, name = Host("--client-cpu", "60", memory="64M"), f"limited-{os.getpid()}"
+    one = run_python(host, WRITES, 1, 16384, "-name", name)
+    good, _ = until(20, lambda: client(host, one.pid).get("client_cpu_percent") == 60, 0.1)
+    must(good and percent(host, one.pid) == (60, 0), f"before: {host.status()}")
+    limited = ask("limit", f"{name}=1")
+    must(limited.returncode == 0 and f"guest {name}, process {one.pid}: sharing may use 1 %" in limited.stdout, f"{limited}")
+    must(percent(host, one.pid) == (1, 1), f"limited: {percent(host, one.pid)}")
+    say(one, "\n")
+    is_kept(host, one.pid, "with pages that are new")
+    host.kill()
+    host.start()
+    good, _ = until(20, lambda: client(host, one.pid)["connected"] == 1 and percent(host, one.pid) == (1, 1), 0.2)
+    must(good, f"with a new host: {client(host, one.pid)}")
+    is_kept(host, one.pid, "with a new host")
+    more = ask("limit", f"{one.pid}=80")
+    must(more.returncode == 0 and "sharing may use 60 %" in more.stdout and percent(host, one.pid) == (60, 80), f"a limit above what it may: {more}")
+    none = ask("limit", f"{one.pid}=none")
+    must(none.returncode == 0 and "no operator limits it" in none.stdout and percent(host, one.pid) == (60, 0), f"{none}")
+    good, _ = until(30, lambda: spends(host, one.pid, 2) > 3, 0)
+    in_time(good, "without a limit it takes less than 3 % of a processor, so that the limit shows nothing")
+    one.kill()
+    all_released(host)
+    refuse_to_limit(host)
+    host.stop()
+
+
+# A process with pages of its own numbers, and as many zeros, that gives all up when it reads a line. Words: its first number, and how many pages.
+OFFERS = """
+import mmap, sys
+first, pages = map(int, sys.argv[1:])
+own, zeros = (mmap.mmap(-1, pages * 4096, flags=mmap.MAP_PRIVATE | mmap.MAP_ANONYMOUS) for _ in range(2))
+for it in own, zeros:
+    it.madvise(mmap.MADV_NOHUGEPAGE), it.madvise(mmap.MADV_DONTFORK), it.madvise(mmap.MADV_MERGEABLE)
+for page in range(pages):
+    own[page * 4096:(page + 1) * 4096] = (first + page).to_bytes(8, "little") * 512
+    zeros[page * 4096:(page + 1) * 4096] = bytes(4096)
+sys.stdin.readline(), own.close(), zeros.close(), sys.stdin.readline()
+"""
+
+
+def case_account() -> None:
+    """Zeros count in the gain; pages that --lent or --memory refuses are told apart; and who offers nothing any more is listed with that cause."""
+    pages, most = 1024, 512
+    for memory, lent, by_lent in (("64M", f"{most * 4}K", True), (f"{most * 4}K", "64M", False)):
+        host = Host("--lent", lent, memory=memory)
+        made = [run_python(host, OFFERS, 50, 1, pages) for _ in range(2)]
+        good, _ = until(40, lambda: (it := host.status())["refused_pages_total"] > 0 and it["zero_bytes"] >= 2 * pages * 4096, 0.2)
+        state = host.status()
+        in_time(good, f"nothing was refused, or few zeros were given back: {state}")
+        most_bytes = state["lent_limit_bytes"] if by_lent else state["limit_bytes"]
+        must(most_bytes == most * 4096, f"the limit is {most_bytes}: {state}")
+        must((state["refused_by_lent_pages_total"] == state["refused_pages_total"]) == by_lent, f"refused by --lent: {state}")
+        must(by_lent or state["refused_by_lent_pages_total"] == 0, f"refused by --lent: {state}")
+        must(state["zero_bytes"] == 2 * pages * 4096, f"{2 * pages} pages of zeros: {state}")
+        must(state["net_bytes"] > state["zero_bytes"] - (32 << 20), f"zeros aren't in the gain: {state}")
+        say(made[0], "\n")
+        good, _ = until(20, lambda: why(host, made[0].pid) == ("processes", "none of its memory is offered now"), 0.2)
+        must(good, f"a process that offers nothing any more: {host.status()}")
+        for it in made:
+            it.communicate("\n\n", timeout=30)
+        all_released(host)
+        host.stop()
 
 
 # QEMU's words, and what is said of it.

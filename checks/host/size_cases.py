@@ -4,13 +4,14 @@ from __future__ import annotations
 import dataclasses
 import json
 import os
+import pathlib
 import subprocess
 import threading
 import time
 from typing import Any, Sequence
 
 from harness import StrPath
-from places import AS_NOBODY, CC, FLAGS, HERE, OUT, TOP, WINDOW_LIBRARY, Host, compile_c, in_time, must, preloaded
+from places import AS_NOBODY, CC, FLAGS, HERE, OUT, TOP, WINDOW_LIBRARY, Host, compile_c, in_time, must, preloaded, until
 from qemu_guests import read
 
 PAGE, SPARES, PRELOAD = 4096, 2000, TOP / "host/preload"
@@ -41,7 +42,9 @@ Counts = dict[str, Any]  # as JSON has them
 class Guest:
     """A process of size.c, whose counts are read all the time from when its memory is filled."""
 
-    def __init__(self, number: int, mib: int, kind: Kind, seconds: int, host: Host | None = None, is_huge: bool = True) -> None:
+    def __init__(
+        self, number: int, mib: int, kind: Kind, seconds: int, host: Host | None = None, is_huge: bool = True, before: Sequence[StrPath] = (),
+    ) -> None:
         self.number, self.mib, self.said = number, mib, ""
         self.series: list[tuple[float, Counts]] = []
         self.counts_path = HERE.place.room / f"size{number}.json"
@@ -49,7 +52,7 @@ class Guest:
                                     int(kind.is_local))]
         more = {"PAGESHARE_COUNTS": str(self.counts_path), "PAGESHARE_PERIOD_MS": "1000"}
         env = preloaded(host, more) if host else dict(os.environ)
-        self.process = subprocess.Popen([*AS_NOBODY, HERE.place.room / "size", *words], env=env, text=True, stdout=subprocess.PIPE,
+        self.process = subprocess.Popen([*before, *AS_NOBODY, HERE.place.room / "size", *words], env=env, text=True, stdout=subprocess.PIPE,
                                         stderr=subprocess.STDOUT)
         HERE.place.started.append(self.process)
         self.reader = threading.Thread(target=self.listen, daemon=True)
@@ -170,6 +173,78 @@ def case_size() -> None:
     table["runs of 1"] = {"rows": rows, "host": state}
     OUT.mkdir(parents=True, exist_ok=True)
     (OUT / "size.json").write_text(json.dumps(table, indent=1))
+
+
+class Group:
+    """A memory cgroup for processes, which the system charges with their memory, page tables and slabs. `folder` is None where none can be made."""
+
+    def __init__(self) -> None:
+        of = {it.split(":")[1]: it.split(":")[2] for it in read("/proc/self/cgroup").splitlines()}
+        above = pathlib.Path(f"/sys/fs/cgroup/memory{of['memory']}" if "memory" in of else "/sys/fs/cgroup")
+        folder = above / f"pageshare-{os.getpid()}"
+        self.folder: pathlib.Path | None = folder
+        self.file = folder / ("memory.usage_in_bytes" if "memory" in of else "memory.current")
+        try:
+            folder.mkdir()
+        except OSError:
+            self.folder = None
+        if self.folder and not self.file.exists():
+            self.remove()
+
+    def inside(self) -> list[StrPath]:
+        """Words before those of a program that is to be in it."""
+        return ["sh", "-c", 'echo $$ > "$0/cgroup.procs" && exec "$@"', self.folder] if self.folder else []
+
+    def used(self) -> int:
+        """The bytes that are in use: of the group, or all that the system hasn't available."""
+        if self.folder:
+            return int(self.file.read_text())
+        of = {it.split(":")[0]: int(it.split()[1]) for it in read("/proc/meminfo").splitlines()}
+        return (of["MemTotal"] - of["MemAvailable"]) << 10
+
+    def remove(self) -> None:
+        if self.folder:
+            must(until(20, lambda: not read(self.folder / "cgroup.procs"), 0.1)[0], "the group has processes still")
+            self.folder.rmdir()
+        self.folder = None
+
+
+def uses(kind: Kind, mib: int, is_shared: bool) -> tuple[bool, float, float]:
+    """Two processes of this kind, some time after they were filled: whether by a group of their own, the bytes that they use, and the net gain."""
+    group = Group()
+    try:
+        is_own = group.folder is not None
+        host = Host("--lent", "4G", memory="1G", before=group.inside()) if is_shared else None
+        made = [Guest(number, mib, kind, 120, host, before=group.inside()) for number in range(2)]
+        must(until(100, lambda: all("filled" in it.said for it in made), 0.2)[0], "they aren't filled")
+        time.sleep(45)
+        samples = []
+        for _ in range(12):
+            samples.append((group.used(), host.status()["net_bytes"] if host else 0))
+            time.sleep(0.5)
+        if host:
+            state = host.status()
+            print(f"    {state['lent_bytes'] >> 20} MiB lent, {state['zero_bytes'] >> 20} of zeros; page tables {state['table_bytes'] >> 20}, mappings "
+                  f"{state['mapping_bytes'] / (1 << 20):.1f}, the library's {state['library_bytes'] / (1 << 20):.1f}, the host {state['host_bytes'] >> 20}")
+        used, net = (sum(it[i] for it in samples) / len(samples) for i in (0, 1))
+        return is_own, used, net
+    finally:
+        HERE.place.clean()
+        group.remove()
+
+
+def case_gain() -> None:
+    """The net gain beside what the system says: the memory, slabs and page tables that the same processes and the host use with sharing and without."""
+    compile_c("size")
+    mib = int(os.environ.get("SIZES", "512"))
+    for name, kind in (("runs of 16", Kind(40, 10, 16, 1)), ("runs of 1", Kind(40, 10, 1, 1))):
+        is_own, used, net = uses(kind, mib, True)
+        _, alone, _ = uses(kind, mib, False)
+        gain, load = alone - used, os.getloadavg()[0]
+        print(f"  {name}: net gain {net / (1 << 20):.1f} MiB, and {gain / (1 << 20):.1f} MiB by {'their memory cgroup' if is_own else 'MemAvailable'}: "
+              f"{100 * (net - gain) / gain:+.1f} %; load {load:.1f}", flush=True)
+        # (what other processes take meanwhile counts where there is no group)
+        in_time(abs(net - gain) <= 0.02 * gain or load > 1 and not is_own, "the net gain isn't the system's within 2 %")
 
 
 def case_runs() -> None:

@@ -13,7 +13,7 @@ from typing import Any
 
 import hostile
 from places import AS_NOBODY, CC, FLAGS, HERE, TOP, Host, LeftOut, all_released, compile_c, in_time, must, preloaded, until
-from qemu_guests import PAGE, Guest, read
+from qemu_guests import NOBODY, PAGE, Guest, read
 from raw_client import RawClient
 from running_guests import go_on, guests, settle, show
 
@@ -89,6 +89,12 @@ def named(path: str, *words: str) -> int:
     return client.pid
 
 
+def net_of(state: Mapping[str, int]) -> int:
+    """The net gain, by the other numbers of a status."""
+    taken = sum(state[f"{it}_bytes"] for it in ("free", "host", "table", "mapping", "library"))
+    return state["reclaimed_bytes"] + state["zero_bytes"] - taken
+
+
 def case_names() -> None:
     """Guests' names are those of QEMU's -name, and whatever else stands there does no harm."""
     host = Host("--connection-rate", "1000", memory="64M")
@@ -106,8 +112,7 @@ def case_names() -> None:
     must(found == due, f"names {sorted(found.items())}, due {sorted(due.items())}")
     state = host.status()
     must(all(it["client_table_bytes"] > 0 for it in state["processes"]), "a process has no page tables")
-    net = state["reclaimed_bytes"] - state["host_bytes"] - state["table_bytes"]
-    must(state["net_bytes"] == net < 0, f"the net gain of clients that share nothing is {state['net_bytes']}")
+    must(state["net_bytes"] == net_of(state) < 0, f"the net gain of clients that share nothing is {state['net_bytes']}")
     for form, text in (("--prometheus", 'guest="a.b-c_1"'), ("--prometheus", 'pageshare_net_bytes{domain="web"} -'), ("", "net gain -")):
         ran = subprocess.run([HERE.host, "--status", path, *form.split()], capture_output=True, text=True)
         must(ran.returncode == 0 and text in ran.stdout, f"{form}: {ran.stdout}")
@@ -130,15 +135,17 @@ def counting(path: str, written: bytes, why: bytes = b"", seals: str = "fcntl.F_
 
 def case_counts() -> None:
     """A status shows what clients say of their windows, and whatever a client writes there does no harm."""
-    names = ("mappings", "mappings_limit", "parts_whole", "parts_split", "parts_huge", "look_nanoseconds", "filtered", "pause")
-    numbers, most, nothing = (3, 1000, 20, 300, 4, 3, 2, 50, 1, 7, 1), 2**64 - 1, (0,) * 8
+    names = ("mappings", "mappings_limit", "parts_whole", "parts_split", "parts_huge", "look_nanoseconds", "filtered", "pause", "cpu_percent",
+             "cpu_limit_percent")
+    numbers, most, nothing = (4, 1000, 20, 300, 4, 3, 2, 50, 1, 7, 1, 5, 6, 8, 9), 2**64 - 1, (0,) * 10
     host = Host("--connection-rate", "1000", memory="64M")
-    written, wild = struct.pack("<11Q", *numbers), bytes(range(1, 256))
+    written, wild = struct.pack("<15Q", *numbers), bytes(range(1, 256))
+    said = (*numbers[2:9], 1, 8, 9)
+    boaster = counting(str(host.socket), struct.pack("<15Q", 4, *[most] * 14))
     plain, odd = counting(str(host.socket), written, b"no cause"), counting(str(host.socket), written, wild)
     due = {
-        plain: (*numbers[2:9], 1), odd: (*numbers[2:9], 1), counting(str(host.socket), b""): nothing,
-        counting(str(host.socket), struct.pack("<11Q", 2, *numbers[1:])): nothing, counting(str(host.socket), written, b"x", "fcntl.F_SEAL_GROW"): nothing,
-        counting(str(host.socket), struct.pack("<11Q", 3, *[most] * 10)): (most,) * 8,
+        plain: said, odd: said, counting(str(host.socket), b""): nothing, boaster: (most,) * 10,
+        counting(str(host.socket), struct.pack("<15Q", 3, *numbers[1:])): nothing, counting(str(host.socket), written, b"x", "fcntl.F_SEAL_GROW"): nothing,
     }
     until(5, lambda: host.status()["clients"] == len(due), 0.1)
     found = {it["pid"]: tuple(it[f"client_{name}"] for name in names) for it in host.status()["processes"]}
@@ -149,7 +156,39 @@ def case_counts() -> None:
     for form, text in (("--prometheus", "pageshare_client_parts_split{"), ("", "of them huge")):
         ran = subprocess.run([HERE.host, "--status", host.socket, *form.split()], capture_output=True, text=True)
         must(ran.returncode == 0 and text in ran.stdout, f"{form}: {ran.stdout}")
+    clients_take(host, plain, boaster)
     host.kill()
+
+
+# What Linux 6.18 has: of a slab the mappings that need one of its objects, its objects and its pages.
+SLABS = {"vm_area_struct": (1, 21, 1), "anon_vma_chain": (2, 64, 1), "maple_node": (12, 16, 1)}
+
+
+def bytes_of_mapping() -> int:
+    """What the kernel's slabs take for a mapping, by what it says of them."""
+    said = {it[0]: (int(it[4]), int(it[5])) for it in map(str.split, read("/proc/slabinfo").splitlines()) if len(it) > 5 and it[0] in SLABS}
+    return int(sum(pages * PAGE / objects / SLABS[name][0] for name, (objects, pages) in said.items()))
+
+
+def clients_take(host: Host, plain: int, boaster: int) -> None:
+    """What clients say that they take is believed as far as it can be, and counts in the net gain; who may not read the kernel's slabs is told so."""
+    state, each, limit = host.status(), bytes_of_mapping(), int(read("/proc/sys/vm/max_map_count"))
+    of = {it["pid"]: it for it in state["processes"]}
+    must(150 < each < 500 and of[plain]["client_mapping_bytes"] == 20 * each, f"{each} bytes of a mapping: {of[plain]}")
+    must((of[plain]["client_zero_bytes"], of[plain]["client_library_bytes"]) == (5 * PAGE, 6), f"{of[plain]}")
+    must(of[boaster]["client_mapping_bytes"] == limit * each, f"more mappings than there may be: {of[boaster]}")
+    status = dict(it.split(":", 1) for it in read(f"/proc/{boaster}/status").splitlines() if ":" in it)
+    size, resident = (int(status[it].split()[0]) << 10 for it in ("VmSize", "VmRSS"))
+    must(of[boaster]["client_zero_bytes"] == (size - resident) // PAGE * PAGE and of[boaster]["client_library_bytes"] == resident, f"{of[boaster]}")
+    for name in ("zero", "table", "mapping", "library"):
+        must(state[f"{name}_bytes"] == sum(it[f"client_{name}_bytes"] for it in of.values()) > 0, f"{name}: {state}")
+    must(state["net_bytes"] == net_of(state), f"the net gain isn't {net_of(state)}: {state}")
+    other_user = ["setpriv", "--reuid=daemon", f"--regid={NOBODY}", "--clear-groups"]
+    other = Host(memory="64M", name="other", before=other_user, user=())
+    for user, path, note in (((), host.socket, f"({each} bytes each)"), (other_user, other.socket, "(248 bytes each, as with Linux 6.18)")):
+        ran = subprocess.run([*user, HERE.host, "--status", path], capture_output=True, text=True)
+        must(ran.returncode == 0 and note in ran.stdout, f"{note} isn't in {ran}")
+    other.stop()
 
 
 def case_refused() -> None:

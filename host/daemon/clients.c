@@ -324,6 +324,7 @@ static void count_served(struct domain *domain, struct client *client, struct pa
         client->lends += is_lent;
         domain->lends += is_lent;
         domain->refused += !is_lent;
+        domain->refused_by_lent += !is_lent && domain->lends >= domain->releases + domain->slots;
     }
 }
 

@@ -65,6 +65,7 @@ struct domain {
     uint32_t ending;      /* how many of them are ending */
     uint32_t next_ending; /* where the next is looked for */
     uint32_t quota;       /* the most slots of one process */
+    uint64_t slots;       /* the most of all */
     int listener, status_listener, poll, wake;
     int faults_device;      /* /dev/userfaultfd, or NOTHING; all domains have the one */
     bool is_lend_waiting;   /* a client's lend waits while memory is given back */
@@ -80,7 +81,7 @@ struct domain {
     struct refusals refusals;
     struct pageshare_host_totals counted; /* the library's totals, as they were last counted */
     uint64_t counted_until_ns;            /* and until when they are reported */
-    uint64_t start_ns, next_tick_ns, messages, asked, lends, releases, refused, faults;
+    uint64_t start_ns, next_tick_ns, messages, asked, lends, releases, refused, refused_by_lent, faults;
     pthread_t thread;
     bool has_thread;
     atomic_bool must_end;

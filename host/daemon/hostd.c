@@ -120,6 +120,7 @@ int main(int count, char **words) {
     case TASK_MEMBER: return member_run(settings.seconds);
     case TASK_PAUSE:
     case TASK_RESUME: return pausing_ask(settings.guest, settings.task == TASK_PAUSE);
+    case TASK_LIMIT: return pausing_limit(settings.guest, settings.percent);
     case TASK_SERVE: break;
     }
     enum outcome outcome = serve_all(&settings, count, words);

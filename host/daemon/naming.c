@@ -81,15 +81,21 @@ void naming_of_guest(uint64_t process, char name[GUEST_NAME_MOST]) {
     close(file);
 }
 
-uint64_t naming_tables_of(uint64_t process) {
-    char text[4096];
+/* A size that a line of a process's status has, in bytes. */
+static uint64_t size_in(const char *text, const char *name) {
     unsigned long long kibibytes = 0;
+    const char *line = strstr(text, name);
+    return line && sscanf(line + strlen(name), "%llu kB", &kibibytes) == 1 ? kibibytes * 1024 : 0;
+}
+
+struct naming_memory naming_memory_of(uint64_t process) {
+    char text[4096];
     int file = open_of(process, "status");
-    if (file < 0) return 0;
+    if (file < 0) return (struct naming_memory){0};
     text[read_all(file, text, sizeof text - 1)] = 0;
     close(file);
-    const char *line = strstr(text, "\nVmPTE:");
-    return line && sscanf(line, "\nVmPTE: %llu kB", &kibibytes) == 1 ? kibibytes * 1024 : 0;
+    return (struct naming_memory){
+        .size = size_in(text, "\nVmSize:"), .resident = size_in(text, "\nVmRSS:"), .tables = size_in(text, "\nVmPTE:")};
 }
 
 /* Reads a text of a thread. Returns false if there is none. */

@@ -17,8 +17,11 @@ enum { GUEST_NAME_MOST = 64 };
 void naming_of_guest(uint64_t process, char name[GUEST_NAME_MOST]);
 /* The same of the words of a command line, each of which ends with a zero. */
 void naming_of_words(const char *words, size_t bytes, char name[GUEST_NAME_MOST]);
-/* What a process's page tables take, in bytes; 0 if that can't be seen. */
-uint64_t naming_tables_of(uint64_t process);
+/* A process's memory, in bytes: all, what is there of it, and its page tables. Zeros, if that can't be seen. */
+struct naming_memory {
+    uint64_t size, resident, tables;
+};
+struct naming_memory naming_memory_of(uint64_t process);
 /* The processor time of the thread by which the library looks in a process, in nanoseconds; 0 if there is none. */
 uint64_t naming_processor_of(uint64_t process);
 /* Reads what the library counts in a process, and why nothing is lent, as the process says. Returns false if nothing can be read; then all is

@@ -17,6 +17,7 @@ struct asked {
     char name[GUEST_NAME_MOST];
     int counts; /* its file */
     int end;    /* readable when its process has ended */
+    uint64_t wanted;
 };
 
 static bool is_number(const char *text) { return *text && strspn(text, "0123456789") == strlen(text); }
@@ -111,15 +112,39 @@ static int await_resume(const struct asked *guest) {
     return say(guest, "its library hasn't begun to share again; that goes on by itself"), PAUSING_LATE;
 }
 
-int pausing_ask(const char *whom, bool pauses) {
-    struct asked guest = {.counts = NOTHING, .end = NOTHING};
-    const uint64_t wanted = pauses ? COUNTS_PAUSE : COUNTS_SHARE;
+/* Waits until the library has heard of the limit. */
+static int await_limit(const struct asked *guest) {
+    struct counts counts;
+    char text[96];
+    for (int ticks = 0; ticks < RESUME_SECONDS * 1000 / TICK_MS; ticks++) {
+        if (has_ended(guest, TICK_MS)) return log_line("process %llu has ended meanwhile", (unsigned long long)guest->process), 1;
+        if (!naming_read_counts(guest->counts, &counts) || counts.limit != guest->wanted) continue;
+        snprintf(text, sizeof text, "sharing may use %llu %% of a processor%s", (unsigned long long)counts.percent,
+                 guest->wanted ? ", also for what is new" : "; no operator limits it");
+        return say(guest, text), 0;
+    }
+    return say(guest, "its library hasn't heard of the limit; it will by itself"), PAUSING_LATE;
+}
+
+/* Writes what is wanted to the place for it in a guest's file, and waits for what comes of it. Returns the process's status. */
+static int ask(const char *whom, uint64_t wanted, size_t at, int await(const struct asked *guest)) {
+    struct asked guest = {.counts = NOTHING, .end = NOTHING, .wanted = wanted};
     int status = 1;
     if (find(whom, &guest.process) && open_guest(&guest)) {
-        if (pwrite(guest.counts, &wanted, sizeof wanted, COUNTS_WANTED_AT) != (ssize_t)sizeof wanted) trouble("the guest's file");
-        else status = pauses ? await_pause(&guest) : await_resume(&guest);
+        if (pwrite(guest.counts, &wanted, sizeof wanted, (off_t)(COUNTS_WANTED_AT + at)) != (ssize_t)sizeof wanted)
+            trouble("the guest's file");
+        else status = await(&guest);
     }
     if (guest.counts >= 0) close(guest.counts);
     if (guest.end >= 0) close(guest.end);
     return fflush(stdout) != 0 ? 1 : status;
+}
+
+int pausing_ask(const char *whom, bool pauses) {
+    return ask(whom, pauses ? COUNTS_PAUSE : COUNTS_SHARE, offsetof(struct counts_wanted, sharing),
+               pauses ? await_pause : await_resume);
+}
+
+int pausing_limit(const char *whom, unsigned percent) {
+    return ask(whom, percent, offsetof(struct counts_wanted, limit), await_limit);
 }

@@ -1,4 +1,4 @@
-/* An operator switches a guest's sharing off and on while it runs: --pause and --resume. */
+/* What an operator wants of a guest's sharing while it runs: --pause, --resume and --limit. */
 #ifndef HOST_PAUSING_H
 #define HOST_PAUSING_H
 
@@ -10,6 +10,8 @@
  * guest or it can't be asked, PAUSING_LATE if that goes on still.
  */
 int pausing_ask(const char *whom, bool pauses);
+/* The same for the percentage of a processor that sharing may use there; 0: as much as without an operator's limit. */
+int pausing_limit(const char *whom, unsigned percent);
 enum { PAUSING_LATE = 3 };
 
 #endif

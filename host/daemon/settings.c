@@ -12,6 +12,7 @@ const char settings_help[] =
     "  pageshare-host --domain NAME=SOCKET [--domain NAME=SOCKET ..] [OPTIONS]     serves clients\n"
     "  pageshare-host --status SOCKET [--json | --prometheus] [--watch]            prints what a domain's clients share\n"
     "  pageshare-host --pause NAME|PID | --resume NAME|PID                         switches a guest's sharing off and on\n"
+    "  pageshare-host --limit NAME|PID=PERCENT|none                                the most of a processor that it may use\n"
     "  pageshare-host --check [--seconds N]                                        what this computer has, and a trial\n"
     "\n"
     "Of the domain named before it, or before the first one of all domains:\n"
@@ -163,6 +164,20 @@ static bool read_numbers(struct domain_settings *domain, const char *option, con
     return true;
 }
 
+/* NAME=PERCENT: a guest, and the most of a processor that its sharing may use. */
+static bool read_limit(struct settings *settings, const char *value) {
+    const char *equals = strchr(value, '=');
+    uint64_t percent = 0;
+    size_t length = equals ? (size_t)(equals - value) : 0;
+    if (length == 0 || length >= sizeof settings->guest) return wrong("limit", value, "not NAME=PERCENT, or NAME=none");
+    if (strcmp(equals, "=none") != 0 && !read_number("limit", equals + 1, 10, 1, 100, &percent)) return false;
+    memcpy(settings->guest, value, length);
+    settings->guest[length] = 0;
+    settings->percent = (unsigned)percent;
+    settings->task = TASK_LIMIT;
+    return true;
+}
+
 /* How long a trial is. (--check-member is for the trial itself: it makes this process one of those that share.) */
 static bool read_seconds(struct settings *settings, const char *option, const char *value, bool *known) {
     uint64_t number = 0;
@@ -191,6 +206,7 @@ static bool read_option(struct settings *settings, const char *option, const cha
     if (strcmp(option, "group") == 0) return read_group(value, &domain->group);
     if (strcmp(option, "user") == 0) return read_text(option, value, settings->user, sizeof settings->user);
     if (strcmp(option, "settings") == 0) return read_file(settings, value);
+    if (strcmp(option, "limit") == 0) return read_limit(settings, value);
     bool pauses = strcmp(option, "pause") == 0;
     if (pauses || strcmp(option, "resume") == 0) {
         settings->task = pauses ? TASK_PAUSE : TASK_RESUME;

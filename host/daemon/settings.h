@@ -27,7 +27,7 @@ struct domain_settings {
     bool trust_peers;         /* takes clients that are root or of the host's own user */
 };
 
-enum task { TASK_SERVE, TASK_STATUS, TASK_CHECK, TASK_MEMBER, TASK_PAUSE, TASK_RESUME, TASK_HELP, TASK_VERSION };
+enum task { TASK_SERVE, TASK_STATUS, TASK_CHECK, TASK_MEMBER, TASK_PAUSE, TASK_RESUME, TASK_LIMIT, TASK_HELP, TASK_VERSION };
 enum status_form { STATUS_TABLE, STATUS_JSON, STATUS_PROMETHEUS };
 
 struct settings {
@@ -37,7 +37,8 @@ struct settings {
     size_t domain_count;
     char user[NAME_MOST]; /* the user that the host becomes after it opened /dev/userfaultfd; "": it doesn't change */
     char status[PATH_MOST];
-    char guest[NAME_MOST]; /* whose sharing is to pause or go on: its name, or the number of its process */
+    char guest[NAME_MOST]; /* whose sharing is to pause, to go on or to be limited: its name, or the number of its process */
+    unsigned percent;      /* of a processor, that it may use; 0: without a limit */
     enum status_form form;
     bool watch;
     unsigned seconds; /* of a trial */

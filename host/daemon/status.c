@@ -1,6 +1,7 @@
 #define _GNU_SOURCE
 #include "status.h"
 #include "devices.h"
+#include "mappings.h"
 #include "others.h"
 #include "trouble.h"
 #include <stdlib.h>
@@ -14,79 +15,108 @@ struct report {
     struct status_client clients[STATUS_CLIENTS_MOST];
 };
 
-/* What the reader finds out itself. */
+/* What the reader finds out itself, beside numbers. */
 static struct {
     char names[STATUS_CLIENTS_MOST][GUEST_NAME_MOST]; /* of the clients' guests */
     char whys[STATUS_CLIENTS_MOST][COUNTS_WHY_MOST];  /* why a client lends nothing, as it says; or empty */
     struct other others[OTHERS_MOST];                 /* processes that have the library, and are no clients */
     size_t other_count;
-    uint64_t table_bytes; /* page tables of all clients */
-    int64_t net_bytes;    /* what is left of what is reclaimed */
+    struct mappings_price price;
 } found;
+
+enum kind { GAUGE, COUNTER, SIGNED };
 
 /*
  * A number that is printed: its name in JSON and, behind "pageshare_", for Prometheus. A time is in nanoseconds, but for Prometheus in
- * seconds and by a name of its own.
+ * seconds and by a name of its own. What is a column of a table is there in MiB if its name says bytes, or in milliseconds if it is a time.
  */
 struct number {
     const char *name, *help;
-    bool is_counter;
+    enum kind kind;
     size_t at;
-    uint64_t unit;       /* what it is multiplied by */
-    const char *seconds; /* the name of a time for Prometheus; of other numbers NULL */
+    uint64_t unit;            /* what it is multiplied by */
+    const char *seconds;      /* the name of a time for Prometheus; of other numbers NULL */
+    const char *column;       /* the heading of its column, or NULL */
+    const char *const *words; /* what a column has for 0, 1 and so on, up to NULL; or NULL */
 };
-#define OF_TOTALS(NAME, MEMBER, IS_COUNTER, UNIT, HELP)                                                                          \
-    { NAME, HELP, IS_COUNTER, offsetof(struct status_totals, MEMBER), UNIT, NULL }
-#define OF_CLIENT(NAME, MEMBER, IS_COUNTER, UNIT, HELP)                                                                          \
-    { NAME, HELP, IS_COUNTER, offsetof(struct status_client, MEMBER), UNIT, NULL }
-#define TIME_OF_TOTALS(NAME, SECONDS, MEMBER, IS_COUNTER, HELP)                                                                  \
-    { NAME, HELP, IS_COUNTER, offsetof(struct status_totals, MEMBER), 1, SECONDS }
-
-#define TIME_OF_CLIENT(NAME, SECONDS, MEMBER, IS_COUNTER, HELP)                                                                  \
-    { NAME, HELP, IS_COUNTER, offsetof(struct status_client, MEMBER), 1, SECONDS }
+#define OF_TOTALS(NAME, MEMBER, KIND, UNIT, COLUMN, HELP)                                                                        \
+    { NAME, HELP, KIND, offsetof(struct status_totals, MEMBER), UNIT, NULL, COLUMN, NULL }
+#define OF_CLIENT(NAME, MEMBER, KIND, UNIT, COLUMN, HELP)                                                                        \
+    { NAME, HELP, KIND, offsetof(struct status_client, MEMBER), UNIT, NULL, COLUMN, NULL }
+#define WORDS_OF_CLIENT(NAME, MEMBER, COLUMN, WORDS, HELP)                                                                       \
+    { NAME, HELP, GAUGE, offsetof(struct status_client, MEMBER), 1, NULL, COLUMN, WORDS }
+#define TIME_OF_TOTALS(NAME, SECONDS, MEMBER, KIND, HELP)                                                                        \
+    { NAME, HELP, KIND, offsetof(struct status_totals, MEMBER), 1, SECONDS, NULL, NULL }
+#define TIME_OF_CLIENT(NAME, SECONDS, MEMBER, KIND, COLUMN, HELP)                                                                \
+    { NAME, HELP, KIND, offsetof(struct status_client, MEMBER), 1, SECONDS, COLUMN, NULL }
 
 static const struct number of_totals[] = {
-    OF_TOTALS("clients", clients, false, 1, "Processes that have lent pages or may"),
-    OF_TOTALS("lent_bytes", lent_pages, false, PAGE, "Clients' memory that frames stand for"),
-    OF_TOTALS("shared_bytes", shared_pages, false, PAGE, "Lent memory whose frame another page has too"),
-    OF_TOTALS("frame_bytes", frames, false, PAGE, "Frames in use"),
-    OF_TOTALS("reclaimed_bytes", reclaimed_pages, false, PAGE, "Lent memory less frames: what sharing gives back"),
-    OF_TOTALS("limit_bytes", frames_most, false, PAGE, "The most that frames may take"),
-    OF_TOTALS("file_bytes", frame_bytes, false, 1, "Memory of the file of frames"),
-    OF_TOTALS("free_bytes", free_bytes, false, 1, "The part of it that belongs to no frame in use"),
-    OF_TOTALS("host_bytes", host_bytes, false, 1, "Memory of the host process itself"),
-    OF_TOTALS("messages_total", messages, true, 1, "Messages taken"),
-    OF_TOTALS("asked_pages_total", pages_asked, true, 1, "Pages that clients asked about"),
-    OF_TOTALS("lent_pages_total", lends, true, 1, "Pages that were lent"),
-    OF_TOTALS("released_pages_total", releases, true, 1, "Pages that were released"),
-    OF_TOTALS("refused_pages_total", refused, true, 1, "Pages for which there was no slot or no frame"),
-    OF_TOTALS("faults_total", faults, true, 1, "Clients that sent what is no message"),
-    OF_TOTALS("turned_away_total", turned_away, true, 1, "Connections that were not taken"),
-    TIME_OF_TOTALS("processor_nanoseconds_total", "processor_seconds_total", machine_ns, true,
+    OF_TOTALS("clients", clients, GAUGE, 1, NULL, "Processes that have lent pages or may"),
+    OF_TOTALS("lent_bytes", lent_pages, GAUGE, PAGE, "lent MiB", "Clients' memory that frames stand for"),
+    OF_TOTALS("shared_bytes", shared_pages, GAUGE, PAGE, "shared", "Lent memory whose frame another page has too"),
+    OF_TOTALS("frame_bytes", frames, GAUGE, PAGE, "frames", "Frames in use"),
+    OF_TOTALS("reclaimed_bytes", reclaimed_pages, GAUGE, PAGE, "reclaimed", "Lent memory less frames: what sharing gives back"),
+    OF_TOTALS("zero_bytes", zero_bytes, GAUGE, 1, "zeros", "Clients' pages of zeros that were given back, as they say"),
+    OF_TOTALS("limit_bytes", frames_most, GAUGE, PAGE, "frames most", "The most that frames may take"),
+    OF_TOTALS("lent_limit_bytes", lent_most, GAUGE, PAGE, "lent most", "The most that may be lent at a time"),
+    OF_TOTALS("file_bytes", frame_bytes, GAUGE, 1, NULL, "Memory of the file of frames"),
+    OF_TOTALS("free_bytes", free_bytes, GAUGE, 1, NULL, "The part of it that belongs to no frame in use"),
+    OF_TOTALS("host_bytes", host_bytes, GAUGE, 1, NULL, "Memory of the host process itself"),
+    OF_TOTALS("table_bytes", table_bytes, GAUGE, 1, NULL, "Page tables of clients"),
+    OF_TOTALS("mapping_bytes", mapping_bytes, GAUGE, 1, NULL, "What the kernel takes for mappings of clients' windows"),
+    OF_TOTALS("library_bytes", library_bytes, GAUGE, 1, NULL, "What the library's tables take in clients, as they say"),
+    OF_TOTALS("net_bytes", net_bytes, SIGNED, 1, NULL, "Reclaimed memory and zeros, less all that sharing takes"),
+    OF_TOTALS("messages_total", messages, COUNTER, 1, NULL, "Messages taken"),
+    OF_TOTALS("asked_pages_total", pages_asked, COUNTER, 1, NULL, "Pages that clients asked about"),
+    OF_TOTALS("lent_pages_total", lends, COUNTER, 1, NULL, "Pages that were lent"),
+    OF_TOTALS("released_pages_total", releases, COUNTER, 1, NULL, "Pages that were released"),
+    OF_TOTALS("refused_pages_total", refused, COUNTER, 1, NULL, "Pages for which there was no slot or no frame"),
+    OF_TOTALS("refused_by_lent_pages_total", refused_by_lent, COUNTER, 1, NULL,
+              "Those of them that came while as much was lent as may be"),
+    OF_TOTALS("faults_total", faults, COUNTER, 1, NULL, "Clients that sent what is no message"),
+    OF_TOTALS("turned_away_total", turned_away, COUNTER, 1, NULL, "Connections that were not taken"),
+    TIME_OF_TOTALS("processor_nanoseconds_total", "processor_seconds_total", machine_ns, COUNTER,
                    "Processor time of the domain's threads"),
-    TIME_OF_TOTALS("uptime_nanoseconds", "uptime_seconds", uptime_ns, false, "How long the domain has been served"),
+    TIME_OF_TOTALS("uptime_nanoseconds", "uptime_seconds", uptime_ns, GAUGE, "How long the domain has been served"),
 };
+static const char *const no_or_yes[] = {"no", "yes", NULL}, *const scans_or_filter[] = {"scans", "filter", NULL};
+static const char *const words_of_devices[] = {
+    [DEVICES_NONE] = "none",     [DEVICES_READ] = "seen",        [DEVICES_PIN_PAGES] = "unseen",
+    [DEVICES_WRITE_ALL] = "all", [STATUS_DEVICES_UNKNOWN] = "?", NULL};
+/* (the numbers from the first of `counts` on are a table of their own) */
 static const struct number of_client[] = {
-    OF_CLIENT("pid", pid, false, 1, "Process"),
-    OF_CLIENT("uid", uid, false, 1, "User"),
-    OF_CLIENT("connected", connected, false, 1, "1 where the client is connected"),
-    OF_CLIENT("client_lent_bytes", lent_pages, false, PAGE, "Memory that the client has lent"),
-    OF_CLIENT("client_messages_total", messages, true, 1, "Messages taken of the client"),
-    OF_CLIENT("client_lent_pages_total", lends, true, 1, "Pages that the client has lent"),
-    OF_CLIENT("client_table_bytes", table_bytes, false, 1, "Page tables of the client"),
-    TIME_OF_CLIENT("client_processor_nanoseconds_total", "client_processor_seconds_total", looks_ns, true,
+    OF_CLIENT("pid", pid, GAUGE, 1, "process", "Process"),
+    OF_CLIENT("uid", uid, GAUGE, 1, "user", "User"),
+    WORDS_OF_CLIENT("connected", connected, "connected", no_or_yes, "1 where the client is connected"),
+    OF_CLIENT("client_lent_bytes", lent_pages, GAUGE, PAGE, "lent MiB", "Memory that the client has lent"),
+    OF_CLIENT("client_zero_bytes", zero_bytes, GAUGE, 1, "zeros", "Pages of zeros that were given back, as the client says"),
+    OF_CLIENT("client_table_bytes", table_bytes, GAUGE, 1, "page tables", "Page tables of the client"),
+    OF_CLIENT("client_mapping_bytes", mapping_bytes, GAUGE, 1, NULL,
+              "What the kernel takes for mappings of the client's windows"),
+    OF_CLIENT("client_library_bytes", library_bytes, GAUGE, 1, NULL, "What the library's tables take, as the client says"),
+    OF_CLIENT("client_messages_total", messages, COUNTER, 1, "messages", "Messages taken of the client"),
+    OF_CLIENT("client_lent_pages_total", lends, COUNTER, 1, NULL, "Pages that the client has lent"),
+    TIME_OF_CLIENT("client_processor_nanoseconds_total", "client_processor_seconds_total", looks_ns, COUNTER, NULL,
                    "Processor time of the library's thread in the client"),
-    OF_CLIENT("client_mappings", counts.mappings, false, 1, "Mappings that the client's windows take, as it says"),
-    OF_CLIENT("client_mappings_limit", counts.mappings_most, false, 1, "Mappings that they may take, as it says"),
-    OF_CLIENT("client_parts_whole", counts.parts_whole, false, 1, "Parts of 2 MiB of which nothing is lent, as it says"),
-    OF_CLIENT("client_parts_huge", counts.parts_huge, false, 1, "Of these, the ones that are a huge page, as it says"),
-    OF_CLIENT("client_parts_split", counts.parts_split, false, 1, "Parts of 2 MiB whose pages may be lent, as it says"),
-    TIME_OF_CLIENT("client_look_nanoseconds", "client_look_seconds", counts.round_ns, false,
+    WORDS_OF_CLIENT("client_devices", devices, "devices", words_of_devices,
+                    "0: none that pins pages, 1: seen calls, 2: unseen ones, 3: all, 4: unknown"),
+    OF_CLIENT("client_mappings", counts.mappings, GAUGE, 1, "mappings", "Mappings that the client's windows take, as it says"),
+    OF_CLIENT("client_mappings_limit", counts.mappings_most, GAUGE, 1, "at most", "Mappings that they may take, as it says"),
+    OF_CLIENT("client_parts_whole", counts.parts_whole, GAUGE, 1, "parts whole",
+              "Parts of 2 MiB of which nothing is lent, as it says"),
+    OF_CLIENT("client_parts_huge", counts.parts_huge, GAUGE, 1, "of them huge",
+              "Of these, the ones that are a huge page, as it says"),
+    OF_CLIENT("client_parts_split", counts.parts_split, GAUGE, 1, "parts split",
+              "Parts of 2 MiB whose pages may be lent, as it says"),
+    TIME_OF_CLIENT("client_look_nanoseconds", "client_look_seconds", counts.round_ns, GAUGE, "a look, ms",
                    "How long the client's last look took, as it says"),
-    OF_CLIENT("client_filtered", counts.is_filtered, false, 1, "1 where a filter shows the library system calls, as it says"),
-    OF_CLIENT("client_pause", counts.state, false, 1,
+    WORDS_OF_CLIENT("client_filtered", counts.is_filtered, "found by", scans_or_filter,
+                    "1 where a filter shows the library system calls, as it says"),
+    OF_CLIENT("client_cpu_percent", counts.percent, GAUGE, 1, "CPU %",
+              "Percent of one processor that the library's thread may use, as the client says"),
+    OF_CLIENT("client_cpu_limit_percent", counts.limit, GAUGE, 1, NULL, "The same as an operator limits it, as it says, or 0"),
+    OF_CLIENT("client_pause", counts.state, GAUGE, 1, NULL,
               "0: it shares, 1: --pause begins, 2: waits for memory, 3, 4: paused, as it says"),
-    OF_CLIENT("client_devices", devices, false, 1, "0: none that pins pages, 1: seen calls, 2: unseen ones, 3: all, 4: unknown"),
 };
 enum { TOTALS_COUNT = sizeof of_totals / sizeof *of_totals, CLIENT_COUNT = sizeof of_client / sizeof *of_client, LABELS = 3 };
 
@@ -126,7 +156,7 @@ static bool receive(const char *socket_path, struct report *report) {
     return false;
 }
 
-static double mib(uint64_t pages) { return (double)pages * PAGE / (1 << 20); }
+static double mib(uint64_t bytes) { return (double)bytes / (1 << 20); }
 
 static bool is_client(const void *of, uint64_t process) {
     const struct report *report = of;
@@ -135,54 +165,94 @@ static bool is_client(const void *of, uint64_t process) {
     return false;
 }
 
-/* Why a client has lent nothing: an operator's pause, or what it says itself. */
+/* Why a client has lent nothing: an operator's pause, what it says itself, or that it has nothing to lend. */
 static void find_why(const struct status_client *client, char why[COUNTS_WHY_MOST]) {
-    bool is_paused = client->counts.state == COUNTS_PAUSED || client->counts.state == COUNTS_STAYS;
+    const struct counts *counts = &client->counts;
+    bool is_paused = counts->state == COUNTS_PAUSED || counts->state == COUNTS_STAYS;
     if (client->lent_pages > 0) *why = 0;
     else if (is_paused) snprintf(why, COUNTS_WHY_MOST, "an operator has paused it (--resume)");
+    else if (!*why && counts->version != 0 && counts->pages == 0)
+        snprintf(why, COUNTS_WHY_MOST, "none of its memory is offered now");
+}
+
+static uint64_t least(uint64_t one, uint64_t other) { return one < other ? one : other; }
+
+/* What sharing takes in a client, and its zeros: as it says, but no more than the kernel lets it have. */
+static void find_memory(struct status_client *client) {
+    const struct naming_memory memory = naming_memory_of(client->pid);
+    const struct counts *counts = &client->counts;
+    client->table_bytes = memory.tables;
+    client->mapping_bytes = least(counts->mappings, found.price.most) * found.price.bytes;
+    client->library_bytes = least(counts->library_bytes, memory.resident);
+    uint64_t absent = memory.size > memory.resident ? memory.size - memory.resident : 0;
+    client->zero_bytes = least(counts->zeros, absent / PAGE) * PAGE;
+}
+
+/* Adds a client to the totals that the reader finds. */
+static void add(struct status_totals *totals, const struct status_client *client) {
+    totals->zero_bytes += client->zero_bytes;
+    totals->table_bytes += client->table_bytes;
+    totals->mapping_bytes += client->mapping_bytes;
+    totals->library_bytes += client->library_bytes;
 }
 
 /* Finds what can be seen of clients' processes: what devices may do to their memory, their guests' names, and what they take. */
 static void find(struct report *report) {
-    const struct status_totals *totals = &report->totals;
-    found.table_bytes = 0;
+    struct status_totals *totals = &report->totals;
+    found.price = mappings_price_of();
     for (size_t i = 0; i < totals->listed; i++) {
         struct status_client *client = &report->clients[i];
         enum devices devices;
         client->devices = devices_of_process(client->pid, &devices) ? (uint64_t)devices : STATUS_DEVICES_UNKNOWN;
-        client->table_bytes = naming_tables_of(client->pid);
         client->looks_ns = naming_processor_of(client->pid);
         naming_counts_of(client->pid, &client->counts, found.whys[i]);
         find_why(client, found.whys[i]);
         naming_of_guest(client->pid, found.names[i]);
-        found.table_bytes += client->table_bytes;
+        find_memory(client);
+        add(totals, client);
     }
-    found.net_bytes = (int64_t)(totals->reclaimed_pages * PAGE) - (int64_t)totals->host_bytes - (int64_t)found.table_bytes;
+    uint64_t taken =
+        totals->free_bytes + totals->host_bytes + totals->table_bytes + totals->mapping_bytes + totals->library_bytes;
+    totals->net_bytes = (int64_t)(totals->reclaimed_pages * PAGE + totals->zero_bytes) - (int64_t)taken;
 }
 
-/* How the library finds out what devices may do, as the client says. */
-static const char *way_of(const struct counts *counts) {
-    return counts->version == 0 ? "?" : counts->is_filtered ? "filter" : "scans";
+/* Whether a number of a client is one that it says itself, by its counts. */
+static bool is_said(const struct number *number) { return number->at >= offsetof(struct status_client, counts); }
+
+static void show_headings(const struct number *numbers, size_t count) {
+    for (const struct number *it = numbers; it < numbers + count; it++)
+        if (it->column) printf(" %12s", it->column);
+}
+
+static void show_cell(const struct number *number, uint64_t value) {
+    const char *const *word = number->words;
+    for (uint64_t i = 0; word && *word && i < value; i++) word++;
+    if (word) printf(" %12s", *word ? *word : "?");
+    else if (strstr(number->name, "_bytes")) printf(" %12.1f", mib(value));
+    else printf(" %12llu", (unsigned long long)(number->seconds ? value / 1000000 : value));
+}
+
+static void show_cells(const struct number *numbers, size_t count, const void *record) {
+    for (const struct number *it = numbers; it < numbers + count; it++)
+        if (it->column) show_cell(it, value_of(it, record));
+}
+
+/* How many of a client's numbers it doesn't say itself: they come first. */
+static size_t seen_count(void) {
+    size_t count = 0;
+    while (count < CLIENT_COUNT && !is_said(&of_client[count])) count++;
+    return count;
 }
 
 /* The clients of a table, and what to do about some. */
 static void show_clients(const struct report *report) {
-    static const char *const words[] = {[DEVICES_NONE] = "none",
-                                        [DEVICES_READ] = "seen",
-                                        [DEVICES_PIN_PAGES] = "unseen",
-                                        [DEVICES_WRITE_ALL] = "all",
-                                        [STATUS_DEVICES_UNKNOWN] = "?"};
+    const size_t count = seen_count();
     bool any_unseen = false;
-    if (report->totals.listed)
-        printf("%12s %12s %12s %12s %12s %12s %12s %12s  %s\n", "process", "user", "lent MiB", "page tables", "messages",
-               "devices", "found by", "connected", "guest");
+    if (report->totals.listed) show_headings(of_client, count), puts("  guest");
     for (size_t i = 0; i < report->totals.listed; i++) {
-        const struct status_client *client = &report->clients[i];
-        any_unseen = any_unseen || client->devices == DEVICES_PIN_PAGES;
-        printf("%12llu %12llu %12.1f %12.1f %12llu %12s %12s %12s  %s\n", (unsigned long long)client->pid,
-               (unsigned long long)client->uid, mib(client->lent_pages), (double)client->table_bytes / (1 << 20),
-               (unsigned long long)client->messages, words[client->devices], way_of(&client->counts),
-               client->connected ? "yes" : "no", *found.names[i] ? found.names[i] : "-");
+        any_unseen = any_unseen || report->clients[i].devices == DEVICES_PIN_PAGES;
+        show_cells(of_client, count, &report->clients[i]);
+        printf("  %s\n", *found.names[i] ? found.names[i] : "-");
     }
     if (any_unseen)
         puts("unseen: pages that were shared and written stay private, since a device may have pinned them; use aio=threads");
@@ -190,9 +260,9 @@ static void show_clients(const struct report *report) {
 
 /* A process that shares nothing. */
 static void show_idle(bool *is_first, uint64_t process, uint64_t user, const char *name, const char *why) {
-    if (*is_first) printf("%12s %12s  %s\n", "process", "user", "shares nothing");
+    if (*is_first) printf(" %12s %12s  %s\n", "process", "user", "shares nothing");
     *is_first = false;
-    printf("%12llu %12llu  %s: %s\n", (unsigned long long)process, (unsigned long long)user, *name ? name : "-", why);
+    printf(" %12llu %12llu  %s: %s\n", (unsigned long long)process, (unsigned long long)user, *name ? name : "-", why);
 }
 
 /* The processes of a table that share nothing, for all that is known, each with the cause. */
@@ -206,21 +276,31 @@ static void show_idles(const struct report *report) {
 
 /* What the clients of a table say of their windows. */
 static void show_windows(const struct report *report) {
+    const size_t first = seen_count();
     bool is_first = true;
     for (size_t i = 0; i < report->totals.listed; i++) {
         const struct status_client *client = &report->clients[i];
-        const struct counts *counts = &client->counts;
-        if (counts->version == 0) continue;
-        if (is_first)
-            printf("%12s %12s %12s %12s %12s %12s %12s %12s\n", "process", "parts whole", "of them huge", "parts split",
-                   "mappings", "at most", "pages of one", "a look, ms");
+        if (client->counts.version == 0) continue;
+        if (is_first) show_headings(of_client, 1), show_headings(of_client + first, CLIENT_COUNT - first), puts(" pages of one");
         is_first = false;
-        printf("%12llu %12llu %12llu %12llu %12llu %12llu %12.1f %12llu\n", (unsigned long long)client->pid,
-               (unsigned long long)counts->parts_whole, (unsigned long long)counts->parts_huge,
-               (unsigned long long)counts->parts_split, (unsigned long long)counts->mappings,
-               (unsigned long long)counts->mappings_most, (double)client->lent_pages / (double)(counts->mappings + 1),
-               (unsigned long long)(counts->round_ns / 1000000));
+        show_cells(of_client, 1, client);
+        show_cells(of_client + first, CLIENT_COUNT - first, client);
+        printf(" %12.1f\n", (double)client->lent_pages / ((double)client->counts.mappings + 1));
     }
+}
+
+/* What is gained in all, and what was subtracted. */
+static void show_gain(const struct status_totals *totals) {
+    printf(
+        "file of frames %.1f MiB, %.1f of it free; host %.1f MiB; pages lent %llu, released %llu, refused %llu (%llu by --lent); "
+        "faults %llu, turned away %llu\n",
+        mib(totals->frame_bytes), mib(totals->free_bytes), mib(totals->host_bytes), (unsigned long long)totals->lends,
+        (unsigned long long)totals->releases, (unsigned long long)totals->refused, (unsigned long long)totals->refused_by_lent,
+        (unsigned long long)totals->faults, (unsigned long long)totals->turned_away);
+    printf("net gain %.1f MiB: reclaimed and zeros, less free frames, host, page tables %.1f, mappings %.1f (%llu bytes each%s), "
+           "library %.1f\n",
+           (double)totals->net_bytes / (1 << 20), mib(totals->table_bytes), mib(totals->mapping_bytes),
+           (unsigned long long)found.price.bytes, found.price.is_read ? "" : ", as with Linux 6.18", mib(totals->library_bytes));
 }
 
 static void show_table(const struct report *report) {
@@ -228,16 +308,11 @@ static void show_table(const struct report *report) {
     printf("domain %s: %llu clients, up %llu s, %.1f %% of one processor since\n", totals->domain,
            (unsigned long long)totals->clients, (unsigned long long)(totals->uptime_ns / 1000000000u),
            100.0 * (double)totals->machine_ns / (double)(totals->uptime_ns + 1));
-    printf("%12s %12s %12s %12s %12s\n", "lent MiB", "shared", "frames", "reclaimed", "frames most");
-    printf("%12.1f %12.1f %12.1f %12.1f %12.1f\n", mib(totals->lent_pages), mib(totals->shared_pages), mib(totals->frames),
-           mib(totals->reclaimed_pages), mib(totals->frames_most));
-    printf("file of frames %.1f MiB, %.1f of it free; host %.1f MiB; pages lent %llu, released %llu, refused %llu; faults %llu, "
-           "turned away %llu\n",
-           (double)totals->frame_bytes / (1 << 20), (double)totals->free_bytes / (1 << 20),
-           (double)totals->host_bytes / (1 << 20), (unsigned long long)totals->lends, (unsigned long long)totals->releases,
-           (unsigned long long)totals->refused, (unsigned long long)totals->faults, (unsigned long long)totals->turned_away);
-    printf("net gain %.1f MiB: reclaimed less the host and %.1f MiB of clients' page tables\n",
-           (double)found.net_bytes / (1 << 20), (double)found.table_bytes / (1 << 20));
+    show_headings(of_totals, TOTALS_COUNT);
+    puts("");
+    show_cells(of_totals, TOTALS_COUNT, totals);
+    puts("");
+    show_gain(totals);
     show_clients(report);
     show_windows(report);
     show_idles(report);
@@ -245,16 +320,21 @@ static void show_table(const struct report *report) {
         printf("%12s and %llu more\n", "", (unsigned long long)(totals->clients - totals->listed));
 }
 
+/* Numbers of a record as members of an object, of which others come before. */
+static void show_members(const struct number *numbers, size_t count, const void *record) {
+    for (const struct number *it = numbers; it < numbers + count; it++) {
+        uint64_t value = value_of(it, record);
+        printf(it->kind == SIGNED ? ",\"%s\":%lld" : ",\"%s\":%llu", it->name, (unsigned long long)value);
+    }
+}
+
 static void show_json(const struct report *report) {
     printf("{\"domain\":\"%s\"", report->totals.domain); /* (a name has no character that JSON escapes) */
-    for (size_t i = 0; i < TOTALS_COUNT; i++)
-        printf(",\"%s\":%llu", of_totals[i].name, (unsigned long long)value_of(&of_totals[i], &report->totals));
-    printf(",\"table_bytes\":%llu,\"net_bytes\":%lld,\"processes\":[", (unsigned long long)found.table_bytes,
-           (long long)found.net_bytes);
+    show_members(of_totals, TOTALS_COUNT, &report->totals);
+    printf(",\"processes\":[");
     for (size_t c = 0; c < report->totals.listed; c++) {
         printf("%s{\"guest\":\"%s\",\"why\":\"%s\"", c ? "," : "", found.names[c], found.whys[c]); /* (nor have these) */
-        for (size_t i = 0; i < CLIENT_COUNT; i++)
-            printf(",\"%s\":%llu", of_client[i].name, (unsigned long long)value_of(&of_client[i], &report->clients[c]));
+        show_members(of_client, CLIENT_COUNT, &report->clients[c]);
         printf("}");
     }
     printf("],\"others\":[");
@@ -266,33 +346,28 @@ static void show_json(const struct report *report) {
 
 static const char *name_of(const struct number *number) { return number->seconds ? number->seconds : number->name; }
 
-static void show_head(const char *name, const char *help, bool is_counter) {
-    printf("# HELP pageshare_%s %s\n# TYPE pageshare_%s %s\n", name, help, name, is_counter ? "counter" : "gauge");
+static void show_head(const char *name, const struct number *number) {
+    printf("# HELP pageshare_%s %s\n# TYPE pageshare_%s %s\n", name, number->help, name,
+           number->kind == COUNTER ? "counter" : "gauge");
 }
 
 /* The value of a number for Prometheus, at the end of its line. */
 static void show_value(const struct number *number, unsigned long long value) {
     enum { NS_OF_SECOND = 1000000000 };
     if (number->seconds) printf("%llu.%09llu\n", value / NS_OF_SECOND, value % NS_OF_SECOND);
-    else printf("%llu\n", value);
+    else printf(number->kind == SIGNED ? "%lld\n" : "%llu\n", value);
 }
 
 /* A number of a domain for Prometheus. */
 static void show_metric(const struct number *number, const struct report *report) {
-    show_head(name_of(number), number->help, number->is_counter);
+    show_head(name_of(number), number);
     printf("pageshare_%s{domain=\"%s\"} ", name_of(number), report->totals.domain);
     show_value(number, value_of(number, &report->totals));
 }
 
-/* A number that the reader has found. */
-static void show_found(const char *name, const char *help, const char *domain, int64_t value) {
-    show_head(name, help, false);
-    printf("pageshare_%s{domain=\"%s\"} %lld\n", name, domain, (long long)value);
-}
-
 /* A number of each client, by this name. */
 static void show_of_clients(const struct number *number, const char *name, const struct report *report) {
-    show_head(name, number->help, number->is_counter);
+    show_head(name, number);
     for (size_t c = 0; c < report->totals.listed; c++) {
         printf("pageshare_%s{domain=\"%s\",pid=\"%llu\",uid=\"%llu\",guest=\"%s\"} ", name, report->totals.domain,
                (unsigned long long)report->clients[c].pid, (unsigned long long)report->clients[c].uid, found.names[c]);
@@ -301,10 +376,7 @@ static void show_of_clients(const struct number *number, const char *name, const
 }
 
 static void show_prometheus(const struct report *report) {
-    const char *domain = report->totals.domain;
     for (size_t i = 0; i < TOTALS_COUNT; i++) show_metric(&of_totals[i], report);
-    show_found("table_bytes", "Page tables of clients", domain, (int64_t)found.table_bytes);
-    show_found("net_bytes", "Reclaimed memory less that of the host and of clients' page tables", domain, found.net_bytes);
     for (size_t i = LABELS - 1; i < CLIENT_COUNT; i++)
         show_of_clients(&of_client[i], i < LABELS ? "client_connected" : name_of(&of_client[i]), report);
 }
@@ -312,10 +384,10 @@ static void show_prometheus(const struct report *report) {
 /* A line for one second, if a table is watched that goes to no terminal. */
 static void show_line(const struct report *report, bool is_first) {
     const struct status_totals *totals = &report->totals;
-    if (is_first) printf("%8s %8s %12s %12s %12s %12s\n", "seconds", "clients", "lent MiB", "shared", "frames", "reclaimed");
-    printf("%8llu %8llu %12.1f %12.1f %12.1f %12.1f\n", (unsigned long long)(totals->uptime_ns / 1000000000u),
-           (unsigned long long)totals->clients, mib(totals->lent_pages), mib(totals->shared_pages), mib(totals->frames),
-           mib(totals->reclaimed_pages));
+    if (is_first) printf("%8s %8s", "seconds", "clients"), show_headings(of_totals, TOTALS_COUNT), puts("     net gain");
+    printf("%8llu %8llu", (unsigned long long)(totals->uptime_ns / 1000000000u), (unsigned long long)totals->clients);
+    show_cells(of_totals, TOTALS_COUNT, totals);
+    printf(" %12.1f\n", (double)totals->net_bytes / (1 << 20));
 }
 
 bool status_totals_of(const char *socket_path, struct status_totals *totals) {

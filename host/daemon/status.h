@@ -12,7 +12,7 @@
 #include "settings.h"
 
 #define STATUS_SUFFIX ".status"
-enum { STATUS_VERSION = 6, STATUS_CLIENTS_MOST = 1024, STATUS_DEVICES_UNKNOWN = 4 };
+enum { STATUS_VERSION = 7, STATUS_CLIENTS_MOST = 1024, STATUS_DEVICES_UNKNOWN = 4 };
 
 struct status_totals {
     uint64_t version;
@@ -22,6 +22,7 @@ struct status_totals {
     uint64_t lent_pages;      /* slots in use */
     uint64_t frames;          /* frames in use */
     uint64_t frames_most;     /* frames of the domain */
+    uint64_t lent_most;       /* slots of the domain */
     uint64_t shared_pages;    /* slots whose frame another slot has too */
     uint64_t reclaimed_pages; /* slots less frames */
     uint64_t frame_bytes;     /* memory of the file of frames */
@@ -32,10 +33,14 @@ struct status_totals {
     uint64_t lends;           /* pages that were lent */
     uint64_t releases;        /* pages that were released */
     uint64_t refused;         /* pages that found no slot or no frame */
+    uint64_t refused_by_lent; /* those of them for which all slots were in use */
     uint64_t faults;          /* clients that sent what is no message */
     uint64_t turned_away;     /* connections that weren't taken: untrusted peers, or too many clients */
     uint64_t machine_ns;      /* processor time of the domain's threads */
     uint64_t uptime_ns;
+    /* What the reader finds, and not the host, which may not look there: of all clients that are listed, and what is left of the gain. */
+    uint64_t zero_bytes, table_bytes, mapping_bytes, library_bytes;
+    int64_t net_bytes;
 };
 
 struct status_client {
@@ -45,10 +50,11 @@ struct status_client {
     uint64_t messages;
     uint64_t lends;
     /* What the reader finds, and not the host, which may not look there: */
-    uint64_t devices;     /* an enum devices, or STATUS_DEVICES_UNKNOWN */
-    uint64_t table_bytes; /* page tables of the process, or 0 */
-    uint64_t looks_ns;    /* processor time of the library's thread, or 0 */
-    struct counts counts; /* what the process says of its windows, or zeros */
+    uint64_t devices;                                  /* an enum devices, or STATUS_DEVICES_UNKNOWN */
+    uint64_t table_bytes;                              /* page tables of the process, or 0 */
+    uint64_t zero_bytes, mapping_bytes, library_bytes; /* by its counts, but no more than can be */
+    uint64_t looks_ns;                                 /* processor time of the library's thread, or 0 */
+    struct counts counts;                              /* what the process says of its windows, or zeros */
 };
 
 /* Prints what the domain at `socket` reports, in the form asked for; with `watch` each second until the reader ends it. Returns the

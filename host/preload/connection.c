@@ -147,12 +147,17 @@ static enum windows_pins find_pins(void *unused) {
 
 static bool attend(void *unused);
 
-/* The thread's share of a processor, in percent: what the environment says, or the host, or the less of both. */
+/* The less of two percentages, of which 0 says nothing. */
+static unsigned less_of(unsigned one, unsigned other) { return other == 0 || (one != 0 && one < other) ? one : other; }
+
+/* The thread's share of a processor, in percent: what the environment says, or the host, or the less of both; but no more than an operator wants. */
 static unsigned share(void) {
-    unsigned said = settings.cpu_percent, granted = my.remote.client_cpu;
-    unsigned both = said < granted ? said : granted, one = said ? said : granted ? granted : CPU_PERCENT;
-    return said && granted ? both : one;
+    unsigned said = less_of(settings.cpu_percent, my.remote.client_cpu);
+    return less_of(said ? said : CPU_PERCENT, pausing_limit());
 }
+
+/* The same for what is new. */
+static unsigned burst(void) { return less_of(BURST_PERCENT, pausing_limit()); }
 
 /* Where memory is short no part of a window stays whole of which anything could be shared. */
 static struct windows_tuning tuning(void) {
@@ -167,7 +172,7 @@ static bool make_windows(void) {
                                     .find_pins = find_pins,
                                     .tuning = tuning(),
                                     .percent = share(),
-                                    .burst = BURST_PERCENT,
+                                    .burst = burst(),
                                     .attend = attend,
                                     .never_wait = settings.is_hasty,
                                     .faults = my.remote.faults_device > 0 ? my.remote.faults_device : 0,
@@ -245,7 +250,7 @@ static bool connect_host(void) {
     }
     if (my.was_reported) log_note("connected to the host at %s", settings.socket);
     my.was_reported = false;
-    if (my.windows) windows_pace(my.windows, share(), BURST_PERCENT);
+    if (my.windows) windows_pace(my.windows, share(), burst());
     else if (!make_windows()) return false;
     if (found == REMOTE_NEW || !my.is_attached) attach();
     return my.is_attached;
@@ -317,8 +322,10 @@ static void find_devices(void) {
 /* What is to be done at the beginning of a look, and each second while one lasts. */
 static void do_chores(void) {
     struct windows_counts counts;
+    const unsigned limit = pausing_limit();
     find_devices();
     pausing_heed(my.is_memory_short);
+    if (pausing_limit() != limit) windows_pace(my.windows, share(), burst());
     if (my.is_attached && my.remote.socket >= 0 && !pausing_is_on()) ranges_open(settings.flags);
     uint64_t begun_ns = now_ns(), spent_ns = clock_ns(CLOCK_THREAD_CPUTIME_ID);
     if (begun_ns < my.next_chores_ns) return;
@@ -386,7 +393,7 @@ static void write_times(const uint64_t *held, char *text, size_t room) {
 static void write_counts(const struct windows_counts *now) {
     char text[3584], held[WINDOWS_TIMES * 21];
     const struct windows_budget budget = windows_budget_of(my.windows);
-    counts_file_write(now, pausing_state());
+    counts_file_write(now, pausing_state(), share(), pausing_limit());
     if (settings.counts < 0) return;
     write_times(now->held, held, sizeof held);
     int length = snprintf(
@@ -433,7 +440,7 @@ static void turn(void) {
     connect_host();
     if (!my.windows) {
         pausing_heed(false);
-        counts_file_write(&counts, pausing_state());
+        counts_file_write(&counts, pausing_state(), share(), pausing_limit());
         return;
     }
     if (ranges_have_early()) {

@@ -16,12 +16,12 @@ void counts_file_make(void) {
     if (file < 0) return;
     /* (a reader that finds it unsealed, or of another size, leaves it alone) */
     if (ftruncate(file, COUNTS_BYTES) == 0) fcntl(file, F_ADD_SEALS, F_SEAL_SHRINK | F_SEAL_GROW | F_SEAL_SEAL);
-    counts_file_write(&(struct windows_counts){.windows = 0}, COUNTS_SHARES);
+    counts_file_write(&(struct windows_counts){.windows = 0}, COUNTS_SHARES, 0, 0);
 }
 
 void counts_file_note(const char *why) { atomic_store(&noted, why); }
 
-void counts_file_write(const struct windows_counts *now, enum counts_state state) {
+void counts_file_write(const struct windows_counts *now, enum counts_state state, unsigned percent, unsigned limit) {
     struct counts counts = {.version = COUNTS_VERSION,
                             .pages = now->pages,
                             .mappings = now->mappings,
@@ -32,7 +32,11 @@ void counts_file_write(const struct windows_counts *now, enum counts_state state
                             .round_ns = now->round_ns,
                             .is_filtered = filter_is_on(),
                             .lent = now->lent,
-                            .state = state};
+                            .state = state,
+                            .zeros = now->zeros_now,
+                            .library_bytes = now->table_bytes,
+                            .percent = percent,
+                            .limit = limit};
     const char *why = atomic_load(&noted);
     char words[COUNTS_WHY_MOST] = "";
     if (why) snprintf(words, sizeof words, "%s", why);
@@ -43,8 +47,9 @@ void counts_file_write(const struct windows_counts *now, enum counts_state state
     file = NOTHING;
 }
 
-enum counts_wanted counts_file_wanted(void) {
-    uint64_t wanted = COUNTS_SHARE;
-    bool is_read = file >= 0 && pread(file, &wanted, sizeof wanted, COUNTS_WANTED_AT) == (ssize_t)sizeof wanted;
-    return is_read && wanted == COUNTS_PAUSE ? COUNTS_PAUSE : COUNTS_SHARE;
+struct counts_wanted counts_file_wanted(void) {
+    static struct counts_wanted wanted;
+    struct counts_wanted now;
+    if (file >= 0 && pread(file, &now, sizeof now, COUNTS_WANTED_AT) == (ssize_t)sizeof now) wanted = now;
+    return wanted;
 }

@@ -11,10 +11,12 @@ static struct {
     uint64_t next_ns;
     uint8_t *at; /* pages before it have come home */
     enum counts_state state;
+    unsigned limit;
 } my;
 
 bool pausing_is_on(void) { return my.state != COUNTS_SHARES; }
 enum counts_state pausing_state(void) { return my.state; }
+unsigned pausing_limit(void) { return my.limit; }
 
 /* Brings parts home for a moment. Where the system has no memory for one, that one is tried again later. */
 static enum counts_state bring_home(void) {
@@ -38,7 +40,9 @@ void pausing_heed(bool is_memory_short) {
     uint64_t now = now_ns();
     if (now < my.next_ns) return;
     my.next_ns = now + period_ns;
-    bool pauses = counts_file_wanted() == COUNTS_PAUSE;
+    const struct counts_wanted wanted = counts_file_wanted();
+    bool pauses = wanted.sharing == COUNTS_PAUSE;
+    my.limit = wanted.limit <= COUNTS_LIMIT_MOST ? (unsigned)wanted.limit : 0;
     if (pauses != pausing_is_on()) {
         log_note(pauses ? "an operator pauses sharing: all of this process's memory becomes its own"
                         : "sharing goes on, as an operator wants");
