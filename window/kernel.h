@@ -60,7 +60,8 @@ bool pagemap_is_huge(const struct pagemap *pagemap, const void *at);
 int pagemap_are_guarded(const struct pagemap *pagemap, const void *at, size_t pages);
 /* Finds which of up to PAGEMAP_MOST pages have memory of their own that isn't swapped out. They may be guarded, but not missing. */
 int pagemap_find_copies(const struct pagemap *pagemap, const void *at, size_t pages, bool *own);
-/* Whether this page has memory of its own, asked in another way; false if that can't be known. */
+/* Finds which of up to PAGEMAP_MOST pages have memory of their own, asked in another way: none if that can't be known. */
+void pagemap_find_own(const struct pagemap *pagemap, const void *at, size_t pages, bool *own);
 bool pagemap_is_own(const struct pagemap *pagemap, const void *at);
 
 /* A memory policy of mbind. */

@@ -327,12 +327,25 @@ static bool seems_equal(const struct window *window, size_t number) {
            are_equal(address_of(window, number), windows->frames_at + bytes_of(page->frame));
 }
 
+/* How many of the first pages lie so near to each other, one behind the other, that the system is asked about all of them at once. */
+static size_t in_one_call(const uint32_t *pages, size_t count) {
+    enum { APART_MOST = 5 /* a call takes as long as so many pages more */ };
+    size_t found = 1;
+    while (found < count && pages[found] - pages[found - 1] <= APART_MOST && pages[found] - pages[0] < PART) found++;
+    return found;
+}
+
 /*
- * Whether a page is there. One that was given up since it was found is missing, and reading it would put the kernel's page of zeros there: who
- * watches for missing pages later, as QEMU does for a postcopy, couldn't put another one in its place. With the lock.
+ * Finds which of the first pages are there, and returns of how many. One that was given up since it was found is missing, and reading it would
+ * put the kernel's page of zeros there: who watches for missing pages later, as QEMU does for a postcopy, couldn't put another one in its place.
+ * With the lock, and while it is held that stays so.
  */
-static bool is_there(const struct window *window, size_t number) {
-    return is_over(&window->pages[number]) || pagemap_is_own(&window->windows->pagemap, address_of(window, number));
+static size_t find_there(const struct window *window, const uint32_t *pages, size_t most, bool *there) {
+    bool own[PART];
+    const size_t count = in_one_call(pages, most);
+    pagemap_find_own(&window->windows->pagemap, address_of(window, pages[0]), pages[count - 1] - pages[0] + 1, own);
+    for (size_t i = 0; i < count; i++) there[i] = is_over(&window->pages[pages[i]]) || own[pages[i] - pages[0]];
+    return count;
 }
 
 /* A page that was written since its bytes were copied stays private. */
@@ -368,7 +381,7 @@ static bool may_give_back(struct window *window, size_t number) {
  * Orders a page to be held, if it is equal to what it is to show. All of it may have changed since it was found idle. Otherwise its loan,
  * if it has one, is to be released. With the lock.
  */
-static bool order_hold(struct window *window, size_t number, enum wish wish) {
+static bool order_hold(struct window *window, size_t number, enum wish wish, bool is_there) {
     page_entry *page = &window->pages[number];
     const struct pageshare_window_facts facts = facts_of(window, number);
     bool is_zeros = wish == TO_BE_GIVEN_BACK;
@@ -376,7 +389,7 @@ static bool order_hold(struct window *window, size_t number, enum wish wish) {
     if (is_zeros && !pageshare_window_choose(page, part_counts(window, number), &facts, true)) return false;
     enum pageshare_window_order order = order_of(window, number);
     bool is_hold = order == (is_zeros ? PAGESHARE_WINDOW_HOLD_ZEROS : PAGESHARE_WINDOW_HOLD);
-    bool is_equal = is_hold && is_there(window, number) && seems_equal(window, number);
+    bool is_equal = is_hold && is_there && seems_equal(window, number);
     if (is_equal && !part_of(window, number)->is.whole) return true;
     if (is_hold) note_order(window, number, false);
     else pageshare_window_withdraw(page);
@@ -384,20 +397,29 @@ static bool order_hold(struct window *window, size_t number, enum wish wish) {
     return false;
 }
 
+/* How many of the first pages are in a row, and all over frames or none. With the lock. */
+static size_t in_row(const struct window *window, const uint32_t *pages, size_t count) {
+    const bool are_over = is_over(&window->pages[pages[0]]);
+    size_t found = 1;
+    while (found < count && found < HOLD_MOST && pages[found] == pages[0] + found &&
+           is_over(&window->pages[pages[found]]) == are_over)
+        found++;
+    return found;
+}
+
 /* Settles the first of some pages that are in a row. Returns how many are settled, or stay as they are. Takes the lock. */
 static size_t settle_run(struct window *window, const uint32_t *pages, size_t count, enum wish wish) {
     struct windows *windows = window->windows;
     struct hold hold = {.window = window, .first = pages[0]};
     size_t passed = 0;
+    bool there[HOLD_MOST];
     begin_turn(&windows->turn);
     lock_for_look(windows);
-    while (hold.count < HOLD_MOST && hold.count < count) {
-        size_t page = pages[hold.count];
-        if (page != hold.first + hold.count || windows->stuck_count > 0) break;
-        if (is_over(&window->pages[page]) != is_over(&window->pages[hold.first])) break;
-        passed = order_hold(window, page, wish) ? 0 : 1;
-        if (passed > 0) break;
-        hold.count++;
+    const size_t most = windows->stuck_count > 0 ? 0 : in_row(window, pages, count);
+    if (most > 0) find_there(window, pages, most, there);
+    while (hold.count < most && passed == 0) {
+        passed = order_hold(window, pages[hold.count], wish, there[hold.count]) ? 0 : 1;
+        hold.count += 1 - passed;
     }
     if (hold.count > 0) settle(&hold);
     unlock_set(windows);
@@ -523,7 +545,7 @@ bool ask_lender(struct look *look) {
 static bool copy_one(struct window *window, size_t number, unsigned char *to, uint64_t fingerprint) {
     struct part *part = part_of(window, number);
     const struct pageshare_window_facts facts = facts_of(window, number);
-    if (part->is.whole || !is_there(window, number)) return false;
+    if (part->is.whole) return false;
     if (!pageshare_window_choose(&window->pages[number], part_counts(window, number), &facts, false)) return false;
     if (order_of(window, number) != PAGESHARE_WINDOW_COPY) return false;
     copy_page(to, address_of(window, number));
@@ -539,9 +561,12 @@ bool copy_for_lender(struct look *look) {
     struct windows *windows = look->windows;
     struct batch *batch = &look->batch;
     size_t kept = 0;
+    bool there[WINDOW_BATCH];
     lock_for_look(windows);
+    for (size_t found = 0; found < batch->count;)
+        found += find_there(look->window, batch->pages + found, batch->count - found, there + found);
     for (size_t i = 0; i < batch->count; i++)
-        if (copy_one(look->window, batch->pages[i], windows->lender.pages[kept], batch->fingerprints[i]))
+        if (there[i] && copy_one(look->window, batch->pages[i], windows->lender.pages[kept], batch->fingerprints[i]))
             batch->pages[kept++] = batch->pages[i];
     unlock_set(windows);
     batch->count = kept;
