@@ -541,16 +541,24 @@ bool ask_lender(struct look *look) {
     return cause == 0 && batch->count > 0;
 }
 
+/*
+ * Whether a copy is of the page that a look found. Of one that was read at the last looks a glance tells: what that misses costs a loan at most,
+ * since the host compares whole pages, and so does the thread before it maps a frame. (Of a page over a frame no glance is kept.)
+ */
+static bool is_as_found(const struct window *window, const page_entry *found, const unsigned char *copy, uint64_t fingerprint) {
+    if (is_over(found) || is_asked_again(found)) return fingerprint_of(window->windows->lender.salt, copy) == fingerprint;
+    return kept_of(found) == fingerprint && glance_at(fingerprint, copy) == clue_in(found);
+}
+
 /* Copies a page to a place in the lender's buffer, with nothing guarded. Returns whether a loan of that is to be asked for. With the lock. */
 static bool copy_one(struct window *window, size_t number, unsigned char *to, uint64_t fingerprint) {
-    struct part *part = part_of(window, number);
+    const page_entry found = window->pages[number];
     const struct pageshare_window_facts facts = facts_of(window, number);
-    if (part->is.whole) return false;
+    if (part_of(window, number)->is.whole) return false;
     if (!pageshare_window_choose(&window->pages[number], part_counts(window, number), &facts, false)) return false;
     if (order_of(window, number) != PAGESHARE_WINDOW_COPY) return false;
     copy_page(to, address_of(window, number));
-    /* (its fingerprint may be that of an earlier look) */
-    bool is_same_page = fingerprint_of(window->windows->lender.salt, to) == fingerprint;
+    bool is_same_page = is_as_found(window, &found, to, fingerprint);
     note_order(window, number, is_same_page && !is_zero(to));
     if (!is_same_page) note_changed(window, number);
     return is_same_page && order_of(window, number) == PAGESHARE_WINDOW_LEND;
