@@ -18,7 +18,7 @@ struct hold {
     size_t left;       /* how many of them are held still */
     bool moves;        /* they are taken out of their place; otherwise writes are guarded */
     size_t scratch;    /* where they are then, in the scratch area */
-    bool any_file;     /* a frame was mapped */
+    bool any_copies;   /* a copy of a frame's mapping was put in a page's place */
     bool any_remapped; /* other memory than the scratch area's is at a place since */
     int stuck_cause;   /* what the system refused to let pages go with, or 0 */
     bool held[HOLD_MOST];
@@ -179,7 +179,7 @@ static struct came map(struct hold *hold, const struct pageshare_window_row_orde
         return (struct came){.refused = todo->count};
     }
     for (size_t i = todo->first; i < todo->first + todo->count && is_frame; i++) trace_map(windows->trace, number_of(hold, i));
-    hold->any_file = hold->any_file || is_frame;
+    hold->any_copies = hold->any_copies || is_frame;
     memset(hold->zeros + todo->first, !is_frame, todo->count);
     windows->counts.lends += is_frame ? todo->count : 0;
     /* (if nobody is woken here the end of the watch does it; a page that was taken out is given back only then) */
@@ -277,17 +277,6 @@ int free_stuck(struct windows *windows) {
     return any_remapped ? make_scratch(windows) : clear_scratch(windows);
 }
 
-/* No child of a fork may have frames that were mapped: it would go on showing them when they are released. */
-static void keep_from_children(const struct hold *hold) {
-    struct windows *windows = hold->window->windows;
-    int cause = advice_say(address_of(hold->window, hold->first), hold->count, MADV_DONTFORK);
-    if (cause == 0) return;
-    windows->advice_cause = cause;
-    const struct pageshare_window_facts why = {.inherited = true};
-    struct window_result result = take_home_for(hold->window, hold->first, hold->count, why);
-    if (result.status != WINDOW_OK) note_failure(windows, result.status, result.cause);
-}
-
 /* Zeros that were mapped may count as a mapping by themselves. */
 static void note_zeros(const struct hold *hold) {
     for (size_t i = 0, count = 1; i < hold->count; i += count, count = 1) {
@@ -310,8 +299,7 @@ static void settle(struct hold *hold) {
     show_zeros(hold);
     for (size_t i = 0; i < hold->count; i++)
         pageshare_window_held(page_of(hold, i), part_counts(hold->window, hold->first + i), hold->held[i]);
-    if (hold->any_file) say_again(hold->window, hold->first, hold->count, true);
-    if (hold->any_file) keep_from_children(hold);
+    if (hold->any_copies) say_again(hold->window, hold->first, hold->count, true, true);
     windows->counts.map_ns += clock_spent_ns() - spent;
 }
 

@@ -301,14 +301,17 @@ bool has_room_for_zeros(const struct window *window, size_t first, size_t count)
 bool is_cleared(const struct window *window, size_t page);
 void note_cleared(struct window *window, size_t first, size_t count, bool are_cleared);
 
-/* Maps frames in a row in place of pages, or zeros, with this protection. Returns 0 or an errno, and then nothing has changed. */
+/*
+ * Maps frames in a row in place of pages, or zeros, with this protection. Returns 0 or an errno, and then nothing has changed. What was said of
+ * the window is said of them, but for copies of a frame's mapping, which no child has: say_again does that for many of them at once.
+ */
 int map_pages(struct window *window, size_t first, size_t count, uint32_t frame, int protection);
 
 /*
- * Says of pages that were mapped anew what was said of the window; frames are among them, or only memory of their own. Returns
- * false if the system refuses, which the next look reports. With the lock.
+ * Says of pages that were mapped anew what was said of the window, but for what they have of the windows' own frames or zeros if they are copies
+ * of these; frames are among them, or only memory of their own. Returns false if the system refuses, which the next look reports. With the lock.
  */
-bool say_again(struct window *window, size_t first, size_t count, bool is_file);
+bool say_again(struct window *window, size_t first, size_t count, bool is_file, bool are_copies);
 
 /* Ends the watch over pages, and wakes threads that wait. Returns 0, or an errno: then the pages are among the stuck ones. With the lock. */
 int let_waiters_go(struct window *window, size_t first, size_t count);
