@@ -288,7 +288,6 @@ static void note_zeros(const struct hold *hold) {
 /* Shows frames, or zeros, in place of pages in a row, where a page is equal to what is to be shown. With the lock. */
 static void settle(struct hold *hold) {
     struct windows *windows = hold->window->windows;
-    uint64_t spent = clock_spent_ns();
     take(hold);
     carry_out(hold);
     if (hold->stuck_cause != 0) note_failure(windows, WINDOW_STUCK, hold->stuck_cause);
@@ -300,7 +299,6 @@ static void settle(struct hold *hold) {
     for (size_t i = 0; i < hold->count; i++)
         pageshare_window_held(page_of(hold, i), part_counts(hold->window, hold->first + i), hold->held[i]);
     if (hold->any_copies) say_again(hold->window, hold->first, hold->count, true, true);
-    windows->counts.map_ns += clock_spent_ns() - spent;
 }
 
 /*
@@ -342,8 +340,9 @@ static void note_changed(struct window *window, size_t number) {
     forget_content(window, number);
 }
 
-void begin_turn(struct turn *turn) {
-    uint64_t losses = losses_of_processor(), now = clock_spent_ns();
+void begin_turn(struct look *look) {
+    struct turn *turn = &look->windows->turn;
+    uint64_t losses = losses_of_processor(), now = look->spent_ns;
     if (losses != turn->losses) turn->begun_ns = turn->counted_ns;
     if (now - turn->begun_ns >= turn_ns) {
         sched_yield();
@@ -396,12 +395,13 @@ static size_t in_row(const struct window *window, const uint32_t *pages, size_t 
 }
 
 /* Settles the first of some pages that are in a row. Returns how many are settled, or stay as they are. Takes the lock. */
-static size_t settle_run(struct window *window, const uint32_t *pages, size_t count, enum wish wish) {
+static size_t settle_run(struct look *look, const uint32_t *pages, size_t count, enum wish wish) {
+    struct window *window = look->window;
     struct windows *windows = window->windows;
     struct hold hold = {.window = window, .first = pages[0]};
     size_t passed = 0;
     bool there[HOLD_MOST];
-    begin_turn(&windows->turn);
+    begin_turn(look);
     lock_for_look(windows);
     const size_t most = windows->stuck_count > 0 ? 0 : in_row(window, pages, count);
     if (most > 0) find_there(window, pages, most, there);
@@ -423,14 +423,14 @@ static void take_away(struct found *found, size_t count) {
 
 bool give_zeros_back(struct look *look) {
     struct found *zeros = &look->zeros;
-    if (zeros->count > 0) take_away(zeros, settle_run(look->window, zeros->pages, zeros->count, TO_BE_GIVEN_BACK));
+    if (zeros->count > 0) take_away(zeros, settle_run(look, zeros->pages, zeros->count, TO_BE_GIVEN_BACK));
     return zeros->count > 0;
 }
 
 bool hold_loaned(struct look *look) {
     struct batch *batch = &look->batch;
     size_t left = batch->count - batch->done;
-    if (left > 0) batch->done += settle_run(look->window, batch->pages + batch->done, left, TO_BE_SHOWN);
+    if (left > 0) batch->done += settle_run(look, batch->pages + batch->done, left, TO_BE_SHOWN);
     return batch->done < batch->count;
 }
 
@@ -521,9 +521,7 @@ bool ask_lender(struct look *look) {
     if (windows->has_lender && !windows->lender_waits) take_lendable(look, count, numbers, passing);
     take_away(&look->idle, count);
     if (batch->count == 0) return false;
-    uint64_t begun = clock_spent_ns();
     int cause = windows->lender.ask(windows->lender.opaque, numbers, batch->fingerprints, passing, batch->count, seen);
-    windows->counts.ask_ns += clock_spent_ns() - begun;
     if (cause == 0) take_answers(look->window, batch, seen);
     else lender_failed(windows, cause);
     return cause == 0 && batch->count > 0;
@@ -606,9 +604,7 @@ bool ask_for_loans(struct look *look) {
     struct window_loan loans[WINDOW_BATCH];
     for (size_t i = 0; i < batch->count; i++) numbers[i] = look->window->base + batch->pages[i];
     for (size_t i = 0; i < batch->count; i++) loans[i] = (struct window_loan){.frame = WINDOW_NO_FRAME};
-    uint64_t begun = clock_spent_ns();
     int cause = windows->lender.lend(windows->lender.opaque, numbers, batch->count, loans);
-    windows->counts.lend_ns += clock_spent_ns() - begun;
     if (cause != 0) lender_failed(windows, cause);
     take_loans(look->window, batch, loans, cause == 0);
     return batch->count > 0;

@@ -204,7 +204,7 @@ static bool look_in(struct look *look, bool is_return) {
     const size_t part = look->task.part, first = part == 0 ? 0 : part * PART - window->lead, count = rest_of_part(window, first);
     struct findings findings = {.zeros = &look->zeros, .idle = &look->idle, .is_return = is_return};
     /* (the part may become whole) */
-    if (part_of(window, first)->is.alone > 0) begin_turn(&windows->turn);
+    if (part_of(window, first)->is.alone > 0) begin_turn(look);
     lock_for_look(windows);
     bool goes_on = !window->ended && windows->stuck_count == 0 && !windows->is_watched;
     if (goes_on) {

@@ -363,9 +363,6 @@ void take_all_home(struct windows *windows);
 
 /* Notes that a lender's call failed. One that isn't there is asked nothing more in this look. Takes the lock. */
 void lender_failed(struct windows *windows, int cause);
-/* Lets others run if this thread has run for long since it got its processor, so that it doesn't lose it while it holds pages. Not with
- * the lock. */
-void begin_turn(struct turn *turn);
 
 /* ---- a look's tasks ---- */
 
@@ -393,9 +390,14 @@ struct look {
     bool has_begun;                          /* it is known whether anything can be looked at */
     bool is_cut_short;                       /* it ends before it has been everywhere */
     uint64_t begun_ns, begun_spent;          /* the time, and the thread's processor time, when it began */
+    uint64_t spent_ns;                       /* that when the task began */
     struct pageshare_window_task task;       /* which is carried out */
     struct pageshare_window_outcome outcome; /* what has come of it */
 };
+
+/* Lets others run if this thread has run for long since it got its processor, so that it doesn't lose it while it holds pages. Not with
+ * the lock. */
+void begin_turn(struct look *look);
 
 /*
  * Carries out a task. Before it and after it nothing is held, and no lock is taken. Returns whether its kind goes on, as struct

@@ -257,32 +257,60 @@ static task_do *const does[TASKS] = {
 };
 
 /* The budget pays for what a thread uses from its first look on, or from its first after another's. */
-static void begin_paying(struct windows *windows) {
+static void begin_paying(struct look *look) {
+    struct windows *windows = look->windows;
     pid_t thread = gettid();
     if (thread == windows->looker) return;
     windows->looker = thread;
-    windows->unpaid_ns = clock_spent_ns() - windows->budget.spent;
+    windows->unpaid_ns = look->spent_ns - windows->budget.spent;
 }
 
 /* The processor time that the budget counts. */
-static uint64_t paid_ns(const struct windows *windows) { return windows->has_budget ? clock_spent_ns() - windows->unpaid_ns : 0; }
+static uint64_t paid_ns(const struct look *look) {
+    const struct windows *windows = look->windows;
+    return windows->has_budget ? look->spent_ns - windows->unpaid_ns : 0;
+}
+
+/* The count of the processor time of such tasks, or NULL. */
+static uint64_t *time_of(struct windows_counts *counts, unsigned kind) {
+    switch (kind) {
+    case PAGESHARE_WINDOW_TASK_ASK: return &counts->ask_ns;
+    case PAGESHARE_WINDOW_TASK_LEND: return &counts->lend_ns;
+    case PAGESHARE_WINDOW_TASK_GIVE_BACK:
+    case PAGESHARE_WINDOW_TASK_HOLD: return &counts->map_ns;
+    default: return NULL;
+    }
+}
+
+/* Reads the thread's clock, which is a call of the system: once a task. Takes the lock for a task that is counted. */
+static void note_spent(struct look *look) {
+    struct windows *windows = look->windows;
+    uint64_t *counted = time_of(&windows->counts, look->task.kind), before = look->spent_ns;
+    look->spent_ns = clock_spent_ns();
+    if (counted == NULL) return;
+    lock_for_look(windows);
+    *counted += look->spent_ns - before;
+    unlock_set(windows);
+}
 
 static void carry_out(struct look *look) {
     look->outcome = (struct pageshare_window_outcome){.goes_on = false};
     look->outcome.goes_on = does[look->task.kind](look);
     look->outcome.zeros = (uint32_t)look->zeros.count;
     look->outcome.idle = (uint32_t)look->idle.count;
+    note_spent(look);
 }
 
 struct window_result windows_look(struct windows *windows) {
     uint64_t now = clock_now_ns();
-    struct look look = {.windows = windows, .begun_ns = now, .begun_spent = clock_spent_ns()};
+    const uint64_t spent = clock_spent_ns();
+    struct look look = {.windows = windows, .begun_ns = now, .begun_spent = spent, .spent_ns = spent};
     if (!pageshare_window_begin_tasks(&windows->tasks)) return result_of(WINDOW_OK, 0); /* (one stands: `attend` called this) */
     windows->result = result_of(WINDOW_OK, 0);
     windows->lender_waits = false;
-    begin_paying(windows);
+    begin_paying(&look);
     for (;;) {
-        look.task = pageshare_window_next_task(&windows->tasks, &windows->budget, now, paid_ns(windows));
+        look.task = pageshare_window_next_task(&windows->tasks, &windows->budget, now, paid_ns(&look));
         if (look.task.kind == PAGESHARE_WINDOW_TASK_OVER) return windows->result;
         carry_out(&look);
         now = clock_now_ns();
