@@ -555,14 +555,18 @@ bool copy_for_lender(struct look *look) {
     struct windows *windows = look->windows;
     struct batch *batch = &look->batch;
     size_t kept = 0;
+    uint32_t copied[WINDOW_BATCH];
     bool there[WINDOW_BATCH];
     lock_for_look(windows);
     for (size_t found = 0; found < batch->count;)
         found += find_there(look->window, batch->pages + found, batch->count - found, there + found);
-    for (size_t i = 0; i < batch->count; i++)
-        if (there[i] && copy_one(look->window, batch->pages[i], windows->lender.pages[kept], batch->fingerprints[i]))
-            batch->pages[kept++] = batch->pages[i];
+    for (size_t i = 0; i < batch->count; i++) {
+        const size_t at = windows->frames_fall ? batch->count - 1 - i : i;
+        if (there[at] && copy_one(look->window, batch->pages[at], windows->lender.pages[kept], batch->fingerprints[at]))
+            copied[kept++] = batch->pages[at];
+    }
     unlock_set(windows);
+    memcpy(batch->pages, copied, kept * sizeof copied[0]);
     batch->count = kept;
     return kept > 0;
 }
@@ -582,6 +586,27 @@ static void take_loan(struct window *window, size_t number, const struct window_
     if (is_read) trace_frame(windows->trace, loan->frame, windows->frames_at + bytes_of(loan->frame));
 }
 
+/*
+ * Whether a host gives frames from the last one to the first, by the loans of a batch: as it does once those of a process that has ended are
+ * free. Then a batch's last page is lent first, so that pages in a row get frames in a row all the same. `otherwise`: where no two tell.
+ */
+static bool do_fall(const struct window_loan *loans, size_t count, bool otherwise) {
+    size_t rising = 0, falling = 0;
+    for (size_t i = 1; i < count; i++) {
+        rising += loans[i].frame == loans[i - 1].frame + 1 ? 1 : 0;
+        falling += loans[i].frame + 1 == loans[i - 1].frame ? 1 : 0;
+    }
+    return rising == falling ? otherwise : falling > rising;
+}
+
+static void turn_round(uint32_t *pages, size_t count) {
+    for (size_t i = 0; i < count / 2; i++) {
+        const uint32_t kept = pages[i];
+        pages[i] = pages[count - 1 - i];
+        pages[count - 1 - i] = kept;
+    }
+}
+
 /* Takes the loans of a batch, or that none was got. Leaves the pages that have one. Takes the lock. */
 static void take_loans(struct window *window, struct batch *batch, const struct window_loan *loans, bool are_got) {
     size_t kept = 0;
@@ -593,6 +618,8 @@ static void take_loans(struct window *window, struct batch *batch, const struct 
         if (belief_of(&window->pages[number]) == PAGESHARE_WINDOW_LOANED) batch->pages[kept++] = number;
     }
     unlock_set(window->windows);
+    if (window->windows->frames_fall) turn_round(batch->pages, kept);
+    if (are_got) window->windows->frames_fall = do_fall(loans, batch->count, window->windows->frames_fall);
     batch->count = kept;
     batch->done = 0;
 }

@@ -153,6 +153,7 @@ struct windows {
     struct window_lender lender;
     bool has_lender, lender_waits; /* waits: it didn't answer, and is left alone until the next look */
     struct turn turn;
+    bool frames_fall; /* the last loans' frames came from the last one to the first */
     int frames_fd;
     uint8_t *frames_at;    /* the frames' file, for reading; NULL once nothing is lent any more. With the lock */
     bool frames_are_given; /* it is mapped as windows show frames, and no child has it: parts of it can be put in a window */
