@@ -17,7 +17,7 @@ from harness import TOP, LeftOut, Tally, needs, run
 
 # Each folder, and where its modules find each other, as the scripts there do.
 FOLDERS = {
-    "checks": ["checks", "checks/host", "examples", "packaging"], "tools": ["tools", "checks"],
+    "checks": ["checks", "checks/host", "examples", "packaging", "benches", "benches/host", "fleet"], "tools": ["tools", "checks"],
     "benches": ["benches", "benches/host", "checks", "checks/host", "fleet"], "packaging": ["packaging"], "fleet": ["fleet", "fleet/study"],
     "examples": ["examples"],
 }

@@ -78,6 +78,7 @@ COMMANDS = {
         Work("frames of C", ["checks/frames.py"]),
         Work("rows", ["checks/rows.py"]),
         Work("harness", ["checks/harness_test.py"]),
+        Work("benches", ["checks/benches_test.py"]),
         Work("documents", ["checks/names.py"]),
         Work("limits", ["checks/limits.py"]),
         Work("structs of C", ["checks/structs.py"]),

@@ -39,14 +39,22 @@ static inline uint64_t folded_product(uint64_t one, uint64_t other) {
 
 /*
  * A guess whether pages are equal: 64 bits of the page under a salt. The host computes the same of the pages that are lent, by
- * pageshare_host_fingerprint; FORMATS has it in words.
+ * pageshare_host_fingerprint; FORMATS has it in words. Meanwhile the page that is read next comes nearer: the product waits for itself, and memory
+ * would stand still.
  */
-static inline uint64_t fingerprint_of(uint32_t salt, const uint8_t *page) {
+static inline uint64_t fingerprint_and_fetch(uint32_t salt, const uint8_t *page, const uint8_t *next) {
+    enum { LINE = 8 /* words */ };
     const uint64_t start = 0x243f6a8885a308d3u, odd = 0x9e3779b97f4a7c15u;
     uint64_t state = folded_product(start ^ (salt | (uint64_t)salt << 32), odd ^ 8) + WINDOW_PAGE_BYTES;
-    for (size_t i = 0; i < WORDS; i += 2) state = folded_product(word_of(page, i) ^ state, word_of(page, i + 1) ^ odd);
+    for (size_t line = 0; line < WORDS; line += LINE) {
+        __builtin_prefetch(next + line * sizeof(uint64_t));
+        for (size_t i = line; i < line + LINE; i += 2)
+            state = folded_product(word_of(page, i) ^ state, word_of(page, i + 1) ^ odd);
+    }
     return state;
 }
+
+static inline uint64_t fingerprint_of(uint32_t salt, const uint8_t *page) { return fingerprint_and_fetch(salt, page, page); }
 
 /* A glance at a page: some bits of 64 bytes in a row, whose place follows from the page's fingerprint. Much cheaper than reading it. */
 enum { GLANCE_WORDS = 8, GLANCE_BITS = 15 };

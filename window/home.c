@@ -159,7 +159,7 @@ static int begin_home(struct home *home) {
     home->at = map_apart(bytes_of(home->count), PROT_READ | PROT_WRITE, kind, NO_FILE);
     if (home->at == MAP_FAILED) return errno;
     int cause = advice_begin(home->at, home->count);
-    if (cause == 0) cause = advice_set(&window->advice, home->at, home->count, MEMORY_SMALL);
+    if (cause == 0) cause = advice_set(&window->advice, NULL, home->at, home->count, MEMORY_SMALL);
     /* (the kernel's KSM lifts a guard) */
     if (cause == 0) cause = advice_say(address_of(window, home->first), home->count, MADV_UNMERGEABLE);
     if (cause == 0) {

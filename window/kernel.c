@@ -284,9 +284,16 @@ int pagemap_are_guarded(const struct pagemap *pagemap, const void *at, size_t pa
     return cause;
 }
 
+void pagemap_find_own(const struct pagemap *pagemap, const void *at, size_t pages, bool *own) {
+    uint64_t entries[PAGEMAP_MOST];
+    int cause = read_entries(pagemap->fd, at, pages, entries);
+    for (size_t i = 0; i < pages; i++) own[i] = cause == 0 && kind_of(entries[i]) != PAGE_NONE;
+}
+
 bool pagemap_is_own(const struct pagemap *pagemap, const void *at) {
-    uint64_t entry;
-    return read_entries(pagemap->fd, at, 1, &entry) == 0 && kind_of(entry) != PAGE_NONE;
+    bool own;
+    pagemap_find_own(pagemap, at, 1, &own);
+    return own;
 }
 
 /* Memory of the library itself that the system refused to unmap. */

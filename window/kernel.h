@@ -60,7 +60,8 @@ bool pagemap_is_huge(const struct pagemap *pagemap, const void *at);
 int pagemap_are_guarded(const struct pagemap *pagemap, const void *at, size_t pages);
 /* Finds which of up to PAGEMAP_MOST pages have memory of their own that isn't swapped out. They may be guarded, but not missing. */
 int pagemap_find_copies(const struct pagemap *pagemap, const void *at, size_t pages, bool *own);
-/* Whether this page has memory of its own, asked in another way; false if that can't be known. */
+/* Finds which of up to PAGEMAP_MOST pages have memory of their own, asked in another way: none if that can't be known. */
+void pagemap_find_own(const struct pagemap *pagemap, const void *at, size_t pages, bool *own);
 bool pagemap_is_own(const struct pagemap *pagemap, const void *at);
 
 /* A memory policy of mbind. */
@@ -100,8 +101,11 @@ int mapping_ask(struct mapping_facts *facts, const void *at, size_t most);
 
 /* What is mapped anew: frames, memory in pages of 4,096 bytes, or memory that may be huge pages. */
 enum memory { MEMORY_OF_FRAMES, MEMORY_SMALL, MEMORY_HUGE };
-/* Says of a range that was mapped anew what was said of the window; of frames no memory policy, which would be the file's. */
-int advice_set(const struct advice *advice, void *at, size_t pages, enum memory memory);
+/*
+ * Says of a range that was mapped anew what was said of the window, but for what it `has` already: what it was copied from had that. NULL: it
+ * has nothing. Of frames no memory policy is said, which would be the file's.
+ */
+int advice_set(const struct advice *advice, const struct advice *has, void *at, size_t pages, enum memory memory);
 /* Whether the system may back memory of which this was said by huge pages of PAGEMAP_MOST pages. */
 bool advice_allows_huge(const struct advice *advice);
 /* The huge page there becomes small pages; huge pages leave the range alone from then on. */

@@ -18,7 +18,7 @@ struct hold {
     size_t left;       /* how many of them are held still */
     bool moves;        /* they are taken out of their place; otherwise writes are guarded */
     size_t scratch;    /* where they are then, in the scratch area */
-    bool any_file;     /* a frame was mapped */
+    bool any_copies;   /* a copy of a frame's mapping was put in a page's place */
     bool any_remapped; /* other memory than the scratch area's is at a place since */
     int stuck_cause;   /* what the system refused to let pages go with, or 0 */
     bool held[HOLD_MOST];
@@ -179,7 +179,7 @@ static struct came map(struct hold *hold, const struct pageshare_window_row_orde
         return (struct came){.refused = todo->count};
     }
     for (size_t i = todo->first; i < todo->first + todo->count && is_frame; i++) trace_map(windows->trace, number_of(hold, i));
-    hold->any_file = hold->any_file || is_frame;
+    hold->any_copies = hold->any_copies || is_frame;
     memset(hold->zeros + todo->first, !is_frame, todo->count);
     windows->counts.lends += is_frame ? todo->count : 0;
     /* (if nobody is woken here the end of the watch does it; a page that was taken out is given back only then) */
@@ -277,17 +277,6 @@ int free_stuck(struct windows *windows) {
     return any_remapped ? make_scratch(windows) : clear_scratch(windows);
 }
 
-/* No child of a fork may have frames that were mapped: it would go on showing them when they are released. */
-static void keep_from_children(const struct hold *hold) {
-    struct windows *windows = hold->window->windows;
-    int cause = advice_say(address_of(hold->window, hold->first), hold->count, MADV_DONTFORK);
-    if (cause == 0) return;
-    windows->advice_cause = cause;
-    const struct pageshare_window_facts why = {.inherited = true};
-    struct window_result result = take_home_for(hold->window, hold->first, hold->count, why);
-    if (result.status != WINDOW_OK) note_failure(windows, result.status, result.cause);
-}
-
 /* Zeros that were mapped may count as a mapping by themselves. */
 static void note_zeros(const struct hold *hold) {
     for (size_t i = 0, count = 1; i < hold->count; i += count, count = 1) {
@@ -299,7 +288,6 @@ static void note_zeros(const struct hold *hold) {
 /* Shows frames, or zeros, in place of pages in a row, where a page is equal to what is to be shown. With the lock. */
 static void settle(struct hold *hold) {
     struct windows *windows = hold->window->windows;
-    uint64_t spent = clock_spent_ns();
     take(hold);
     carry_out(hold);
     if (hold->stuck_cause != 0) note_failure(windows, WINDOW_STUCK, hold->stuck_cause);
@@ -310,9 +298,7 @@ static void settle(struct hold *hold) {
     show_zeros(hold);
     for (size_t i = 0; i < hold->count; i++)
         pageshare_window_held(page_of(hold, i), part_counts(hold->window, hold->first + i), hold->held[i]);
-    if (hold->any_file) say_again(hold->window, hold->first, hold->count, true);
-    if (hold->any_file) keep_from_children(hold);
-    windows->counts.map_ns += clock_spent_ns() - spent;
+    if (hold->any_copies) say_again(hold->window, hold->first, hold->count, true, true);
 }
 
 /*
@@ -327,12 +313,25 @@ static bool seems_equal(const struct window *window, size_t number) {
            are_equal(address_of(window, number), windows->frames_at + bytes_of(page->frame));
 }
 
+/* How many of the first pages lie so near to each other, one behind the other, that the system is asked about all of them at once. */
+static size_t in_one_call(const uint32_t *pages, size_t count) {
+    enum { APART_MOST = 5 /* a call takes as long as so many pages more */ };
+    size_t found = 1;
+    while (found < count && pages[found] - pages[found - 1] <= APART_MOST && pages[found] - pages[0] < PART) found++;
+    return found;
+}
+
 /*
- * Whether a page is there. One that was given up since it was found is missing, and reading it would put the kernel's page of zeros there: who
- * watches for missing pages later, as QEMU does for a postcopy, couldn't put another one in its place. With the lock.
+ * Finds which of the first pages are there, and returns of how many. One that was given up since it was found is missing, and reading it would
+ * put the kernel's page of zeros there: who watches for missing pages later, as QEMU does for a postcopy, couldn't put another one in its place.
+ * With the lock, and while it is held that stays so.
  */
-static bool is_there(const struct window *window, size_t number) {
-    return is_over(&window->pages[number]) || pagemap_is_own(&window->windows->pagemap, address_of(window, number));
+static size_t find_there(const struct window *window, const uint32_t *pages, size_t most, bool *there) {
+    bool own[PART];
+    const size_t count = in_one_call(pages, most);
+    pagemap_find_own(&window->windows->pagemap, address_of(window, pages[0]), pages[count - 1] - pages[0] + 1, own);
+    for (size_t i = 0; i < count; i++) there[i] = is_over(&window->pages[pages[i]]) || own[pages[i] - pages[0]];
+    return count;
 }
 
 /* A page that was written since its bytes were copied stays private. */
@@ -341,8 +340,9 @@ static void note_changed(struct window *window, size_t number) {
     forget_content(window, number);
 }
 
-void begin_turn(struct turn *turn) {
-    uint64_t losses = losses_of_processor(), now = clock_spent_ns();
+void begin_turn(struct look *look) {
+    struct turn *turn = &look->windows->turn;
+    uint64_t losses = losses_of_processor(), now = look->spent_ns;
     if (losses != turn->losses) turn->begun_ns = turn->counted_ns;
     if (now - turn->begun_ns >= turn_ns) {
         sched_yield();
@@ -368,7 +368,7 @@ static bool may_give_back(struct window *window, size_t number) {
  * Orders a page to be held, if it is equal to what it is to show. All of it may have changed since it was found idle. Otherwise its loan,
  * if it has one, is to be released. With the lock.
  */
-static bool order_hold(struct window *window, size_t number, enum wish wish) {
+static bool order_hold(struct window *window, size_t number, enum wish wish, bool is_there) {
     page_entry *page = &window->pages[number];
     const struct pageshare_window_facts facts = facts_of(window, number);
     bool is_zeros = wish == TO_BE_GIVEN_BACK;
@@ -376,7 +376,7 @@ static bool order_hold(struct window *window, size_t number, enum wish wish) {
     if (is_zeros && !pageshare_window_choose(page, part_counts(window, number), &facts, true)) return false;
     enum pageshare_window_order order = order_of(window, number);
     bool is_hold = order == (is_zeros ? PAGESHARE_WINDOW_HOLD_ZEROS : PAGESHARE_WINDOW_HOLD);
-    bool is_equal = is_hold && is_there(window, number) && seems_equal(window, number);
+    bool is_equal = is_hold && is_there && seems_equal(window, number);
     if (is_equal && !part_of(window, number)->is.whole) return true;
     if (is_hold) note_order(window, number, false);
     else pageshare_window_withdraw(page);
@@ -384,20 +384,30 @@ static bool order_hold(struct window *window, size_t number, enum wish wish) {
     return false;
 }
 
+/* How many of the first pages are in a row, and all over frames or none. With the lock. */
+static size_t in_row(const struct window *window, const uint32_t *pages, size_t count) {
+    const bool are_over = is_over(&window->pages[pages[0]]);
+    size_t found = 1;
+    while (found < count && found < HOLD_MOST && pages[found] == pages[0] + found &&
+           is_over(&window->pages[pages[found]]) == are_over)
+        found++;
+    return found;
+}
+
 /* Settles the first of some pages that are in a row. Returns how many are settled, or stay as they are. Takes the lock. */
-static size_t settle_run(struct window *window, const uint32_t *pages, size_t count, enum wish wish) {
+static size_t settle_run(struct look *look, const uint32_t *pages, size_t count, enum wish wish) {
+    struct window *window = look->window;
     struct windows *windows = window->windows;
     struct hold hold = {.window = window, .first = pages[0]};
     size_t passed = 0;
-    begin_turn(&windows->turn);
+    bool there[HOLD_MOST];
+    begin_turn(look);
     lock_for_look(windows);
-    while (hold.count < HOLD_MOST && hold.count < count) {
-        size_t page = pages[hold.count];
-        if (page != hold.first + hold.count || windows->stuck_count > 0) break;
-        if (is_over(&window->pages[page]) != is_over(&window->pages[hold.first])) break;
-        passed = order_hold(window, page, wish) ? 0 : 1;
-        if (passed > 0) break;
-        hold.count++;
+    const size_t most = windows->stuck_count > 0 ? 0 : in_row(window, pages, count);
+    if (most > 0) find_there(window, pages, most, there);
+    while (hold.count < most && passed == 0) {
+        passed = order_hold(window, pages[hold.count], wish, there[hold.count]) ? 0 : 1;
+        hold.count += 1 - passed;
     }
     if (hold.count > 0) settle(&hold);
     unlock_set(windows);
@@ -413,14 +423,14 @@ static void take_away(struct found *found, size_t count) {
 
 bool give_zeros_back(struct look *look) {
     struct found *zeros = &look->zeros;
-    if (zeros->count > 0) take_away(zeros, settle_run(look->window, zeros->pages, zeros->count, TO_BE_GIVEN_BACK));
+    if (zeros->count > 0) take_away(zeros, settle_run(look, zeros->pages, zeros->count, TO_BE_GIVEN_BACK));
     return zeros->count > 0;
 }
 
 bool hold_loaned(struct look *look) {
     struct batch *batch = &look->batch;
     size_t left = batch->count - batch->done;
-    if (left > 0) batch->done += settle_run(look->window, batch->pages + batch->done, left, TO_BE_SHOWN);
+    if (left > 0) batch->done += settle_run(look, batch->pages + batch->done, left, TO_BE_SHOWN);
     return batch->done < batch->count;
 }
 
@@ -511,24 +521,30 @@ bool ask_lender(struct look *look) {
     if (windows->has_lender && !windows->lender_waits) take_lendable(look, count, numbers, passing);
     take_away(&look->idle, count);
     if (batch->count == 0) return false;
-    uint64_t begun = clock_spent_ns();
     int cause = windows->lender.ask(windows->lender.opaque, numbers, batch->fingerprints, passing, batch->count, seen);
-    windows->counts.ask_ns += clock_spent_ns() - begun;
     if (cause == 0) take_answers(look->window, batch, seen);
     else lender_failed(windows, cause);
     return cause == 0 && batch->count > 0;
 }
 
+/*
+ * Whether a copy is of the page that a look found. Of one that was read at the last looks a glance tells: what that misses costs a loan at most,
+ * since the host compares whole pages, and so does the thread before it maps a frame. (Of a page over a frame no glance is kept.)
+ */
+static bool is_as_found(const struct window *window, const page_entry *found, const unsigned char *copy, uint64_t fingerprint) {
+    if (is_over(found) || is_asked_again(found)) return fingerprint_of(window->windows->lender.salt, copy) == fingerprint;
+    return kept_of(found) == fingerprint && glance_at(fingerprint, copy) == clue_in(found);
+}
+
 /* Copies a page to a place in the lender's buffer, with nothing guarded. Returns whether a loan of that is to be asked for. With the lock. */
 static bool copy_one(struct window *window, size_t number, unsigned char *to, uint64_t fingerprint) {
-    struct part *part = part_of(window, number);
+    const page_entry found = window->pages[number];
     const struct pageshare_window_facts facts = facts_of(window, number);
-    if (part->is.whole || !is_there(window, number)) return false;
+    if (part_of(window, number)->is.whole) return false;
     if (!pageshare_window_choose(&window->pages[number], part_counts(window, number), &facts, false)) return false;
     if (order_of(window, number) != PAGESHARE_WINDOW_COPY) return false;
     copy_page(to, address_of(window, number));
-    /* (its fingerprint may be that of an earlier look) */
-    bool is_same_page = fingerprint_of(window->windows->lender.salt, to) == fingerprint;
+    bool is_same_page = is_as_found(window, &found, to, fingerprint);
     note_order(window, number, is_same_page && !is_zero(to));
     if (!is_same_page) note_changed(window, number);
     return is_same_page && order_of(window, number) == PAGESHARE_WINDOW_LEND;
@@ -539,11 +555,18 @@ bool copy_for_lender(struct look *look) {
     struct windows *windows = look->windows;
     struct batch *batch = &look->batch;
     size_t kept = 0;
+    uint32_t copied[WINDOW_BATCH];
+    bool there[WINDOW_BATCH];
     lock_for_look(windows);
-    for (size_t i = 0; i < batch->count; i++)
-        if (copy_one(look->window, batch->pages[i], windows->lender.pages[kept], batch->fingerprints[i]))
-            batch->pages[kept++] = batch->pages[i];
+    for (size_t found = 0; found < batch->count;)
+        found += find_there(look->window, batch->pages + found, batch->count - found, there + found);
+    for (size_t i = 0; i < batch->count; i++) {
+        const size_t at = windows->frames_fall ? batch->count - 1 - i : i;
+        if (there[at] && copy_one(look->window, batch->pages[at], windows->lender.pages[kept], batch->fingerprints[at]))
+            copied[kept++] = batch->pages[at];
+    }
     unlock_set(windows);
+    memcpy(batch->pages, copied, kept * sizeof copied[0]);
     batch->count = kept;
     return kept > 0;
 }
@@ -563,6 +586,27 @@ static void take_loan(struct window *window, size_t number, const struct window_
     if (is_read) trace_frame(windows->trace, loan->frame, windows->frames_at + bytes_of(loan->frame));
 }
 
+/*
+ * Whether a host gives frames from the last one to the first, by the loans of a batch: as it does once those of a process that has ended are
+ * free. Then a batch's last page is lent first, so that pages in a row get frames in a row all the same. `otherwise`: where no two tell.
+ */
+static bool do_fall(const struct window_loan *loans, size_t count, bool otherwise) {
+    size_t rising = 0, falling = 0;
+    for (size_t i = 1; i < count; i++) {
+        rising += loans[i].frame == loans[i - 1].frame + 1 ? 1 : 0;
+        falling += loans[i].frame + 1 == loans[i - 1].frame ? 1 : 0;
+    }
+    return rising == falling ? otherwise : falling > rising;
+}
+
+static void turn_round(uint32_t *pages, size_t count) {
+    for (size_t i = 0; i < count / 2; i++) {
+        const uint32_t kept = pages[i];
+        pages[i] = pages[count - 1 - i];
+        pages[count - 1 - i] = kept;
+    }
+}
+
 /* Takes the loans of a batch, or that none was got. Leaves the pages that have one. Takes the lock. */
 static void take_loans(struct window *window, struct batch *batch, const struct window_loan *loans, bool are_got) {
     size_t kept = 0;
@@ -574,6 +618,8 @@ static void take_loans(struct window *window, struct batch *batch, const struct 
         if (belief_of(&window->pages[number]) == PAGESHARE_WINDOW_LOANED) batch->pages[kept++] = number;
     }
     unlock_set(window->windows);
+    if (window->windows->frames_fall) turn_round(batch->pages, kept);
+    if (are_got) window->windows->frames_fall = do_fall(loans, batch->count, window->windows->frames_fall);
     batch->count = kept;
     batch->done = 0;
 }
@@ -585,9 +631,7 @@ bool ask_for_loans(struct look *look) {
     struct window_loan loans[WINDOW_BATCH];
     for (size_t i = 0; i < batch->count; i++) numbers[i] = look->window->base + batch->pages[i];
     for (size_t i = 0; i < batch->count; i++) loans[i] = (struct window_loan){.frame = WINDOW_NO_FRAME};
-    uint64_t begun = clock_spent_ns();
     int cause = windows->lender.lend(windows->lender.opaque, numbers, batch->count, loans);
-    windows->counts.lend_ns += clock_spent_ns() - begun;
     if (cause != 0) lender_failed(windows, cause);
     take_loans(look->window, batch, loans, cause == 0);
     return batch->count > 0;

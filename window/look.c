@@ -16,6 +16,7 @@ struct findings {
     size_t young;                              /* pages that are the same since a look or two, or new */
     bool is_sample;                            /* the part rests */
     bool is_return;                            /* the look has been there before, and takes the young pages alone */
+    const uint8_t *next;                       /* the page to which the look comes next */
     struct pageshare_window_table_facts table; /* what is so of the window */
 };
 
@@ -38,8 +39,8 @@ static void take_glance(struct window *window, size_t number, struct pageshare_w
     outcome->glance = glance(window, number, pageshare_window_glanced_by(page, (uint32_t)number));
 }
 
-static void read_page(struct window *window, size_t number, struct pageshare_window_find_outcome *outcome) {
-    outcome->fingerprint = fingerprint_of(window->windows->lender.salt, address_of(window, number));
+static void read_page(struct window *window, size_t number, const uint8_t *next, struct pageshare_window_find_outcome *outcome) {
+    outcome->fingerprint = fingerprint_and_fetch(window->windows->lender.salt, address_of(window, number), next);
     outcome->glance = glance(window, number, outcome->fingerprint);
     window->windows->counts.reads++;
 }
@@ -59,7 +60,7 @@ static unsigned find(struct window *window, size_t number, uint8_t memory, const
         struct pageshare_window_find_outcome outcome = {.fingerprint = 0};
         if (step == PAGESHARE_WINDOW_FIND_COPY) find_copy(window, number, &outcome);
         if (step == PAGESHARE_WINDOW_FIND_GLANCE) take_glance(window, number, &outcome);
-        if (step == PAGESHARE_WINDOW_FIND_READ) read_page(window, number, &outcome);
+        if (step == PAGESHARE_WINDOW_FIND_READ) read_page(window, number, findings->next, &outcome);
         is_read = is_read || step == PAGESHARE_WINDOW_FIND_READ || step == PAGESHARE_WINDOW_FIND_COUNT;
         step = pageshare_window_find_done(page, counts, part, &look, (uint32_t)number, step, &outcome);
     }
@@ -152,6 +153,7 @@ static void find_among(struct window *window, size_t first, size_t count, const 
     findings->table = table_of(window);
     for (size_t at = 0; at < taken_count && window->windows->stuck_count == 0; at++) {
         size_t i = taken[at], before = findings->changes;
+        findings->next = address_of(window, first + taken[at + 1 < taken_count ? at + 1 : at]);
         if (at + AHEAD < taken_count && found[taken[at + AHEAD]] == PAGE_PRESENT) fetch(window, first + taken[at + AHEAD]);
         add_finding(window, first + i, found[i], findings);
         if (findings->is_sample && findings->changes > before) follow(window, first, count, i, found, findings);
@@ -202,7 +204,7 @@ static bool look_in(struct look *look, bool is_return) {
     const size_t part = look->task.part, first = part == 0 ? 0 : part * PART - window->lead, count = rest_of_part(window, first);
     struct findings findings = {.zeros = &look->zeros, .idle = &look->idle, .is_return = is_return};
     /* (the part may become whole) */
-    if (part_of(window, first)->is.alone > 0) begin_turn(&windows->turn);
+    if (part_of(window, first)->is.alone > 0) begin_turn(look);
     lock_for_look(windows);
     bool goes_on = !window->ended && windows->stuck_count == 0 && !windows->is_watched;
     if (goes_on) {

@@ -228,19 +228,24 @@ int map_pages(struct window *window, size_t first, size_t count, uint32_t frame,
     const uint8_t *source = source_of(window, frame, protection);
     void *at = address_of(window, first);
     int cause = source != NULL ? mapping_copy(at, source, count) : ENOENT;
+    const bool are_copies = cause == 0;
     /* (zeros may be a child's for a moment) */
     if (cause != 0)
         cause = is_file ? mapping_put(at, count, protection, window->windows->frames_fd, frame)
                         : mapping_put_zeros(at, count, protection, window->advice.is_reserved);
     if (cause != 0) return cause;
     /* (what the system refuses to say of zeros keeps it from joining them with what is beside them) */
-    bool is_said = is_file || has_left || say_again(window, first, count, false);
+    bool is_said = has_left || (is_file && are_copies) || say_again(window, first, count, is_file, are_copies);
     note_memory(window, first, count, frame, is_alone || !is_said);
     return 0;
 }
 
-bool say_again(struct window *window, size_t first, size_t count, bool is_file) {
-    int cause = advice_set(&window->advice, address_of(window, first), count, is_file ? MEMORY_OF_FRAMES : MEMORY_SMALL);
+bool say_again(struct window *window, size_t first, size_t count, bool is_file, bool are_copies) {
+    /* (what map_frames and make_zeros say of their mappings) */
+    static const struct advice of_frames = {.dont_fork = true, .no_huge = true, .dont_dump = true},
+                               of_zeros = {.dont_fork = true, .no_huge = true};
+    const struct advice *has = !are_copies ? NULL : is_file ? &of_frames : &of_zeros;
+    int cause = advice_set(&window->advice, has, address_of(window, first), count, is_file ? MEMORY_OF_FRAMES : MEMORY_SMALL);
     if (cause != 0) window->windows->advice_cause = cause;
     return cause == 0;
 }

@@ -115,7 +115,7 @@ static uint8_t *make_room(const struct window *window) {
     uint8_t *room = all + before;
     if (before > 0) unmap_apart(all, before);
     unmap_apart(room + bytes, bytes - before);
-    if (advice_set(&window->advice, room, PART, MEMORY_HUGE) == 0) {
+    if (advice_set(&window->advice, NULL, room, PART, MEMORY_HUGE) == 0) {
         *(volatile uint8_t *)room = 0;
         if (pagemap_is_huge(&window->windows->pagemap, room)) return room;
     }

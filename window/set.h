@@ -153,6 +153,7 @@ struct windows {
     struct window_lender lender;
     bool has_lender, lender_waits; /* waits: it didn't answer, and is left alone until the next look */
     struct turn turn;
+    bool frames_fall; /* the last loans' frames came from the last one to the first */
     int frames_fd;
     uint8_t *frames_at;    /* the frames' file, for reading; NULL once nothing is lent any more. With the lock */
     bool frames_are_given; /* it is mapped as windows show frames, and no child has it: parts of it can be put in a window */
@@ -301,14 +302,17 @@ bool has_room_for_zeros(const struct window *window, size_t first, size_t count)
 bool is_cleared(const struct window *window, size_t page);
 void note_cleared(struct window *window, size_t first, size_t count, bool are_cleared);
 
-/* Maps frames in a row in place of pages, or zeros, with this protection. Returns 0 or an errno, and then nothing has changed. */
+/*
+ * Maps frames in a row in place of pages, or zeros, with this protection. Returns 0 or an errno, and then nothing has changed. What was said of
+ * the window is said of them, but for copies of a frame's mapping, which no child has: say_again does that for many of them at once.
+ */
 int map_pages(struct window *window, size_t first, size_t count, uint32_t frame, int protection);
 
 /*
- * Says of pages that were mapped anew what was said of the window; frames are among them, or only memory of their own. Returns
- * false if the system refuses, which the next look reports. With the lock.
+ * Says of pages that were mapped anew what was said of the window, but for what they have of the windows' own frames or zeros if they are copies
+ * of these; frames are among them, or only memory of their own. Returns false if the system refuses, which the next look reports. With the lock.
  */
-bool say_again(struct window *window, size_t first, size_t count, bool is_file);
+bool say_again(struct window *window, size_t first, size_t count, bool is_file, bool are_copies);
 
 /* Ends the watch over pages, and wakes threads that wait. Returns 0, or an errno: then the pages are among the stuck ones. With the lock. */
 int let_waiters_go(struct window *window, size_t first, size_t count);
@@ -360,9 +364,6 @@ void take_all_home(struct windows *windows);
 
 /* Notes that a lender's call failed. One that isn't there is asked nothing more in this look. Takes the lock. */
 void lender_failed(struct windows *windows, int cause);
-/* Lets others run if this thread has run for long since it got its processor, so that it doesn't lose it while it holds pages. Not with
- * the lock. */
-void begin_turn(struct turn *turn);
 
 /* ---- a look's tasks ---- */
 
@@ -390,9 +391,14 @@ struct look {
     bool has_begun;                          /* it is known whether anything can be looked at */
     bool is_cut_short;                       /* it ends before it has been everywhere */
     uint64_t begun_ns, begun_spent;          /* the time, and the thread's processor time, when it began */
+    uint64_t spent_ns;                       /* that when the task began */
     struct pageshare_window_task task;       /* which is carried out */
     struct pageshare_window_outcome outcome; /* what has come of it */
 };
+
+/* Lets others run if this thread has run for long since it got its processor, so that it doesn't lose it while it holds pages. Not with
+ * the lock. */
+void begin_turn(struct look *look);
 
 /*
  * Carries out a task. Before it and after it nothing is held, and no lock is taken. Returns whether its kind goes on, as struct

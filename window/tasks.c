@@ -28,19 +28,23 @@ static void collect_part(struct slots *slots, struct window *window, size_t firs
         page += pageshare_window_before_release(window->pages + page, end - page);
         /* (a device may be reading the frame, as the page showed it when it began) */
         if (page == end || is_in_transfer(window, page) || !order_release(window, page)) continue;
-        slots->slots[slots->count] = slot_number(window->pages[page].slot);
         slots->windows[slots->count] = window;
         slots->pages[slots->count++] = (uint32_t)page;
     }
 }
 
-/* Orders pages to be released whose slots are to be, and collects these. Takes the lock. */
+/*
+ * Orders pages to be released whose slots are to be, and collects these, the last page's first: a host gives frames anew that became free last, so
+ * that pages in a row get frames in a row. Takes the lock.
+ */
 static void collect(struct windows *windows, struct slots *slots) {
     slots->count = 0;
     lock_for_look(windows);
     for (struct window *window = windows->first; window != NULL && slots->count < WINDOW_BATCH; window = window->next)
         for (size_t first = 0; first < window->count; first += rest_of_part(window, first))
             if (part_counts(window, first)->releases > 0) collect_part(slots, window, first);
+    for (size_t i = 0; i < slots->count; i++)
+        slots->slots[slots->count - 1 - i] = slot_number(slots->windows[i]->pages[slots->pages[i]].slot);
     unlock_set(windows);
 }
 
@@ -257,32 +261,60 @@ static task_do *const does[TASKS] = {
 };
 
 /* The budget pays for what a thread uses from its first look on, or from its first after another's. */
-static void begin_paying(struct windows *windows) {
+static void begin_paying(struct look *look) {
+    struct windows *windows = look->windows;
     pid_t thread = gettid();
     if (thread == windows->looker) return;
     windows->looker = thread;
-    windows->unpaid_ns = clock_spent_ns() - windows->budget.spent;
+    windows->unpaid_ns = look->spent_ns - windows->budget.spent;
 }
 
 /* The processor time that the budget counts. */
-static uint64_t paid_ns(const struct windows *windows) { return windows->has_budget ? clock_spent_ns() - windows->unpaid_ns : 0; }
+static uint64_t paid_ns(const struct look *look) {
+    const struct windows *windows = look->windows;
+    return windows->has_budget ? look->spent_ns - windows->unpaid_ns : 0;
+}
+
+/* The count of the processor time of such tasks, or NULL. */
+static uint64_t *time_of(struct windows_counts *counts, unsigned kind) {
+    switch (kind) {
+    case PAGESHARE_WINDOW_TASK_ASK: return &counts->ask_ns;
+    case PAGESHARE_WINDOW_TASK_LEND: return &counts->lend_ns;
+    case PAGESHARE_WINDOW_TASK_GIVE_BACK:
+    case PAGESHARE_WINDOW_TASK_HOLD: return &counts->map_ns;
+    default: return NULL;
+    }
+}
+
+/* Reads the thread's clock, which is a call of the system: once a task. Takes the lock for a task that is counted. */
+static void note_spent(struct look *look) {
+    struct windows *windows = look->windows;
+    uint64_t *counted = time_of(&windows->counts, look->task.kind), before = look->spent_ns;
+    look->spent_ns = clock_spent_ns();
+    if (counted == NULL) return;
+    lock_for_look(windows);
+    *counted += look->spent_ns - before;
+    unlock_set(windows);
+}
 
 static void carry_out(struct look *look) {
     look->outcome = (struct pageshare_window_outcome){.goes_on = false};
     look->outcome.goes_on = does[look->task.kind](look);
     look->outcome.zeros = (uint32_t)look->zeros.count;
     look->outcome.idle = (uint32_t)look->idle.count;
+    note_spent(look);
 }
 
 struct window_result windows_look(struct windows *windows) {
     uint64_t now = clock_now_ns();
-    struct look look = {.windows = windows, .begun_ns = now, .begun_spent = clock_spent_ns()};
+    const uint64_t spent = clock_spent_ns();
+    struct look look = {.windows = windows, .begun_ns = now, .begun_spent = spent, .spent_ns = spent};
     if (!pageshare_window_begin_tasks(&windows->tasks)) return result_of(WINDOW_OK, 0); /* (one stands: `attend` called this) */
     windows->result = result_of(WINDOW_OK, 0);
     windows->lender_waits = false;
-    begin_paying(windows);
+    begin_paying(&look);
     for (;;) {
-        look.task = pageshare_window_next_task(&windows->tasks, &windows->budget, now, paid_ns(windows));
+        look.task = pageshare_window_next_task(&windows->tasks, &windows->budget, now, paid_ns(&look));
         if (look.task.kind == PAGESHARE_WINDOW_TASK_OVER) return windows->result;
         carry_out(&look);
         now = clock_now_ns();

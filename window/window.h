@@ -299,7 +299,7 @@ struct windows_counts {
     uint64_t again;              /* pages that were read or asked about again, since nobody else has them */
     uint64_t reads, fresh;       /* fingerprints that were taken; those of pages that weren't read before, and are no copies */
     uint64_t round_ns;           /* how long the last look took by the clock, with all pauses */
-    uint64_t look_ns, ask_ns, lend_ns, map_ns; /* processor time of looks: all; in the lender's calls; from hold to wake */
+    uint64_t look_ns, ask_ns, lend_ns, map_ns; /* processor time of looks: all; of questions, of loans, of holds */
     uint64_t hold_most_ns;                     /* the longest time that a page was held, by the clock */
     uint64_t held[WINDOWS_TIMES]; /* pages that were held for less than 2^i microseconds, and not for less than half of it */
 };
