@@ -238,15 +238,15 @@ def case_limit() -> None:
     host.stop()
 
 
-# A process with pages of its own numbers, and as many zeros, that gives all up when it reads a line. Words: its first number, and how many pages.
+# A process with pages of some contents, and as many zeros, that gives all up when it reads a line. Words: how many contents, and how many pages.
 OFFERS = """
 import mmap, sys
-first, pages = map(int, sys.argv[1:])
+contents, pages = map(int, sys.argv[1:])
 own, zeros = (mmap.mmap(-1, pages * 4096, flags=mmap.MAP_PRIVATE | mmap.MAP_ANONYMOUS) for _ in range(2))
 for it in own, zeros:
     it.madvise(mmap.MADV_NOHUGEPAGE), it.madvise(mmap.MADV_DONTFORK), it.madvise(mmap.MADV_MERGEABLE)
 for page in range(pages):
-    own[page * 4096:(page + 1) * 4096] = (first + page).to_bytes(8, "little") * 512
+    own[page * 4096:(page + 1) * 4096] = (1 + page % contents).to_bytes(8, "little") * 512
     zeros[page * 4096:(page + 1) * 4096] = bytes(4096)
 sys.stdin.readline(), own.close(), zeros.close(), sys.stdin.readline()
 """
@@ -255,9 +255,10 @@ sys.stdin.readline(), own.close(), zeros.close(), sys.stdin.readline()
 def case_account() -> None:
     """Zeros count in the gain; pages that --lent or --memory refuses are told apart; and who offers nothing any more is listed with that cause."""
     pages, most = 1024, 512
-    for memory, lent, by_lent in (("64M", f"{most * 4}K", True), (f"{most * 4}K", "64M", False)):
+    # (a host remembers one question for each four pages that may be lent: with few contents equal pages are found all the same)
+    for memory, lent, contents, by_lent in (("64M", f"{most * 4}K", 64, True), (f"{most * 4}K", "64M", pages, False)):
         host = Host("--lent", lent, memory=memory)
-        made = [run_python(host, OFFERS, 50, 1, pages) for _ in range(2)]
+        made = [run_python(host, OFFERS, 50, contents, pages) for _ in range(2)]
         good, _ = until(40, lambda: (it := host.status())["refused_pages_total"] > 0 and it["zero_bytes"] >= 2 * pages * 4096, 0.2)
         state = host.status()
         in_time(good, f"nothing was refused, or few zeros were given back: {state}")
