@@ -20,7 +20,7 @@ HEADERS = ["lib/include/pageshare.h", "lib/include/pageshare_host.h", "window/pa
 FOLDERS = {
     "crates/c_surface/src": "rt", "crates/pageshare_c/src": "rt", "crates/pageshare_host_c/src": "rt", "crates/pageshare_window_c/src": "rt",
     "crates/offered_ranges/src": "rt", "crates/page_pins/src": "rt", "crates/window_numbers/src": "rt", "crates/window_pages/src": "rt",
-    "crates/window_tables/src": "rt", "crates/look_steps/src": "rt", "crates/look_tasks/src": "rt", "crates/look_times/src": "rt", "lib/rust/src": "rs",
+    "crates/client_session/src": "rt", "crates/host_messages/src": "rt", "crates/window_tables/src": "rt", "crates/look_steps/src": "rt", "crates/look_tasks/src": "rt", "crates/look_times/src": "rt", "lib/rust/src": "rs",
 }
 # The statuses of the proved libraries, and what a header writes before a name. FAULT_ANSWER is a fault that no packet of a client has.
 STATUSES = "crates/c_surface/src/status.rt"
@@ -33,6 +33,7 @@ STRUCTS = {
     "DomainTotals": "pageshare_domain_totals pageshare_host_totals", "HostShape": "pageshare_host_shape",
     "KnownSession": "pageshare_host_session", "ReceivedPacket": "pageshare_host_received",
     "ServedPacket": "pageshare_host_served", "PacketHead": "pageshare_host_packet", "WindowBudget": "pageshare_window_budget",
+    "KeptSession": "pageshare_window_session", "Lent": "pageshare_window_lent pageshare_host_lent",
     "WindowPage": "pageshare_window_page", "TableFacts": "pageshare_window_table_facts", "PartCounts": "pageshare_window_counts", "WindowFacts": "pageshare_window_facts",
     "WindowPart": "pageshare_window_part", "WindowPartConfig": "pageshare_window_part_config",
     "WindowPartLook": "pageshare_window_part_look", "OfferedRange": "pageshare_window_range", "Piece": "pageshare_window_piece",

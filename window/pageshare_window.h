@@ -674,6 +674,53 @@ void pageshare_window_set_rest(struct pageshare_window_part *part, const struct 
                                uint32_t own);
 void pageshare_window_wake(struct pageshare_window_part *part);
 
+/* The client's half of a session with a host (pageshare_host.h), which outlives its connections. A struct of zeros is a client without one. */
+struct pageshare_window_session {
+    uint64_t loans;         /* replies to a lend that were counted */
+    uint64_t unheard[1024]; /* slots that were given up, and that the host may not have heard of, */
+    uint32_t count;         /* at so many places, */
+    uint32_t said;          /* the first of which were said on this connection */
+    uint32_t open;          /* questions that were asked, or pages that are to be lent */
+    uint8_t name[16];       /* of the session */
+    uint8_t link;           /* 0: none, 1: hello was said, 2: nothing is open, 3: questions are, 4: a lend is */
+    bool has_name;
+    bool unknown; /* what a lend has given, since its reply was lost, and no welcome has come */
+};
+
+/* What became of a page that was to be lent, as the host says it. */
+struct pageshare_window_lent {
+    uint64_t slot;
+    uint32_t frame;
+    uint32_t sharers;
+};
+
+/* What a welcome means. */
+enum pageshare_window_welcomed {
+    PAGESHARE_WINDOW_UNASKED = 0,  /* no hello is open: nothing changed */
+    PAGESHARE_WINDOW_TAKEN_UP = 1, /* the session has its slots, and a lend whose reply was lost has given none */
+    PAGESHARE_WINDOW_BEGUN = 2     /* another session: no slot of before is the client's */
+};
+
+/*
+ * A connection begins. Returns whether its hello takes a session up, and writes this one's name and count. Then a welcome to a session with
+ * this name was heard: enum pageshare_window_welcomed. And the connection has ended.
+ */
+bool pageshare_window_connect(struct pageshare_window_session *session, uint8_t *name, uint64_t *loans);
+uint8_t pageshare_window_welcome(struct pageshare_window_session *session, const uint8_t *name);
+void pageshare_window_disconnect(struct pageshare_window_session *session);
+/* So many questions are to be asked, or pages to be lent. Returns whether they may be: else nothing is said. */
+bool pageshare_window_ask(struct pageshare_window_session *session, uint32_t count);
+bool pageshare_window_lend(struct pageshare_window_session *session, uint32_t count);
+/* So many answers were heard, or these loans, of a host with so many frames. Returns whether they are the reply to what was said: else the
+ * connection ends. */
+bool pageshare_window_hear_answers(struct pageshare_window_session *session, uint32_t count);
+bool pageshare_window_hear_loans(struct pageshare_window_session *session, uint32_t frames,
+                                 const struct pageshare_window_lent *loans, size_t count);
+/* Gives slots up whose frames no page shows. Returns whether they are: if not, there may be room after the next reply. */
+bool pageshare_window_give_slots_up(struct pageshare_window_session *session, const uint64_t *slots, size_t count);
+/* Writes which slots are to be released next, at most 128, and returns how many: the message is sent, or the connection ends. */
+size_t pageshare_window_next_release(struct pageshare_window_session *session, uint64_t *slots);
+
 #ifdef __cplusplus
 }
 #endif

@@ -12,7 +12,7 @@
 #include <sys/un.h>
 #include <unistd.h>
 
-enum { FRAMES = 64, BATCHES = REMOTE_UNHEARD / WINDOW_BATCH, CPU = 25, SALT = 9 };
+enum { FRAMES = 64, BATCHES = sizeof((struct remote *)0)->session.unheard / sizeof(uint64_t) / WINDOW_BATCH, CPU = 25, SALT = 9 };
 
 static const uint8_t first_name[PAGESHARE_HOST_NAME_BYTES] = {1}, second_name[PAGESHARE_HOST_NAME_BYTES] = {2};
 static int listener, peer = NOTHING, frames;
@@ -141,10 +141,11 @@ static void use_first_session(struct remote *remote, const char *path) {
     unsigned char seen[2];
     CHECK(remote_connect(remote, path) == REMOTE_NEW && remote->client_cpu == CPU && remote->salt == SALT);
     struct window_lender lender = remote_lender(remote);
-    CHECK(lender.lend(lender.opaque, pages, 2, loans) == 0 && remote->loans == 1);
+    CHECK(lender.lend(lender.opaque, pages, 2, loans) == 0 && remote->session.loans == 1);
     CHECK(lender.release(lender.opaque, slots, 2) == 0);
-    CHECK(lender.lend(lender.opaque, pages, 1, loans) != 0 && remote->loans == 1 && remote->socket < 0);
-    CHECK(remote_connect(remote, path) == REMOTE_RESUMED);
+    CHECK(lender.lend(lender.opaque, pages, 1, loans) != 0 && remote->session.loans == 1 && remote->session.unknown &&
+          remote->socket < 0);
+    CHECK(remote_connect(remote, path) == REMOTE_RESUMED && !remote->session.unknown);
     CHECK(lender.ask(lender.opaque, pages, fingerprints, passing, 1, seen) == 0);
     CHECK(lender.ask(lender.opaque, pages, fingerprints, passing, 1, seen) != 0);
 }
@@ -157,7 +158,7 @@ static void release_much(struct remote *remote, const char *path) {
         for (uint64_t at = 0; at < WINDOW_BATCH; at++) slots[at] = i * WINDOW_BATCH + at;
         CHECK(lender.release(lender.opaque, slots, WINDOW_BATCH) == 0);
     }
-    CHECK(remote->unheard_count == WINDOW_BATCH);
+    CHECK(remote->session.count == WINDOW_BATCH);
     remote_disconnect(remote);
 }
 
@@ -166,7 +167,7 @@ static void use_others(struct remote *remote, const char *path) {
     const uint64_t fingerprint = 3;
     const bool is_passing = false;
     unsigned char seen;
-    CHECK(remote_connect(remote, path) == REMOTE_NEW && remote->loans == 0 && remote->unheard_count == 0);
+    CHECK(remote_connect(remote, path) == REMOTE_NEW && remote->session.loans == 0 && remote->session.count == 0);
     struct window_lender lender = remote_lender(remote);
     CHECK(lender.ask(lender.opaque, &page, &fingerprint, &is_passing, 1, &seen) == 0);
     remote_disconnect(remote);

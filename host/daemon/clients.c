@@ -15,9 +15,11 @@
 #endif
 
 enum {
-    TURN_MESSAGES = 4,          /* of one client in one turn */
-    RELEASED_AT_ONCE = 512,     /* slots of a process that has ended, in one turn */
-    CONNECTIONS_OF_PROCESS = 2, /* an old one, and the one that takes its session up */
+    TURN_MESSAGES = 4,      /* of one client in one turn */
+    RELEASED_AT_ONCE = 512, /* slots of a process that has ended, in one turn */
+    /* An old one, and the one that takes its session up. Once that one's hello is heard the old one has ended, and with two of them there is no
+     * third whose earlier hello could be heard after it, and take the session back. */
+    CONNECTIONS_OF_PROCESS = 2,
     PROCESS_PART = 32,    /* of the connections of a user in a second, how many of one process are taken: one part in so many */
     ACCEPTS_IN_TICK = 50, /* connections that are taken or turned away until the next tick */
     FIRST_PART = 100,     /* a new connection may send one part in so many of its messages of a second until the next tick */

@@ -12,7 +12,10 @@
 
 _Static_assert(WINDOW_BATCH == PAGESHARE_HOST_MAX_PAGES, "a window's batch is a message");
 _Static_assert(WINDOW_NO_FRAME == PAGESHARE_HOST_NO_FRAME, "the same number means no frame");
-_Static_assert(REMOTE_UNHEARD % WINDOW_BATCH == 0, "slots that may be unheard of are whole batches");
+_Static_assert(sizeof(struct pageshare_window_lent) == sizeof(struct pageshare_host_lent),
+               "a page's loan is that of the messages");
+_Static_assert(sizeof((struct pageshare_window_session *)0)->name == PAGESHARE_HOST_NAME_BYTES,
+               "a session's name is that of its messages");
 
 enum { PATIENCE_SECONDS = 5, DESCRIPTORS = 3, HEAD_BYTES = 8 };
 static const size_t buffer_bytes = (size_t)WINDOW_BATCH * WINDOW_PAGE_BYTES;
@@ -31,14 +34,13 @@ static int broken(struct remote *remote, int cause) {
 }
 
 static int say(struct remote *remote, const void *message, size_t bytes) {
-    if (remote->socket < 0) return ENOTCONN;
     ssize_t sent;
     do sent = send(remote->socket, message, bytes, MSG_NOSIGNAL);
     while (sent < 0 && errno == EINTR);
     return sent == (ssize_t)bytes ? 0 : broken(remote, sent < 0 ? errno : EPIPE);
 }
 
-/* Takes a reply of exactly `bytes` bytes, whose head is this kind and count. Then the host has heard of all that was said before. */
+/* Takes a reply of exactly `bytes` bytes, whose head is this kind and count. */
 static int hear(struct remote *remote, void *reply, size_t bytes, uint32_t kind, size_t count) {
     uint32_t head[2];
     ssize_t got;
@@ -46,9 +48,7 @@ static int hear(struct remote *remote, void *reply, size_t bytes, uint32_t kind,
     while (got < 0 && errno == EINTR);
     if (got != (ssize_t)bytes) return broken(remote, got < 0 ? errno : got == 0 ? ECONNRESET : EPROTO);
     memcpy(head, reply, sizeof head);
-    if (head[0] != kind || head[1] != count) return broken(remote, EPROTO);
-    remote->unheard_count = 0;
-    return 0;
+    return head[0] == kind && head[1] == count ? 0 : broken(remote, EPROTO);
 }
 
 /* ---- the lender's calls ---- */
@@ -59,12 +59,14 @@ static int ask(void *opaque, const uint32_t *pages, const uint64_t *fingerprints
     struct pageshare_host_ask message = {.kind = PAGESHARE_HOST_ASK, .count = (uint32_t)count};
     struct pageshare_host_seen answer;
     if (count > WINDOW_BATCH) return EINVAL;
+    if (!pageshare_window_ask(&remote->session, message.count)) return ENOTCONN;
     for (size_t i = 0; i < count; i++) {
         uint64_t page = pages[i] | (passing[i] ? PAGESHARE_HOST_PASSING : 0);
         message.questions[i] = (struct pageshare_host_question){page, fingerprints[i]};
     }
     int cause = say(remote, &message, offsetof(struct pageshare_host_ask, questions) + count * sizeof *message.questions);
     if (cause == 0) cause = hear(remote, &answer, offsetof(struct pageshare_host_seen, seen) + count, PAGESHARE_HOST_SEEN, count);
+    if (cause == 0 && !pageshare_window_hear_answers(&remote->session, answer.count)) cause = broken(remote, EPROTO);
     if (cause == 0 && count > 0) memcpy(seen, answer.seen, count);
     return cause;
 }
@@ -73,48 +75,38 @@ static int lend(void *opaque, const uint32_t *pages, size_t count, struct window
     struct remote *remote = opaque;
     struct pageshare_host_lend message = {.kind = PAGESHARE_HOST_LEND, .count = (uint32_t)count};
     struct pageshare_host_loans answer;
+    struct pageshare_window_lent lent[WINDOW_BATCH];
     (void)pages;
     if (count > WINDOW_BATCH) return EINVAL;
+    if (!pageshare_window_lend(&remote->session, message.count)) return ENOTCONN;
     int cause = say(remote, &message, sizeof message);
     size_t bytes = offsetof(struct pageshare_host_loans, loans) + count * sizeof *answer.loans;
     if (cause == 0) cause = hear(remote, &answer, bytes, PAGESHARE_HOST_LOANS, count);
-    for (size_t i = 0; cause == 0 && i < count; i++) {
-        bool is_lent = answer.loans[i].frame != PAGESHARE_HOST_NO_FRAME;
-        if (is_lent && (answer.loans[i].frame >= remote->frame_count || !window_is_slot(answer.loans[i].slot)))
-            cause = broken(remote, EPROTO);
-    }
-    for (size_t i = 0; cause == 0 && i < count; i++)
-        loans[i] = (struct window_loan){.frame = answer.loans[i].frame, .slot = answer.loans[i].slot};
-    remote->loans += cause == 0; /* (slots of a reply that isn't counted are released when the session is taken up) */
-    return cause;
-}
-
-static int say_released(struct remote *remote, const uint64_t *slots, size_t count) {
-    struct pageshare_host_release message = {.kind = PAGESHARE_HOST_RELEASE, .count = (uint32_t)count};
-    memcpy(message.slots, slots, count * sizeof *slots);
-    return say(remote, &message, offsetof(struct pageshare_host_release, slots) + count * sizeof *slots);
-}
-
-/* A release has no reply, so its slots are kept until the next reply of the host: one that got lost is said again. */
-static int release(void *opaque, const uint64_t *slots, size_t count) {
-    struct remote *remote = opaque;
-    if (count > WINDOW_BATCH) return EINVAL;
-    int cause = remote->unheard_count + count > REMOTE_UNHEARD ? ask(remote, NULL, NULL, NULL, 0, NULL) : 0;
-    if (cause == 0) cause = say_released(remote, slots, count);
     if (cause != 0) return cause;
-    memcpy(remote->unheard + remote->unheard_count, slots, count * sizeof *slots);
-    remote->unheard_count += count;
+    memcpy(lent, answer.loans, count * sizeof *lent);
+    if (!pageshare_window_hear_loans(&remote->session, remote->frame_count, lent, count)) return broken(remote, EPROTO);
+    for (size_t i = 0; i < count; i++) loans[i] = (struct window_loan){.frame = lent[i].frame, .slot = lent[i].slot};
     return 0;
 }
 
-/* Says again what the host may not have heard. A slot that it has released already stays as it is. */
-static bool release_again(struct remote *remote) {
-    for (size_t done = 0; done < remote->unheard_count; done += WINDOW_BATCH) {
-        size_t left = remote->unheard_count - done;
-        int cause = say_released(remote, remote->unheard + done, left < WINDOW_BATCH ? left : WINDOW_BATCH);
-        if (cause != 0) return (errno = cause, false);
+/* Says which slots are to be released, if any are. Where that fails, the next connection says them again. */
+static int say_releases(struct remote *remote) {
+    struct pageshare_host_release message = {.kind = PAGESHARE_HOST_RELEASE};
+    int cause = 0;
+    while (cause == 0 && (message.count = (uint32_t)pageshare_window_next_release(&remote->session, message.slots)) > 0)
+        cause = say(remote, &message, offsetof(struct pageshare_host_release, slots) + message.count * sizeof *message.slots);
+    return cause;
+}
+
+static int release(void *opaque, const uint64_t *slots, size_t count) {
+    struct remote *remote = opaque;
+    if (!pageshare_window_give_slots_up(&remote->session, slots, count)) { /* a reply makes room for them */
+        int cause = ask(remote, NULL, NULL, NULL, 0, NULL);
+        if (cause != 0) return cause;
+        if (!pageshare_window_give_slots_up(&remote->session, slots, count)) return EINVAL;
     }
-    return true;
+    say_releases(remote);
+    return 0;
 }
 
 struct window_lender remote_lender(struct remote *remote) {
@@ -167,9 +159,10 @@ static bool hear_welcome(struct remote *remote, struct pageshare_host_welcome *w
 }
 
 static bool say_hello(struct remote *remote) {
-    struct pageshare_host_hello hello = {.kind = PAGESHARE_HOST_HELLO, .version = PAGESHARE_HOST_VERSION, .loans = remote->loans};
-    memcpy(hello.name, remote->name, sizeof hello.name);
-    return say(remote, &hello, remote->has_name ? sizeof hello : offsetof(struct pageshare_host_hello, name)) == 0;
+    struct pageshare_host_hello hello = {.kind = PAGESHARE_HOST_HELLO, .version = PAGESHARE_HOST_VERSION};
+    bool names = pageshare_window_connect(&remote->session, hello.name, &hello.loans);
+    int cause = say(remote, &hello, names ? sizeof hello : offsetof(struct pageshare_host_hello, name));
+    return cause == 0 || (errno = cause, false);
 }
 
 /* Maps the buffer, in the place of the last one, whose address the windows know. */
@@ -182,14 +175,14 @@ static bool map_buffer(struct remote *remote, int buffer) {
     return true;
 }
 
-/* Takes over what came with WELCOME. `is_same`: it is the session before, whose file of frames is in use already. */
+/* Takes over what came with WELCOME, once nothing can fail any more. `is_same`: it is the session before, whose file of frames is in use already. */
 static bool adopt(struct remote *remote, const struct pageshare_host_welcome *welcome, int got[DESCRIPTORS], bool *is_same) {
     struct stat file, before;
     if (fstat(got[0], &file) != 0 || file.st_size != (off_t)welcome->frames * WINDOW_PAGE_BYTES) return (errno = EPROTO, false);
-    bool has_same_name = remote->has_name && memcmp(remote->name, welcome->name, sizeof welcome->name) == 0;
-    *is_same = has_same_name && file.st_ino == remote->file && welcome->frames == remote->frame_count &&
-               welcome->salt == remote->salt && fstat(remote->frames, &before) == 0 && before.st_ino == file.st_ino;
     if (!map_buffer(remote, got[1])) return false;
+    *is_same = pageshare_window_welcome(&remote->session, welcome->name) == PAGESHARE_WINDOW_TAKEN_UP &&
+               file.st_ino == remote->file && welcome->frames == remote->frame_count && welcome->salt == remote->salt &&
+               fstat(remote->frames, &before) == 0 && before.st_ino == file.st_ino;
     if (!*is_same) {
         shut(&remote->frames);
         remote->frames = sharing_own(got[0]);
@@ -203,9 +196,6 @@ static bool adopt(struct remote *remote, const struct pageshare_host_welcome *we
     remote->frame_count = welcome->frames;
     remote->salt = welcome->salt;
     remote->client_cpu = welcome->client_cpu;
-    if (!has_same_name) remote->loans = remote->unheard_count = 0;
-    remote->has_name = true;
-    memcpy(remote->name, welcome->name, sizeof remote->name);
     return true;
 }
 
@@ -214,13 +204,16 @@ enum remote_found remote_connect(struct remote *remote, const char *path) {
     int got[DESCRIPTORS] = {NOTHING, NOTHING, NOTHING};
     bool is_same = false;
     bool good = open_socket(remote, path) && say_hello(remote) && hear_welcome(remote, &welcome, got) &&
-                adopt(remote, &welcome, got, &is_same) && (!is_same || release_again(remote));
-    int cause = errno;
+                adopt(remote, &welcome, got, &is_same);
+    int cause = good ? say_releases(remote) : errno;
     for (int i = 0; i < DESCRIPTORS; i++) shut(&got[i]);
-    if (good) return is_same ? REMOTE_RESUMED : REMOTE_NEW;
+    if (good && cause == 0) return is_same ? REMOTE_RESUMED : REMOTE_NEW;
     remote_disconnect(remote);
     errno = cause;
     return REMOTE_NONE;
 }
 
-void remote_disconnect(struct remote *remote) { shut(&remote->socket); }
+void remote_disconnect(struct remote *remote) {
+    pageshare_window_disconnect(&remote->session);
+    shut(&remote->socket);
+}

@@ -8,10 +8,9 @@
 
 #include "lender.h"
 #include "pageshare_host.h"
+#include "pageshare_window.h"
 #include <stdbool.h>
 #include <sys/types.h>
-
-enum { REMOTE_UNHEARD = 8 * WINDOW_BATCH };
 
 struct remote {
     int socket;        /* NOTHING if there is no connection */
@@ -19,13 +18,9 @@ struct remote {
     int faults_device; /* /dev/userfaultfd, or NOTHING if the host had none to give */
     unsigned char (*pages)[WINDOW_PAGE_BYTES];
     uint32_t frame_count, salt;
-    uint32_t client_cpu; /* the percentage of one processor that the host grants, or 0: it says nothing */
-    bool has_name;
-    uint8_t name[PAGESHARE_HOST_NAME_BYTES]; /* the session's: a new connection takes it up by this name */
-    uint64_t loans;                          /* how many replies to a lend were got in the session */
-    uint64_t unheard[REMOTE_UNHEARD]; /* slots that were given up since the last reply: the host may not have heard of it */
-    size_t unheard_count;
-    ino_t file; /* of the frames' file, so that another host's is known */
+    uint32_t client_cpu;                     /* the percentage of one processor that the host grants, or 0: it says nothing */
+    ino_t file;                              /* of the frames' file, so that another host's is known */
+    struct pageshare_window_session session; /* what is said next, and what it has of slots */
 };
 
 /* What a connection is. */

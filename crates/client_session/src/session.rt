@@ -16,11 +16,11 @@ pub const MAX_UNHEARD: usize = 1024;
 /// The client's half of a session: what it keeps while connections come and go.
 #[derive(Drop)]
 pub struct ClientSession {
-    name: Option<Name>,
-    loans: u64,
-    unheard: ArrayVec<u64, MAX_UNHEARD>,
-    said: usize,
-    link: Link,
+    pub(crate) name: Option<Name>,
+    pub(crate) loans: u64,
+    pub(crate) unheard: ArrayVec<u64, MAX_UNHEARD>,
+    pub(crate) said: usize,
+    pub(crate) link: Link,
     pub(crate) unknown: bool,
 }
 

@@ -5,6 +5,7 @@ use Rattle.std.proofs.lemmas.List.{get_or-set_same, get_or-set_other, set_past, 
 use Rattle.lent_slots.specs.declared.holding.Holding.{Holding}
 use Rattle.lent_slots.specs.Slots.{MachineView, holding, is_of, released_by, released}
 use Rattle.lent_slots.proofs.SlotLists.{held_within, set_same, set_other}
+use Rattle.host_sessions.proofs.Gained.{released_held}
 use Rattle.share_domain.specs.declared.holding.Slot.{Slot}
 use Rattle.share_domain.specs.Domains.{DomainView, with_machines, with_released, machine_at, no_machine, held_in, after_release}
 
@@ -36,21 +37,7 @@ other_held d client slot s ne = pick (is_of client (held_in d.machines slot)) wh
   pick false = refl
   pick true = there (cases_eq s.machine slot.machine)
 
--- a slot that a client holds
-a_holding : (client : ℕ) (o : Option Holding) → is_of client o ≡ true → (h : Holding) × (o ≡ Some h)
-a_holding client None e = cc
-a_holding client (Some h) e = (h, refl)
-
-none_past : (ppn : ℕ) (v : MachineView) (h : Holding) → v ≡ no_machine → holding v.slots ppn ≡ Some h → ⊥
-none_past ppn v h e f = let g : holding no_machine.slots ppn ≡ Some h = subst (λ (x : MachineView). holding x.slots ppn ≡ Some h) e f in cc
-
 pub own_held : (d : DomainView) (client : ℕ) (slot : Slot) → is_of client (held_in d.machines slot) ≡ true → held_in (after_release client slot d).machines slot ≡ None
 own_held d client slot is =
-    let x = a_holding client (held_in d.machines slot) is in
-    ap (λ (b : Bool). held_in (let y : DomainView = cond b (with_machines d (with_released slot d.machines)) d in y.machines) slot) is ∙ within x.0 x.1 (cases_lt slot.machine (length d.machines)) where
-      within : (h : Holding) → held_in d.machines slot ≡ Some h → (slot.machine < length d.machines) ⊎ (length d.machines ≤ slot.machine) → held_in (with_released slot d.machines) slot ≡ None
-      within h e (inr l) = absurd (none_past slot.ppn (machine_at d.machines slot.machine) h (get_or_past d.machines slot.machine no_machine l) e)
-      within h e (inl l) =
-          ap (λ (v : MachineView). holding v.slots slot.ppn) (get_or-set_same d.machines slot.machine (released slot.ppn (machine_at d.machines slot.machine)) no_machine l)
-          ∙ ap (λ (o : Option Holding). holding (released_by (machine_at d.machines slot.machine) slot.ppn o).slots slot.ppn) e
-          ∙ set_same (machine_at d.machines slot.machine).slots slot.ppn None (held_within (machine_at d.machines slot.machine).slots slot.ppn h e)
+    ap (λ (b : Bool). held_in (let y : DomainView = cond b (with_machines d (with_released slot d.machines)) d in y.machines) slot) is
+    ∙ released_held d.machines client slot is

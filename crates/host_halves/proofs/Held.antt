@@ -37,7 +37,7 @@ same_frames client slot d = pick (is_of client (held_in d.machines slot)) where
 stays : (client : ℕ) (slot : Slot) (d : DomainView) → is_of client (held_in d.machines slot) ≡ false → after_release client slot d ≡ d
 stays client slot d e = ap (λ (b : Bool). cond b (with_machines d (with_released slot d.machines)) d) e
 
-not_its : (client frames machine : ℕ) (o : Option Holding) → is_of client o ≡ false → frame_if client frames machine o ≡ None
+pub not_its : (client frames machine : ℕ) (o : Option Holding) → is_of client o ≡ false → frame_if client frames machine o ≡ None
 not_its client frames machine None e = refl
 not_its client frames machine (Some h) e = ap (λ (b : Bool). cond b (Some (region_frame frames machine h.frame)) None) e
 

@@ -1,3 +1,5 @@
 pub mod Freed
 pub mod Lent
 pub mod Held
+pub mod Others
+pub mod Ended

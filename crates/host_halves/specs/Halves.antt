@@ -1,5 +1,5 @@
 -- A session of a host as the host's half of a session.
-use Rattle.std.specs.Prelude.{◌≡◌, ℕ, ◌<◌, ◌≤◌, ◌==◌, nat_eq, false, if◌then◌else◌, List, [], length, Option, Some, None}
+use Rattle.std.specs.Prelude.{◌≡◌, ℕ, Bool, ◌⊎◌, ◌<◌, ◌≤◌, ◌==◌, nat_eq, false, if◌then◌else◌, List, [], length, Option, Some, None}
 use Rattle.lent_slots.specs.declared.holding.Holding.{Holding}
 use Rattle.share_domain.specs.declared.number.TheConstants.{SLOTS_APART, NO_FRAME}
 use Rattle.share_domain.specs.Domains.{DomainView, machine_at, held_in, region_frame, entered}
@@ -8,6 +8,14 @@ use Rattle.host_sessions.specs.declared.session.Begun.{Begun}
 use Rattle.host_messages.specs.declared.item.Lent.{Lent}
 use Rattle.host_sessions.specs.Table.{heard, heard_with, lost_of, new_session}
 use Rattle.host_sessions.specs.Table as table
+use Rattle.host_sessions.specs.Table.{session_at, last_at}
+use Rattle.host_sessions.specs.declared.answer.Received.{Received}
+use Rattle.host_sessions.specs.declared.answer.Received.TheVariants as got
+use Rattle.host_sessions.specs.declared.session.Session.{Session}
+use Rattle.host_sessions.specs.declared.session.Session.TheVariants as session
+use Rattle.host_sessions.specs.Ends.{Ends}
+use Rattle.host_sessions.specs.Own.{HasOwn}
+use Rattle.host_sessions.specs.Steps.{HostView, Receives}
 use Rattle.host_sessions.specs.Turns.{after_releases, slots_in, LendsInTurn}
 use Rattle.session_laws.specs.World.{HostSide, fresh, released, resumed, lent, AreFree}
 
@@ -54,3 +62,45 @@ abbrev pub BeginsHalf : Type 0
 BeginsHalf =
     (name : List ℕ) (client : ℕ) (d : DomainView) → ((number : ℕ) → frame_for client d number ≡ None) →
     IsHalf (new_session name client) [] (entered d (Some client)) (fresh name)
+
+-- ---- what other sessions do
+
+-- session number k of a host is this half
+pub record HasHalf (k : ℕ) (b : Begun) (v : HostView) (h : HostSide) : Type 0 where
+  pub begun : session_at v.sessions k ≡ session.Begun b
+  pub half : IsHalf b (last_at v.last k) v.domain h
+
+-- a packet took session number k up
+abbrev pub takes_up : ℕ → Received → Bool
+takes_up k got.NoSession = false
+takes_up k (got.Fault f) = false
+takes_up k (got.Welcome welcome) = false
+takes_up k (got.Resumed welcome before freed) = before == k
+takes_up k (got.Seen answers) = false
+takes_up k (got.Loans loans) = false
+takes_up k (got.Released freed) = false
+
+-- A packet of another connection leaves a session's half as it is, unless it takes the session up.
+abbrev pub OthersKeepHalf : Type 0
+OthersKeepHalf =
+    (n k : ℕ) (bytes : List ℕ) (pages : List (List ℕ)) (received : Received) (old new : HostView) (b : Begun) (h : HostSide) →
+    HasOwn old → (k ≡ n → ⊥) → takes_up k received ≡ false → Receives n bytes pages received old new → HasHalf k b old h → HasHalf k b new h
+
+-- ---- the end of a process
+
+-- The end of another session leaves it as it is, too.
+abbrev pub EndsKeepHalf : Type 0
+EndsKeepHalf =
+    (n k : ℕ) (result : Option ℕ) (room after : List ℕ) (old new : HostView) (b : Begun) (h : HostSide) →
+    HasOwn old → (k ≡ n → ⊥) → Ends n (session_at old.sessions n) result room after old new → HasHalf k b old h → HasHalf k b new h
+
+-- Its own end frees slots, and changes no other one. When none is released any more, the half has none, and the session is gone.
+pub record EndedHalf (n : ℕ) (b : Begun) (count : ℕ) (new : HostView) (h : HostSide) : Type 0 where
+  pub held : (number : ℕ) → (frame_for b.client new.domain number ≡ h.held number) ⊎ (frame_for b.client new.domain number ≡ None)
+  pub none : count ≡ 0 → (number : ℕ) → h.held number ≡ None
+  pub gone : count ≡ 0 → session_at new.sessions n ≡ session.Free
+
+abbrev pub EndsHalf : Type 0
+EndsHalf =
+    (n count : ℕ) (room after : List ℕ) (old new : HostView) (b : Begun) (h : HostSide) →
+    HasOwn old → n < length old.sessions → Ends n (session.Begun b) (Some count) room after old new → HasHalf n b old h → EndedHalf n b count new h

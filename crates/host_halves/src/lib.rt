@@ -3,7 +3,7 @@
 //! The laws hold for every domain and session. The functions' bodies are empty: the contract is all there is.
 #![tactic(auto)]
 
-ghost use Rattle.host_halves.specs.Halves.{BeginsHalf, LendsHalf, ReleasesHalf, ResumesHalf};
+ghost use Rattle.host_halves.specs.Halves.{BeginsHalf, EndsHalf, EndsKeepHalf, LendsHalf, OthersKeepHalf, ReleasesHalf, ResumesHalf};
 
 /// What a session's `Release` does to the domain is what it does to the half.
 pub fn release_law()
@@ -24,4 +24,16 @@ pub fn lend_law()
 /// A session that begins is the half of one that has just begun. The premise is that its client has no slots.
 pub fn begin_law()
     ensures { BeginsHalf }
+{}
+
+/// Packets and ends of other sessions leave a session's half as it is, unless a packet takes the session up. The premise is that each
+/// session's client is its own, as `clients_law` of `host_sessions` has it.
+pub fn others_law()
+    ensures packets { OthersKeepHalf }
+    ensures ends { EndsKeepHalf }
+{}
+
+/// A session's end frees slots of its half, and changes no other one. Where it frees none any more, the half has none.
+pub fn end_law()
+    ensures { EndsHalf }
 {}

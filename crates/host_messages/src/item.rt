@@ -20,6 +20,7 @@ pub struct Question {
 }
 
 /// What became of a page that was to be lent.
+#[repr(C)]
 #[derive(Clone, Copy, Debug, Default, PartialEq, Eq)]
 pub struct Lent {
     /// The page's slot, 0 if the page isn't lent.

@@ -1,5 +1,5 @@
 -- What a packet of a session leaves of the slots of every client that doesn't have the session afterwards.
-use Rattle.std.proofs.Common.{◌≡◌, ℕ, ◌<◌, ◌≤◌, List, [], length, take, Option, Some, None, Result, Ok, Err, inl, inr, refl, sym, ap, subst, ◌∙◌, true, false, Bool, arith}
+use Rattle.std.proofs.Common.{◌≡◌, ℕ, ◌<◌, ◌≤◌, List, [], length, take, Option, Some, None, Result, Ok, Err, inl, inr, refl, sym, ap, subst, ◌∙◌, true, false, Bool, cond, ◌∷◌, arith}
 use Rattle.std.specs.Prelude.{slice_set}
 use Rattle.std.proofs.lemmas.Bool.{cases_lt, cases_Bool, false≢true}
 use Rattle.std.proofs.lemmas.List.{get_or-set_same, get_or_past, length-set}
@@ -8,7 +8,13 @@ use Rattle.host_messages.specs.declared.client.ClientMessage.TheVariants as clie
 use Rattle.host_messages.specs.declared.fault.MessageFault.{MessageFault}
 use Rattle.host_messages.specs.declared.limits.TheConstants.{MAX_IN_MESSAGE}
 use Rattle.host_messages.specs.Reading.{client_at}
-use Rattle.share_domain.specs.Domains.{next_client, held_in}
+use Rattle.lent_slots.specs.Slots.{is_of}
+use Rattle.share_domain.specs.declared.holding.Slot.{Slot}
+use Rattle.share_domain.specs.declared.holding.Loan.{Loan}
+use Rattle.share_domain.specs.declared.fault.LendFault.{LendFault}
+use Rattle.share_domain.specs.Domains.{DomainView, next_client, held_in, with_machines, with_released, after_release}
+use Rattle.share_domain.specs.Numbers.{slot_by}
+use Rattle.share_domain.specs.Totals.{slots_of}
 use Rattle.lent_slots.specs.Slots.{MachineView}
 use Rattle.host_sessions.specs.declared.answer.Received.{Received}
 use Rattle.host_sessions.specs.declared.session.SessionFault.{SessionFault}
@@ -17,28 +23,79 @@ use Rattle.host_sessions.specs.declared.session.Begun.{Begun}
 use Rattle.host_sessions.specs.declared.session.Session.{Session}
 use Rattle.host_sessions.specs.declared.session.Session.TheVariants as session
 use Rattle.host_sessions.specs.Table.{takes, session_at, wanted_in, loans_of, begun_of, heard, heard_with, lent, lost_of, last_at}
-use Rattle.host_sessions.specs.Turns.{after_releases}
+use Rattle.host_messages.specs.declared.item.Lent.{Lent}
+use Rattle.host_sessions.specs.Turns.{after_releases, Answers, LendsOne, LendsInTurn}
 use Rattle.host_sessions.specs.Steps.{HostView, Breaks, Greets, Begins, Resumes, TakesUp, Opens, Talks, Steps, LendsFirst, Releases, Hears, Receives}
-use Rattle.host_sessions.specs.Others.{Spares, SparesOthers}
+use Rattle.host_sessions.specs.Others.{Spares, Stays, SparesOthers}
 use Rattle.host_sessions.proofs.Spared.{releases_spare, lends_spare}
+use Rattle.host_sessions.proofs.Gained.{releases_gain, lends_gain}
 
 -- no slot at all changed
-same_machines : (s : Session) (old new : HostView) → new.domain.machines ≡ old.domain.machines → SparesOthers s old.domain new.domain
-same_machines session.Free old new e slot is = ap (λ (ms : List MachineView). held_in ms slot) e
-same_machines (session.Silent name) old new e slot is = ap (λ (ms : List MachineView). held_in ms slot) e
-same_machines (session.Refused fault) old new e slot is = ap (λ (ms : List MachineView). held_in ms slot) e
-same_machines (session.Begun b) old new e slot is = ap (λ (ms : List MachineView). held_in ms slot) e
+no_slot : (s : Session) (a b : DomainView) → b.machines ≡ a.machines → Stays s a b
+no_slot session.Free a b e slot is = ap (λ (ms : List MachineView). held_in ms slot) e
+no_slot (session.Silent name) a b e slot is = ap (λ (ms : List MachineView). held_in ms slot) e
+no_slot (session.Refused fault) a b e slot is = ap (λ (ms : List MachineView). held_in ms slot) e
+no_slot (session.Begun c) a b e slot is = ap (λ (ms : List MachineView). held_in ms slot) e
+
+pub same_machines : (s : Session) (old new : DomainView) → new.frames ≡ old.frames → new.machines ≡ old.machines → SparesOthers s old new
+same_machines s old new f e = record { frames = f; stay = no_slot s old new e; no_more = no_slot s new old (sym e) }
+
+pub same_domain : (s : Session) (old new : DomainView) → new ≡ old → SparesOthers s old new
+same_domain s old new e = same_machines s old new (ap (λ (d : DomainView). d.frames) e) (ap (λ (d : DomainView). d.machines) e)
 
 breaks : (s : Session) (n : ℕ) (t : Session) (f : SessionFault) (received : Received) (old new : HostView) → Breaks n t f received old new → SparesOthers s old.domain new.domain
-breaks s n t f received old new b = same_machines s old new (ap (λ (h : HostView). h.domain.machines) b.1)
+breaks s n t f received old new b = same_domain s old.domain new.domain (ap (λ (h : HostView). h.domain) b.1)
 
 -- the session that was put in its place
 put_there : (sessions : List Session) (n : ℕ) (s : Session) → n < length sessions → session_at (slice_set sessions n s) n ≡ s
 put_there sessions n s lt = get_or-set_same sessions n s session.Free lt
 
 -- of this client's session other clients' slots stay
-spares_begun : (b : Begun) (s : Session) (old new : HostView) → s ≡ session.Begun b → Spares b.client old.domain new.domain → SparesOthers s old.domain new.domain
-spares_begun b s old new e p = subst (λ (x : Session). SparesOthers x old.domain new.domain) (sym e) p
+pub spares_begun : (b : Begun) (s : Session) (old new : DomainView) → s ≡ session.Begun b → new.frames ≡ old.frames → Spares b.client old new → Spares b.client new old → SparesOthers s old new
+spares_begun b s old new e f p q = record {
+  frames = f;
+  stay = subst (λ (x : Session). Stays x old new) (sym e) p;
+  no_more = subst (λ (x : Session). Stays x new old) (sym e) q;
+}
+
+-- ---- the frames of a domain stay
+
+release_frames : (c : ℕ) (slot : Slot) (d : DomainView) → (after_release c slot d).frames ≡ d.frames
+release_frames c slot d = pick (is_of c (held_in d.machines slot)) where
+  pick : (b : Bool) → (cond b (with_machines d (with_released slot d.machines)) d).frames ≡ d.frames
+  pick true = refl
+  pick false = refl
+
+releases_frames : (c : ℕ) (ss : List ℕ) (d : DomainView) → (after_releases c ss d).frames ≡ d.frames
+unfolding after_releases
+releases_frames c [] d = refl
+releases_frames c (s ∷ ss) d = releases_frames c ss (after_release c (slot_by s) d) ∙ release_frames c (slot_by s) d
+
+answer_frames : (salt c : ℕ) (page : List ℕ) (answer : Result Loan LendFault) (old new : DomainView) → Answers salt c page answer old new → new.frames ≡ old.frames
+answer_frames salt c page (Ok loan) old new a = ap (λ (d : DomainView). d.frames) a.lends.rest
+answer_frames salt c page (Err fault) old new a = ap (λ (d : DomainView). d.frames) a.1
+
+one_frames : (salt c quota : ℕ) (page : List ℕ) (lent : Lent) (old new : DomainView) → LendsOne salt c quota page lent old new → new.frames ≡ old.frames
+one_frames salt c quota page lent old new l =
+    elim (cases_lt (slots_of c old.machines) quota) [
+      | inl lt ↦ let w = l.within lt in answer_frames salt c page w.answer old new w.answers
+      | inr le ↦ ap (λ (d : DomainView). d.frames) (l.full le).1
+    ]
+
+lends_frames : (salt c quota : ℕ) (pages : List (List ℕ)) (loans : List Lent) (old new : DomainView) → LendsInTurn salt c quota pages loans old new → new.frames ≡ old.frames
+unfolding LendsInTurn
+lends_frames salt c quota [] [] old new l = ap (λ (d : DomainView). d.frames) l
+lends_frames salt c quota (page ∷ pages) [] old new l = absurd l
+lends_frames salt c quota [] (lent ∷ loans) old new l = absurd l
+lends_frames salt c quota (page ∷ pages) (lent ∷ loans) old new l = lends_frames salt c quota pages loans l.0 new l.2 ∙ one_frames salt c quota page lent old l.0 l.1
+
+-- ---- a packet
+
+-- slots of this session's client were released
+released_in : (b : Begun) (s : Session) (ss : List ℕ) (old new : DomainView) → s ≡ session.Begun b → new ≡ after_releases b.client ss old → SparesOthers s old new
+released_in b s ss old new e now =
+    subst (λ (d : DomainView). SparesOthers s old d) (sym now)
+    (spares_begun b s old (after_releases b.client ss old) e (releases_frames b.client ss old) (releases_spare b.client ss old) (releases_gain b.client ss old))
 
 resumes : (n before : ℕ) (b : Begun) (loans : ℕ) (lost : List ℕ) (received : Received) (old new : HostView) → n < length old.sessions
     → Resumes n before b loans lost received old new → SparesOthers (session_at new.sessions n) old.domain new.domain
@@ -46,17 +103,16 @@ resumes n before b loans lost received old new lt r =
     let sessions = slice_set old.sessions before session.Free in
     let now : Begun = heard_with b loans in
     let there : session_at new.sessions n ≡ session.Begun now = ap (λ (h : HostView). session_at h.sessions n) r.now ∙ put_there sessions n (session.Begun now) (omega (arith, lt, length-set old.sessions before session.Free)) in
-    spares_begun now (session_at new.sessions n) old new there
-    (λ slot is. ap (λ (h : HostView). held_in h.domain.machines slot) r.now ∙ releases_spare b.client lost old.domain slot is)
+    released_in now (session_at new.sessions n) lost old.domain new.domain there (ap (λ (h : HostView). h.domain) r.now)
 
 takes_up : (n before : ℕ) (o : Option Begun) (loans : ℕ) (received : Received) (old new : HostView) → n < length old.sessions
     → TakesUp n before o loans received old new → SparesOthers (session_at new.sessions n) old.domain new.domain
-takes_up n before None loans received old new lt t = same_machines (session_at new.sessions n) old new (ap (λ (h : HostView). h.domain.machines) t.1)
+takes_up n before None loans received old new lt t = same_domain (session_at new.sessions n) old.domain new.domain (ap (λ (h : HostView). h.domain) t.1)
 takes_up n before (Some b) loans received old new lt t = resumes n before b loans (lost_of b loans (last_at old.last before)) received old new lt t
 
 begins : (s : Session) (n : ℕ) (name : List ℕ) (o : Option ℕ) (received : Received) (old new : HostView) → Begins n name o received old new → SparesOthers s old.domain new.domain
 begins s n name None received old new b = breaks s n (session.Silent name) fault.Clients received old new b
-begins s n name (Some c) received old new b = same_machines s old new (ap (λ (h : HostView). h.domain.machines) b.1)
+begins s n name (Some c) received old new b = same_machines s old.domain new.domain (ap (λ (h : HostView). h.domain.frames) b.1) (ap (λ (h : HostView). h.domain.machines) b.1)
 
 greets : (n : ℕ) (name : List ℕ) (o : Option ℕ) (loans : ℕ) (received : Received) (old new : HostView) → n < length old.sessions
     → Greets n name o loans received old new → SparesOthers (session_at new.sessions n) old.domain new.domain
@@ -81,7 +137,8 @@ lends_first n b count pages received old new lt l =
             let w = l.enough few le in
             let now : Begun = lent b in
             let there : session_at new.sessions n ≡ session.Begun now = ap (λ (h : HostView). session_at h.sessions n) w.now ∙ put_there old.sessions n (session.Begun now) lt in
-            spares_begun now (session_at new.sessions n) old new there (lends_spare old.salt b.client old.quota (take count pages) w.loans old.domain new.domain w.lends)
+            let turns = w.lends in
+            spares_begun now (session_at new.sessions n) old.domain new.domain there (lends_frames old.salt b.client old.quota (take count pages) w.loans old.domain new.domain turns) (lends_spare old.salt b.client old.quota (take count pages) w.loans old.domain new.domain turns) (lends_gain old.salt b.client old.quota (take count pages) w.loans old.domain new.domain turns)
       ]
     ]
 
@@ -90,20 +147,19 @@ releases : (n : ℕ) (b : Begun) (slots : List ℕ) (received : Received) (old n
 releases n b slots received old new lt t =
     let now : Begun = heard b in
     let there : session_at new.sessions n ≡ session.Begun now = ap (λ (h : HostView). session_at h.sessions n) t.now ∙ put_there old.sessions n (session.Begun now) lt in
-    spares_begun now (session_at new.sessions n) old new there
-    (λ slot is. ap (λ (h : HostView). held_in h.domain.machines slot) t.now ∙ releases_spare b.client slots old.domain slot is)
+    released_in now (session_at new.sessions n) slots old.domain new.domain there (ap (λ (h : HostView). h.domain) t.now)
 
 talks : (n : ℕ) (pages : List (List ℕ)) (b : Begun) (m : ClientMessage) (received : Received) (old new : HostView) → n < length old.sessions
     → Talks n pages b m received old new → SparesOthers (session_at new.sessions n) old.domain new.domain
 talks n pages b (client.Hello wanted) received old new lt t = breaks (session_at new.sessions n) n (session.Begun b) fault.Again received old new t
-talks n pages b (client.Ask questions) received old new lt t = same_machines (session_at new.sessions n) old new (ap (λ (h : HostView). h.domain.machines) t.now)
+talks n pages b (client.Ask questions) received old new lt t = same_domain (session_at new.sessions n) old.domain new.domain (ap (λ (h : HostView). h.domain) t.now)
 talks n pages b (client.Lend count) received old new lt t = lends_first n b count pages received old new lt t
 talks n pages b (client.Release slots) received old new lt t = releases n b slots.items received old new lt t
 
 steps : (n : ℕ) (pages : List (List ℕ)) (s : Session) (m : ClientMessage) (received : Received) (old new : HostView) → n < length old.sessions
     → Steps n pages s m received old new → SparesOthers (session_at new.sessions n) old.domain new.domain
-steps n pages session.Free m received old new lt p = same_machines (session_at new.sessions n) old new (ap (λ (h : HostView). h.domain.machines) p.1)
-steps n pages (session.Refused first) m received old new lt p = same_machines (session_at new.sessions n) old new (ap (λ (h : HostView). h.domain.machines) p.1)
+steps n pages session.Free m received old new lt p = same_domain (session_at new.sessions n) old.domain new.domain (ap (λ (h : HostView). h.domain) p.1)
+steps n pages (session.Refused first) m received old new lt p = same_domain (session_at new.sessions n) old.domain new.domain (ap (λ (h : HostView). h.domain) p.1)
 steps n pages (session.Silent name) m received old new lt p = opens n name m received old new lt p
 steps n pages (session.Begun b) m received old new lt p = talks n pages b m received old new lt p
 
@@ -128,5 +184,5 @@ pub receives_spare : (n : ℕ) (bytes : List ℕ) (pages : List (List ℕ)) (rec
 receives_spare n bytes pages received old new p =
     elim (cases_Bool (takes (session_at old.sessions n))) [
       | inl took ↦ hears n pages (session_at old.sessions n) (client_at bytes) received old new (is_there old.sessions n took) (p.heard-if took)
-      | inr idle ↦ same_machines (session_at new.sessions n) old new (ap (λ (h : HostView). h.domain.machines) (p.idle-if idle).1)
+      | inr idle ↦ same_domain (session_at new.sessions n) old.domain new.domain (ap (λ (h : HostView). h.domain) (p.idle-if idle).1)
     ]

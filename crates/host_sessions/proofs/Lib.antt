@@ -1,5 +1,6 @@
 pub mod Loops
 pub mod Spared
+pub mod Gained
 pub mod Apart
 pub mod Stay
 pub mod Own

@@ -23,10 +23,10 @@ use Rattle.host_sessions.specs.Turns.{after_releases, Answers, LendsOne, LendsIn
 abbrev record_slot : ℕ → ℕ → Slot
 record_slot machine ppn = record { machine = machine; ppn = ppn }
 
-some-same : {A : Type 0} {x y : A} → Some x ≡ Some y → x ≡ y
+pub some-same : {A : Type 0} {x y : A} → Some x ≡ Some y → x ≡ y
 some-same e = cc
 
-is_anothers : (client : ℕ) (held : Option Holding) → IsAnothers client held → held ≡ None → ⊥
+pub is_anothers : (client : ℕ) (held : Option Holding) → IsAnothers client held → held ≡ None → ⊥
 is_anothers client None is e = is
 is_anothers client (Some h) is e = absurd cc
 
@@ -61,7 +61,7 @@ released_other : (v : MachineView) (ppn other : ℕ) (held : Option Holding) →
 released_other v ppn other None apart = refl
 released_other v ppn other (Some h) apart = set_other v.slots ppn other None apart
 
-at_freed : (ms : List MachineView) (freed : Slot) (ppn : ℕ) → ppn ≢ freed.ppn → holding (machine_at (with_released freed ms) freed.machine).slots ppn ≡ holding (machine_at ms freed.machine).slots ppn
+pub at_freed : (ms : List MachineView) (freed : Slot) (ppn : ℕ) → ppn ≢ freed.ppn → holding (machine_at (with_released freed ms) freed.machine).slots ppn ≡ holding (machine_at ms freed.machine).slots ppn
 at_freed ms freed ppn apart =
     elim (cases_lt freed.machine (length ms)) [
       | inl lt ↦
@@ -88,7 +88,7 @@ freed_spares client freed slot d is true e =
 release_spares : (client : ℕ) (freed : Slot) (d : DomainView) → Spares client d (after_release client freed d)
 release_spares client freed d slot is = freed_spares client freed slot d is (is_of client (held_in d.machines freed)) refl
 
-spares_then : (client : ℕ) (a b c : DomainView) → Spares client a b → Spares client b c → Spares client a c
+pub spares_then : (client : ℕ) (a b c : DomainView) → Spares client a b → Spares client b c → Spares client a c
 spares_then client a b c p q slot is = let e = p slot is in q slot (subst (λ (h : Option Holding). IsAnothers client h) (sym e) is) ∙ e
 
 pub same_spares : (client : ℕ) (old new : DomainView) → new ≡ old → Spares client old new
@@ -136,7 +136,7 @@ first_from_is_of client m (machine ∷ machines) first e = pick (position (is_of
       let here : record_slot m ppn ≡ first = some-same f in
       (0, omega (arith, ap (λ (s : Slot). s.machine) here), ap (λ (k : ℕ). is_of client (holding machine.slots k)) (sym (ap (λ (s : Slot). s.ppn) here)) ∙ (position-Some (is_of client) machine.slots ppn None p).1)
 
-first_is_of : (client : ℕ) (machines : List MachineView) (first : Slot) → first_slot client machines ≡ Some first → is_of client (held_in machines first) ≡ true
+pub first_is_of : (client : ℕ) (machines : List MachineView) (first : Slot) → first_slot client machines ≡ Some first → is_of client (held_in machines first) ≡ true
 first_is_of client machines first e =
     let found = first_from_is_of client 0 machines first e in
     let at : first.machine ≡ found.0 = omega (arith, found.1) in

@@ -34,7 +34,9 @@ use Rattle.host_sessions.specs.Others.{SparesOthers}
 use Rattle.host_sessions.specs.Table.{takes, session_at, wanted_in, loans_of, begun_of, lost_of, last_at}
 use Rattle.host_sessions.specs.Turns.{Answers, LendsOne, after_releases}
 use Rattle.host_sessions.specs.Steps.{HostView, Breaks, Greets, Begins, Resumes, TakesUp, Opens, Talks, Steps, LendsFirst, Hears, Receives}
-use Rattle.host_sessions.proofs.Spared.{machine_other, free_held, leave_spares, same_spares}
+use Rattle.host_sessions.proofs.Apart.{same_domain, spares_begun}
+use Rattle.host_sessions.proofs.Gained.{leave_gains}
+use Rattle.host_sessions.proofs.Spared.{machine_other, free_held, leave_spares}
 
 -- ---- lends: what is held stays held
 
@@ -205,18 +207,15 @@ ends_bytes n (session.Refused fault) result room after old new e = same_host old
 ends_bytes n (session.Begun b) None room after old new e = absurd e
 ends_bytes n (session.Begun b) (Some count) room after old new e = left_bytes b.client e.answer room after old.domain new.domain e.leaves
 
-same_others : (s : Session) (old new : HostView) → new.domain ≡ old.domain → SparesOthers s old.domain new.domain
-same_others session.Free old new e slot is = ap (λ (d : DomainView). held_in d.machines slot) e
-same_others (session.Silent name) old new e slot is = ap (λ (d : DomainView). held_in d.machines slot) e
-same_others (session.Refused fault) old new e slot is = ap (λ (d : DomainView). held_in d.machines slot) e
-same_others (session.Begun b) old new e slot is = ap (λ (d : DomainView). held_in d.machines slot) e
+left_others : (b : Begun) (answer : Option ℕ) (room after : List ℕ) (old new : DomainView)
+    → MatchOption answer (StaysOut b.client room after old new) (λ c. Leaves b.client c room after old new) → SparesOthers (session.Begun b) old new
+left_others b None room after old new l = same_domain (session.Begun b) old new l.now
+left_others b (Some c) room after old new l =
+    spares_begun b (session.Begun b) old new refl (ap (λ (d : DomainView). d.frames) l.now) (leave_spares b.client c room after old new l) (leave_gains b.client c room after old new l)
 
 pub ends_spare : (n : ℕ) (s : Session) (result : Option ℕ) (room after : List ℕ) (old new : HostView) → Ends n s result room after old new → SparesOthers s old.domain new.domain
-ends_spare n session.Free result room after old new e = same_others session.Free old new (ap (λ (h : HostView). h.domain) e.2)
-ends_spare n (session.Silent name) result room after old new e = same_others (session.Silent name) old new (ap (λ (h : HostView). h.domain) e.2)
-ends_spare n (session.Refused fault) result room after old new e = same_others (session.Refused fault) old new (ap (λ (h : HostView). h.domain) e.2)
+ends_spare n session.Free result room after old new e = same_domain session.Free old.domain new.domain (ap (λ (h : HostView). h.domain) e.2)
+ends_spare n (session.Silent name) result room after old new e = same_domain (session.Silent name) old.domain new.domain (ap (λ (h : HostView). h.domain) e.2)
+ends_spare n (session.Refused fault) result room after old new e = same_domain (session.Refused fault) old.domain new.domain (ap (λ (h : HostView). h.domain) e.2)
 ends_spare n (session.Begun b) None room after old new e = absurd e
-ends_spare n (session.Begun b) (Some count) room after old new e = begun e.answer e.leaves where
-  begun : (answer : Option ℕ) → MatchOption answer (StaysOut b.client room after old.domain new.domain) (λ c. Leaves b.client c room after old.domain new.domain) → SparesOthers (session.Begun b) old.domain new.domain
-  begun None l = same_spares b.client old.domain new.domain l.now
-  begun (Some c) l = leave_spares b.client c room after old.domain new.domain l
+ends_spare n (session.Begun b) (Some count) room after old new e = left_others b e.answer room after old.domain new.domain e.leaves

@@ -25,5 +25,11 @@ IsNotOf (session.Begun b) held = IsAnothers b.client held
 abbrev pub Spares : ℕ → DomainView → DomainView → Type 0
 Spares client old new = (slot : Slot) → IsAnothers client (held_in old.machines slot) → held_in new.machines slot ≡ held_in old.machines slot
 
-abbrev pub SparesOthers : Session → DomainView → DomainView → Type 0
-SparesOthers s old new = (slot : Slot) → IsNotOf s (held_in old.machines slot) → held_in new.machines slot ≡ held_in old.machines slot
+abbrev pub Stays : Session → DomainView → DomainView → Type 0
+Stays s old new = (slot : Slot) → IsNotOf s (held_in old.machines slot) → held_in new.machines slot ≡ held_in old.machines slot
+
+-- Every client but the session's has the same slots before and after, with the same frames: it loses none, and it gets none.
+pub record SparesOthers (s : Session) (old new : DomainView) : Type 0 where
+  pub frames : new.frames ≡ old.frames
+  pub stay : Stays s old new
+  pub no_more : Stays s new old

@@ -149,8 +149,8 @@ impl<H: PageHash, A: Allocator> Host<H, A> {
         }
     }
 
-    /// Receives a packet of a session. `pages` are the pages of the buffer that lies beside it. Whatever the bytes are, the slots of
-    /// every client but the one that has the session afterwards stay as they are.
+    /// Receives a packet of a session. `pages` are the pages of the buffer that lies beside it. Whatever the bytes are, every client
+    /// but the one that has the session afterwards has the same slots before and after, with the same frames.
     pub fn receive(&mut self, number: u32, bytes: &[u8], pages: &[Page]) -> Received
         ensures receives { Receives number bytes.now pages.now result self.old self.new }
         ensures others { SparesOthers (session_at self.new.sessions number) self.old.domain self.new.domain }

@@ -4,4 +4,5 @@ pub mod Holds
 pub mod Looks
 pub mod Pages
 pub mod Parts
+pub mod Sessions
 pub mod Tasks
