@@ -1,2 +1,4 @@
 pub mod Found
+pub mod Meets
 pub mod Reflected
+pub mod Tried

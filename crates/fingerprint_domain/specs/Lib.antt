@@ -1,2 +1,3 @@
-pub mod Known
+pub mod Beside
 pub mod Fits
+pub mod Known

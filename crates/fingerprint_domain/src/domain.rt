@@ -10,6 +10,7 @@ ghost use Rattle.page_model.specs.declared.limits.TheConstants.{MAX_FRAMES};
 ghost use Rattle.frame_fingerprints.specs.Held.{is_held};
 ghost use Rattle.fingerprint_domain.specs.Known.{fingerprints_in, with_domain, LendsFound, RefusesFound};
 
+use crate::beside::lend_by;
 use crate::frames::forget_each;
 use frame_fingerprints::FrameFingerprints;
 use machine_frames::Frames;
@@ -98,12 +99,12 @@ impl<H: PageHash, A: Allocator> FingerprintDomain<H, A> {
         self.domain.enter()
     }
 
-    /// Lends a client's page, as [`Domain::lend_beside`] does: beside a frame in use whose bytes have the page's fingerprint, if there
-    /// is one.
+    /// Lends a client's page at a machine with a frame in use whose bytes have the page's fingerprint. If there is none, or each refuses
+    /// the page, it is lent at the first open machine, as [`Domain::lend_at_open`] does.
     ///
     /// # Errors
     ///
-    /// Those of [`Domain::lend_beside`]. Then nothing changed.
+    /// Those of [`Domain::lend_at_open`]. Then nothing changed.
     pub fn lend(&mut self, client: u32, page: &Page) -> Result<Loan, LendFault>
         ensures lends { MatchResult result
             (λ loan. LendsFound self.old.salt client page.now loan self.old.domain self.new.domain)
@@ -112,8 +113,13 @@ impl<H: PageHash, A: Allocator> FingerprintDomain<H, A> {
         ensures bytes { IfOk result (λ _. BytesStay self.old.domain self.new.domain) }
     {
         let fingerprint = FoldHash.hash(self.salt, page);
-        let beside = self.fingerprints.find(fingerprint);
-        let answer = self.domain.lend_beside(beside, client, page);
+        let answer = lend_by(
+            &mut self.domain,
+            &self.fingerprints,
+            fingerprint,
+            client,
+            page,
+        );
         match answer {
             Err(fault) => Err(fault),
             Ok(loan) => {

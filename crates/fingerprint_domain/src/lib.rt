@@ -4,7 +4,9 @@
 //! does. Of a fingerprint it says whether a frame in use has it, however long ago the page was lent.
 #![tactic(auto)]
 
+mod beside;
 mod domain;
 mod frames;
+pub mod laws;
 
 pub use domain::FingerprintDomain;

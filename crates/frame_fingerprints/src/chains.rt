@@ -1,7 +1,7 @@
 //! Frames in chains by the buckets of their fingerprints.
-ghost use Rattle.std.specs.Prelude.{◌≡◌, ◌+◌, ◌<◌, ◌≤◌, Some, None, IsSome, is_some, true, length, map, slice_set};
+ghost use Rattle.std.specs.Prelude.{◌≡◌, ◌+◌, ◌<◌, ◌≤◌, ◌==◌, ◌&&◌, not, Some, None, IsSome, is_some, true, length, map, slice_set};
 ghost use Rattle.frame_fingerprints.specs.Chained.{AreKept, fingerprint_in, heads_after, held_at, node_at, with_before, with_next};
-ghost use Rattle.frame_fingerprints.specs.Held.{Finds};
+ghost use Rattle.frame_fingerprints.specs.Held.{Finds, is_tried};
 
 use crate::node::{NOWHERE, Node};
 use lazy_list::LazyList;
@@ -28,10 +28,11 @@ impl<A: Allocator> Chains<A> {
         self.nodes.get(frame).before != NOWHERE
     }
 
-    // Returns a frame that has the fingerprint, the first one of its chain.
-    pub(crate) fn find(&self, fingerprint: u64) -> Option<u32>
-        requires { AreKept self.now.nodes self.now.heads.items self.now.buckets.factor self.now.buckets.shift }
-        ensures { Finds fingerprint (map fingerprint_in self.now.nodes) result }
+    // Returns a frame that has the fingerprint, the first one of its chain whose part wasn't tried.
+    pub(crate) fn find(&self, fingerprint: u64, each: u32, tried: &[bool]) -> Option<u32>
+        requires kept { AreKept self.now.nodes self.now.heads.items self.now.buckets.factor self.now.buckets.shift }
+        requires each { 1 ≤ each }
+        ensures { Finds fingerprint each tried.now (map fingerprint_in self.now.nodes) result }
     {
         let mut at = self.heads[self.buckets.of(fingerprint) as usize];
         for _ in 0..self.nodes.len() {
@@ -39,7 +40,7 @@ impl<A: Allocator> Chains<A> {
                 return None;
             }
             let node = self.nodes.get(at);
-            if node.fingerprint == fingerprint {
+            if is_sought(&node, at, fingerprint, each, tried) {
                 return Some(at);
             }
             at = node.next;
@@ -100,6 +101,25 @@ impl<A: Allocator> Chains<A> {
             let bucket = from - self.nodes.len();
             self.heads[bucket as usize] = to;
         }
+    }
+}
+
+// Whether a frame's node has the fingerprint, and its part wasn't tried.
+fn is_sought(node: &Node, frame: u32, fingerprint: u64, each: u32, tried: &[bool]) -> bool
+    requires { 1 ≤ each }
+    ensures { result ≡ ((node.now.fingerprint == fingerprint) && not (is_tried each tried.now frame)) }
+{
+    node.fingerprint == fingerprint && !is_tried(each, tried, frame)
+}
+
+// Whether the part of a frame was tried.
+fn is_tried(each: u32, tried: &[bool], frame: u32) -> bool
+    requires { 1 ≤ each }
+    ensures { result ≡ is_tried each tried.now frame }
+{
+    match tried.get((frame / each) as usize) {
+        Some(is) => *is,
+        None => false,
     }
 }
 

@@ -78,14 +78,16 @@ impl<A: Allocator> FrameFingerprints<A> {
     pub fn has(&self, fingerprint: u64) -> bool
         ensures { result ≡ is_held fingerprint self.now.held }
     {
-        self.find(fingerprint).is_some()
+        self.find(fingerprint, 1, &[]).is_some()
     }
 
-    /// Returns a frame that has this fingerprint, any one of several, or `None` if no frame has it.
-    pub fn find(&self, fingerprint: u64) -> Option<u32>
-        ensures { Finds fingerprint self.now.held result }
+    /// Returns a frame that has this fingerprint, any one of several. The frames are in parts of `each` in a row: one that is in a part
+    /// with `true` in `tried` isn't returned, and `None` if all that have the fingerprint are in such parts.
+    pub fn find(&self, fingerprint: u64, each: u32, tried: &[bool]) -> Option<u32>
+        requires { 1 ≤ each }
+        ensures { Finds fingerprint each tried.now self.now.held result }
     {
-        self.chains.find(fingerprint)
+        self.chains.find(fingerprint, each, tried)
     }
 
     /// Whether the fingerprint of a frame is kept.

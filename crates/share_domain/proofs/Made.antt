@@ -38,14 +38,14 @@ more_made machines after done own x slots frames count em ex ec ea =
     ∙ replicate-append-replicate (length done) 1 v ∙ ap (λ (n : ℕ). replicate n v) (sym (length_push done own))
 
 -- the sizes of a new domain
-pub sound_new : (machines slots frames clients : ℕ) → (1 ≤ machines) × (machines ≤ MAX_MACHINES) → slots ≤ MAX_PAGES → frames ≤ MAX_FRAMES → clients ≤ MAX_CLIENTS
+pub sound_new : (machines slots frames clients : ℕ) → (1 ≤ machines) × (machines ≤ MAX_MACHINES) → slots ≤ MAX_PAGES → (1 ≤ frames) × (frames ≤ MAX_FRAMES) → clients ≤ MAX_CLIENTS
     → SoundDomain frames (replicate machines (empty_machine slots frames)) (replicate clients Out)
 sound_new machines slots frames clients some few_slots few_frames few_clients =
     let v : MachineView = empty_machine slots frames in
     let size : length (replicate machines v) ≡ machines = length-replicate machines v in
     let at : (m : ℕ) → m < length (replicate machines v) → machine_at (replicate machines v) m ≡ v = λ m less. get_or-replicate machines m v no_machine (omega (arith, size)) in
     record {
-      few = (omega (arith, size, some.0), omega (arith, size, some.1), few_frames, omega (arith, length-replicate {A = Presence} clients Out));
+      few = (omega (arith, size, some.0), omega (arith, size, some.1), few_frames.1, omega (arith, length-replicate {A = Presence} clients Out), few_frames.0);
       sizes = λ m less. ap (λ (y : MachineView). length y.frames) (at m less) ∙ length-replicate {A = Option (List ℕ)} frames None;
       slots = record { few = λ m less. omega (arith, ap (λ (y : MachineView). length y.slots) (at m less), length-replicate {A = Option Holding} slots None) };
     }

@@ -1,9 +1,9 @@
-pub mod Beside
 pub mod Bytes
 pub mod Domains
 pub mod Given
 pub mod Leaving
 pub mod Made
 pub mod Numbers
-pub mod Totals
+pub mod Open
 pub mod Sound
+pub mod Totals

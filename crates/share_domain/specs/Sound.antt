@@ -12,6 +12,6 @@ pub record HaveFewSlots (machines : List MachineView) : Type 0 where
 
 -- the sizes of a domain's parts
 pub record SoundDomain (frames : ℕ) (machines : List MachineView) (clients : List Presence) : Type 0 where
-  pub few : (1 ≤ length machines) × (length machines ≤ MAX_MACHINES) × (frames ≤ MAX_FRAMES) × (length clients ≤ MAX_CLIENTS)
+  pub few : (1 ≤ length machines) × (length machines ≤ MAX_MACHINES) × (frames ≤ MAX_FRAMES) × (length clients ≤ MAX_CLIENTS) × (1 ≤ frames)
   pub sizes : (m : ℕ) → m < length machines → length (machine_at machines m).frames ≡ frames
   pub slots : HaveFewSlots machines

@@ -1,6 +1,6 @@
 //! The domain.
-ghost use Rattle.std.specs.Prelude.{◌≡◌, ◌*◌, ◌<◌, ◌≤◌, ◌++◌, drop, length, IfOk, IfSome, Some, MatchOption, MatchResult, slice_get};
-ghost use Rattle.share_domain.specs.Beside.{GoesBeside, IsRefusedBeside, first_open};
+ghost use Rattle.std.specs.Prelude.{◌≡◌, ◌/◌, ◌*◌, ◌<◌, ◌≤◌, ◌++◌, drop, length, IfOk, IfSome, Some, MatchOption, MatchResult, slice_get};
+ghost use Rattle.share_domain.specs.Open.{first_open};
 ghost use Rattle.share_domain.specs.Bytes.{BytesStay};
 ghost use Rattle.share_domain.specs.Domains.{next_client, entered, page_machine, LendsIn, RefusesIn, release_answer, after_release};
 ghost use Rattle.share_domain.specs.Domains.{IsIn, held_in, machine_at, with_client, with_machines, with_released, freed_in};
@@ -123,45 +123,43 @@ impl<H: PageHash, A: Allocator> Domain<H, A> {
         }
         let known = self.hash_of(page);
         let m = machine_of(self.machines.len(), known.hash);
-        self.lend_at(m, client, page, known)
+        self.lend_known(m, client, page, known)
     }
 
-    /// Lends a client's page at the machine of a frame, whose number is that among the frames of all machines. If there is no such
-    /// frame, or its machine refuses the page, it goes to the first machine with a free slot and a free frame besides the spare one.
-    ///
-    /// So a caller that knows a frame with the page's bytes lets equal pages meet, as [`lend`](Domain::lend) does. Pages that are
-    /// lent one after the other get frames of one machine. Lend all pages of a domain by one of the two calls.
+    /// Lends a client's page at this machine. So a caller that knows which machine has a frame with the page's bytes lets equal pages meet,
+    /// as [`lend`](Domain::lend) does. Lend all pages of a domain by that call, or all by this one and [`lend_at_open`](Domain::lend_at_open).
     ///
     /// # Errors
     ///
-    /// The client isn't in or has begun to leave, or no machine takes the page: the fault is that of the last one asked, machine 0
-    /// where none is open. Then nothing changed.
-    pub fn lend_beside(
-        &mut self,
-        frame: Option<u32>,
-        client: u32,
-        page: &Page,
-    ) -> Result<Loan, LendFault>
-        requires within { IfSome frame (λ number. number < length self.old.machines * self.old.frames) }
+    /// Those of [`lend`](Domain::lend). Then nothing changed.
+    pub fn lend_at(&mut self, machine: u32, client: u32, page: &Page) -> Result<Loan, LendFault>
+        requires within { machine < length self.old.machines }
         ensures lends { MatchResult result
-            (λ loan. GoesBeside frame client self.old loan.slot.machine × LendsIn loan.slot.machine client page.now loan self.old self.new)
-            (λ fault. IsRefusedBeside frame client self.old × RefusesIn (first_open self.old.machines) client fault self.old × (self.new ≡ self.old)) }
+            (λ loan. LendsIn machine client page.now loan self.old self.new)
+            (λ fault. RefusesIn machine client fault self.old × (self.new ≡ self.old)) }
         ensures bytes { IfOk result (λ _. BytesStay self.old self.new) }
     {
         if !is_in(&self.clients, client) {
             return Err(LendFault::NoClient);
         }
         let known = self.hash_of(page);
-        match frame {
-            None => self.lend_at_open(client, page, known),
-            Some(number) => {
-                let beside = (number / self.frames) as usize;
-                match self.lend_at(beside, client, page, known) {
-                    Ok(loan) => Ok(loan),
-                    Err(_) => self.lend_at_open(client, page, known),
-                }
-            }
-        }
+        self.lend_known(machine as usize, client, page, known)
+    }
+
+    /// Lends a client's page at the first machine with a free slot and a free frame besides the spare one. Pages that are lent one after
+    /// the other then get frames of one machine.
+    ///
+    /// # Errors
+    ///
+    /// The client isn't in or has begun to leave, or no machine is open, and machine 0 refuses the page. Then nothing changed.
+    pub fn lend_at_open(&mut self, client: u32, page: &Page) -> Result<Loan, LendFault>
+        ensures lends { MatchResult result
+            (λ loan. LendsIn (first_open self.old.machines) client page.now loan self.old self.new)
+            (λ fault. RefusesIn (first_open self.old.machines) client fault self.old × (self.new ≡ self.old)) }
+        ensures bytes { IfOk result (λ _. BytesStay self.old self.new) }
+    {
+        let machine = first_open(&self.machines);
+        self.lend_at(machine as u32, client, page)
     }
 
     /// Releases a client's slot, and returns the frame that is free since: that of the slot, unless other slots have it, too.
@@ -239,6 +237,24 @@ impl<H: PageHash, A: Allocator> Domain<H, A> {
         self.machines.len() as u32
     }
 
+    /// Returns how many frames each machine has.
+    pub fn frames_each(&self) -> u32
+        ensures value { result ≡ self.now.frames }
+        ensures some { 1 ≤ result }
+    {
+        self.frames
+    }
+
+    /// Returns which machine has a frame, whose number is that among the frames of all machines.
+    pub fn machine_of(&self, frame: u32) -> u32
+        requires { frame < length self.now.machines * self.now.frames }
+        ensures machine { result ≡ frame / self.now.frames }
+        ensures within { result < length self.now.machines }
+        ensures most { result < MAX_MACHINES }
+    {
+        frame / self.frames
+    }
+
     /// Returns the frames of a machine. A frame is taken exactly where slots have it.
     pub fn frames(&self, machine: u32) -> &Frames<A>
         requires { machine < length self.now.machines }
@@ -259,27 +275,9 @@ impl<H: PageHash, A: Allocator> Domain<H, A> {
         }
     }
 
-    /// Lends the page of a client that is in at the first machine that is open, or at machine 0 where none is.
-    fn lend_at_open(
-        &mut self,
-        client: u32,
-        page: &Page,
-        known: SaltedHash,
-    ) -> Result<Loan, LendFault>
-        requires here { IsIn self.old client }
-        requires hash { known.hash ≡ H.hash_of known.salt page.now }
-        ensures lends { MatchResult result
-            (λ loan. LendsIn (first_open self.old.machines) client page.now loan self.old self.new)
-            (λ fault. RefusesIn (first_open self.old.machines) client fault self.old × (self.new ≡ self.old)) }
-        ensures bytes { IfOk result (λ _. BytesStay self.old self.new) }
-    {
-        let m = first_open(&self.machines);
-        self.lend_at(m, client, page, known)
-    }
-
     /// Lends the page of a client that is in at a machine.
     #[tactic(auto, using(crate::proofs::Bytes::bytes_by_lend))]
-    fn lend_at(
+    fn lend_known(
         &mut self,
         m: usize,
         client: u32,

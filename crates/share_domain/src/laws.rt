@@ -1,6 +1,6 @@
 //! Laws of domains, about the definitions alone. The functions' bodies are empty: the contract is all there is.
 ghost use Rattle.std.specs.Prelude.{◌≡◌};
-ghost use Rattle.share_domain.specs.Beside.{OpenRefusesNone, OpenRefusesNothing};
+ghost use Rattle.share_domain.specs.Open.{OpenRefusesNone, OpenRefusesNothing};
 ghost use Rattle.share_domain.specs.Bytes.{LeaveKeepsBytes, ReleaseKeepsBytes};
 ghost use Rattle.share_domain.specs.declared.config.TheConstants.{MAX_CLIENTS, MAX_MACHINES};
 ghost use Rattle.share_domain.specs.declared.number.TheConstants.{NO_FRAME, SLOTS_APART};
@@ -20,12 +20,12 @@ pub fn bytes_law()
     ensures leaves { LeaveKeepsBytes }
 {}
 
-/// A machine that is open refuses no page. So a page that is lent beside a frame is refused only if no machine is open.
+/// A machine that is open refuses no page. So a page is refused only if no machine is open.
 pub fn open_law()
     ensures { OpenRefusesNone }
 {}
 
-/// While a machine is open, [`Domain::lend_beside`](crate::Domain::lend_beside) refuses no page of a client that is in.
+/// While a machine is open, [`Domain::lend_at_open`](crate::Domain::lend_at_open) refuses no page of a client that is in.
 pub fn open_refuses_nothing_law()
     ensures { OpenRefusesNothing }
 {}

@@ -1,7 +1,7 @@
 //! Lending and releasing at one of a domain's machines.
 ghost use Rattle.std.specs.Prelude.{◌≡◌, ◌<◌, length, IfOk, IfSome, MatchResult, slice_set};
 ghost use Rattle.share_domain.specs.Domains.{machine_at, machine_of, held_in, with_released};
-ghost use Rattle.share_domain.specs.Beside.{is_open, first_open};
+ghost use Rattle.share_domain.specs.Open.{is_open, first_open};
 ghost use Rattle.lent_slots.specs.Bytes.{BytesStayIn};
 ghost use Rattle.lent_slots.specs.Slots.{LendsPage, RefusesPage, freed};
 

@@ -69,3 +69,23 @@ fn a_full_machine_refuses(rt: HostRuntime) {
     holds(&rt, domain.release(0, loan.slot) == Ok(Some(3)));
     holds(&rt, lend(&rt, &mut domain, 0, 3).frame == 3);
 }
+
+/// Both machines have the page. The first one that is found is full, so the page goes to the other.
+#[test]
+fn a_full_machine_is_passed_by(rt: HostRuntime) {
+    let mut domain = domain_of_two(&rt, rt.alloc());
+    let other = lend(&rt, &mut domain, 0, 2);
+    holds(&rt, lend(&rt, &mut domain, 0, 3).frame == 1);
+    let page = lend(&rt, &mut domain, 0, 1);
+    for client in [1, 0, 1] {
+        holds(&rt, lend(&rt, &mut domain, client, 1).frame == 3);
+    }
+    holds(&rt, domain.release(0, other.slot) == Ok(Some(0)));
+    for client in [0, 1, 0] {
+        holds(&rt, lend(&rt, &mut domain, client, 1).frame == 0);
+    }
+    holds(&rt, domain.release(0, page.slot) == Ok(None));
+    let loan = lend(&rt, &mut domain, 1, 1);
+    holds(&rt, loan.frame == 3);
+    holds(&rt, loan.sharers == 4);
+}

@@ -1,4 +1,4 @@
-use Rattle.share_domain.proofs.Beside.{open_refuses_none}
+use Rattle.share_domain.proofs.Open.{open_refuses_none}
 use Rattle.share_domain.proofs.laws.open_law.Goals as goal
 
 pub returns : goal.returns

@@ -1,8 +1,8 @@
 use Rattle.std.proofs.Common.{◌∙◌, ◌<◌, sym, ap, length, arith}
 use Rattle.std.proofs.lemmas.List.{get_or_read}
-use Rattle.share_domain.specs.Beside.{is_open}
+use Rattle.share_domain.specs.Open.{is_open}
 use Rattle.share_domain.specs.Domains.{no_machine}
-use Rattle.share_domain.proofs.Beside.{first_is, none_is, one_more}
+use Rattle.share_domain.proofs.Open.{first_is, none_is, one_more}
 use Rattle.share_domain.proofs.lend.first_open.Goals as goal
 
 pub returns-then-is_open-clause-machine : goal.returns-then-is_open-clause-machine

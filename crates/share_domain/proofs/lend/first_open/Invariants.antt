@@ -1,4 +1,4 @@
-use Rattle.share_domain.proofs.Beside.{NoneOpen}
+use Rattle.share_domain.proofs.Open.{NoneOpen}
 use Rattle.share_domain.proofs.lend.first_open.Given as goal
 
 -- no machine so far is open

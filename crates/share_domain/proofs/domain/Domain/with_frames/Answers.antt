@@ -7,5 +7,5 @@ invariant_of-result g c =
     let limits = c.requires.limits in
     let config = c.args.config.now in
     rw (c.in_ok-machines.ensures, c.in_ok-clients.ensures) (
-    sound_new config.machines config.slots config.frames config.clients (limits.machines.0, omega (arith, limits.machines.1)) (omega (arith, limits.slots.1)) (omega (arith, limits.frames.1)) (omega (arith, limits.clients.1))
+    sound_new config.machines config.slots config.frames config.clients (limits.machines.0, omega (arith, limits.machines.1)) (omega (arith, limits.slots.1)) (omega (arith, limits.frames.0), omega (arith, limits.frames.1)) (omega (arith, limits.clients.1))
     )

@@ -11,7 +11,7 @@ use Rattle.lent_slots.specs.Slots.{MachineView, IsFull}
 use Rattle.lent_slots.specs.Totals.{held_slots, frames_in_use}
 use Rattle.share_domain.specs.declared.fault.LendFault.TheVariants as fault
 use Rattle.share_domain.specs.Domains.{machine_at, no_machine}
-use Rattle.share_domain.specs.Beside.{is_open, first_open, OpenRefusesNone, OpenRefusesNothing}
+use Rattle.share_domain.specs.Open.{is_open, first_open, OpenRefusesNone, OpenRefusesNothing}
 
 abbrev held : List (Option Holding) → ℕ
 held [] = 0
