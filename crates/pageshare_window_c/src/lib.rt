@@ -8,9 +8,9 @@
 ghost use Rattle.std.specs.Prelude.{◌≡◌, ◌+◌, if◌then◌else◌, length, not, slice_get, true, false};
 ghost use Rattle.std.specs.List.{list_any, prefix_len};
 ghost use Rattle.std.specs.Option.{option_map_or};
-ghost use Rattle.work_budget.specs.Budgets.{begun, credited, paced};
-ghost use Rattle.work_budget.specs.Chores.{again_at};
-ghost use Rattle.mapping_room.specs.Rooms.{fits, most_of};
+ghost use Rattle.look_tasks.specs.Budgets.{begun, credited, paced};
+ghost use Rattle.look_tasks.specs.Chores.{again_at};
+ghost use Rattle.look_tasks.specs.Rooms.{fits, most_of};
 ghost use Rattle.offered_ranges.specs.Pieces.{IsFirst, meets};
 ghost use Rattle.offered_ranges.specs.Tables.{added, can_add, can_take_out, is_of, ranges_of, taken_out};
 ghost use Rattle.page_lender.specs.Decisions.{is_busy};
@@ -51,21 +51,20 @@ pub use holds::{
     pageshare_window_row_again, pageshare_window_row_done,
 };
 pub use laws::{limits_law, tasks_law};
-pub use look_steps::{LookSteps, PartReturn};
-pub use look_tasks::{LookTasks, TaskOutcome};
-pub use look_times::{LookFinds, LookTimes};
+use look_tasks::Budget;
+use look_tasks::room::{fits, most};
+pub use look_tasks::{LookFinds, LookSteps, LookTasks, LookTimes, PartReturn, TaskOutcome};
 pub use looks::{
     WindowLook, pageshare_window_ask_at_once, pageshare_window_asked, pageshare_window_asked_last,
     pageshare_window_glanced_by, pageshare_window_held, pageshare_window_is_in_passing,
     pageshare_window_is_left_out, pageshare_window_is_to_fetch, pageshare_window_set_rest,
     pageshare_window_wake,
 };
-use mapping_room::{fits, most};
 pub use mappings::{
     pageshare_window_mappings_at, pageshare_window_mappings_more, pageshare_window_mappings_new,
 };
 pub use numbers::pageshare_window_find_numbers;
-pub use offered_ranges::{OfferedBounds, OfferedRange, Piece};
+pub use offered_ranges::{OfferedBounds, OfferedRange, Piece, Taken};
 use offered_ranges::{add, is_part_left, next as next_piece, take_out};
 use order::number_of;
 pub use page_finds::FindOutcome;
@@ -92,14 +91,12 @@ pub use times::{
     pageshare_window_be_eager, pageshare_window_begin_times, pageshare_window_look_ended,
     pageshare_window_pause_ms,
 };
-pub use window_numbers::Taken;
 pub use window_pages::{PartCounts, WindowFacts, WindowPage};
 use window_pages::{
     alike, before_release, choose, forget, give_back, hear, here, is_free, next, see, stays,
     stop_past, take, withdraw,
 };
 pub use window_tables::{TableFacts, WindowPart};
-use work_budget::Budget;
 
 /// Begins a budget at these readings of the clocks: the time, and the processor time that the thread has used. A share is 1 to 100
 /// percent of one processor, and a burst is no less.
@@ -142,7 +139,7 @@ pub extern "C" fn pageshare_window_give_credit(budget: &mut WindowBudget, ns: u6
 pub extern "C" fn pageshare_window_again(percent: u32, begun: u64, took: u64, least: u64) -> u64
     ensures { result ≡ again_at percent begun took least }
 {
-    work_budget::again_ns(percent, begun, took, least)
+    look_tasks::again_ns(percent, begun, took, least)
 }
 
 /// Returns how many mappings windows may take in all, of so many that the system lets the process have.
