@@ -19,8 +19,8 @@ from harness import TOP, Tally
 HEADERS = ["lib/include/pageshare.h", "lib/include/pageshare_host.h", "window/pageshare_window.h"]
 FOLDERS = {
     "crates/c_surface/src": "rt", "crates/pageshare_c/src": "rt", "crates/pageshare_host_c/src": "rt", "crates/pageshare_window_c/src": "rt",
-    "crates/offered_ranges/src": "rt", "crates/page_pins/src": "rt", "crates/window_numbers/src": "rt", "crates/window_pages/src": "rt",
-    "crates/client_session/src": "rt", "crates/host_messages/src": "rt", "crates/window_tables/src": "rt", "crates/look_steps/src": "rt", "crates/look_tasks/src": "rt", "crates/look_times/src": "rt", "lib/rust/src": "rs",
+    "crates/offered_ranges/src": "rt", "crates/page_pins/src": "rt", "crates/window_pages/src": "rt", "crates/client_session/src": "rt",
+    "crates/host_messages/src": "rt", "crates/window_tables/src": "rt", "crates/look_tasks/src": "rt", "lib/rust/src": "rs",
 }
 # The statuses of the proved libraries, and what a header writes before a name. FAULT_ANSWER is a fault that no packet of a client has.
 STATUSES = "crates/c_surface/src/status.rt"

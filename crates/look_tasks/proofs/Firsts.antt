@@ -1,8 +1,8 @@
 -- The tasks that come before the look goes on.
 use Rattle.std.proofs.Common.{◌≡◌, ℕ, Bool, true, false, cond, refl}
 use Rattle.std.specs.Prelude.{min, nat_le, nat_lt, Option, Some, None}
-use Rattle.look_steps.specs.Steps.{step_of}
-use Rattle.look_steps.specs.declared.step.Step.{Step}
+use Rattle.look_tasks.specs.Steps.{step_of}
+use Rattle.look_tasks.specs.declared.step.Step.{Step}
 use Rattle.look_tasks.specs.Tasks.{Tasks, asked_then, batch_task, first_task, flushes, is_due, rests, stage_then, stepped_in, tasks_by}
 use Rattle.look_tasks.specs.declared.task.Sharing.{Sharing}
 use Rattle.look_tasks.specs.declared.task.Sharing.TheVariants.{Gathers, Copies, Lends, Holds}

@@ -2,8 +2,8 @@
 use Rattle.std.proofs.Common.{◌≡◌, ℕ, Bool, true, false, cond, ◌&&◌, ◌||◌, refl, arith}
 use Rattle.std.specs.Prelude.{nat_le, nat_lt, Option, Some, None}
 use Rattle.std.proofs.lemmas.Bool.{ltb-false}
-use Rattle.look_steps.specs.Steps.{step_of}
-use Rattle.look_steps.specs.declared.step.Step.{Step}
+use Rattle.look_tasks.specs.Steps.{step_of}
+use Rattle.look_tasks.specs.declared.step.Step.{Step}
 use Rattle.look_tasks.proofs.Firsts.{are_first, batches_are_first, firsts_are, is_first, no_batch}
 use Rattle.look_tasks.specs.Laws.{FoundComesFirst, NoneIsLeft, leaves}
 use Rattle.look_tasks.specs.Tasks.{Tasks, batch_task, first_task, flushes, is_due, later_task, or_task, stage_task, task_in}

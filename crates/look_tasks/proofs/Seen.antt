@@ -2,9 +2,9 @@
 use Rattle.std.proofs.Common.{◌≡◌, ◌∙◌, ℕ, zero, suc, ◌+◌, ◌<◌, ◌≤◌, Bool, true, false, cond, List, [], ◌∷◌, ◌++◌, refl, ap, sym, subst, arith}
 use Rattle.std.specs.Prelude.{nat_lt, Option, Some, None}
 use Rattle.std.proofs.lemmas.Bool.{ltb-true, ltb-false}
-use Rattle.look_steps.specs.Laws.{numbers_from}
-use Rattle.look_steps.specs.Steps.{Steps, due_part, next_by, step_by, step_of, stepped}
-use Rattle.look_steps.specs.declared.step.Step.{Step}
+use Rattle.look_tasks.specs.StepLaws.{numbers_from}
+use Rattle.look_tasks.specs.Steps.{Steps, due_part, next_by, step_by, step_of, stepped}
+use Rattle.look_tasks.specs.declared.step.Step.{Step}
 use Rattle.look_tasks.proofs.Firsts.{are_first, batches_are_first, firsts_are, is_first}
 use Rattle.look_tasks.specs.Laws.{AllPartsCome, EachPartComesOnce, Turn, after_turn, its_task, run, seen, seen_then}
 use Rattle.look_tasks.specs.Tasks.{Tasks, asked_then, batch_task, came_to, done_then, entered, first_task, later_task, look_begun, or_task, rests, stage_task, stage_then, stepped_in, task_in, tasks_by}

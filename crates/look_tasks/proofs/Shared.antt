@@ -4,10 +4,10 @@ use Rattle.std.specs.Prelude.{min, nat_eq}
 use Rattle.std.proofs.lemmas.Bool.{leb-false}
 use Rattle.std.proofs.lemmas.Nat.{le-div}
 use Rattle.look_tasks.proofs.Timed.{awake_then}
-use Rattle.look_tasks.specs.Budgets.{KeepsToItsShare, after_moves, calls_of}
-use Rattle.work_budget.proofs.Stretched.{one_order_more}
-use Rattle.work_budget.specs.Budgets.{Call, Ledger, called, credits, may_work, rate, settled, settles, wait_of}
-use Rattle.work_budget.specs.Stretches.{after, given}
+use Rattle.look_tasks.specs.Shares.{KeepsToItsShare, after_moves, calls_of}
+use Rattle.look_tasks.proofs.Stretched.{one_order_more}
+use Rattle.look_tasks.specs.Budgets.{Call, Ledger, called, credits, may_work, rate, settled, settles, wait_of}
+use Rattle.look_tasks.specs.Stretches.{after, given}
 
 after_more : (cs : List Call) (b : Ledger) (c : Call) → after called b (cs ++ c ∷ []) ≡ called (after called b cs) c
 after_more [] b c = refl

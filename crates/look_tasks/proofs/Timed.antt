@@ -2,8 +2,8 @@
 use Rattle.std.proofs.Common.{◌≡◌, ◌∙◌, ℕ, ◌<◌, Bool, true, false, cond, refl, ap, sym, arith}
 use Rattle.std.specs.Prelude.{min, nat_le, nat_lt, Option, Some, None}
 use Rattle.std.proofs.lemmas.Bool.{leb-false, ltb-false}
-use Rattle.look_steps.specs.Steps.{step_of}
-use Rattle.look_steps.specs.declared.step.Step.{Step}
+use Rattle.look_tasks.specs.Steps.{step_of}
+use Rattle.look_tasks.specs.declared.step.Step.{Step}
 use Rattle.look_tasks.proofs.Firsts.{asked_stands}
 use Rattle.look_tasks.specs.Laws.{AttendsAgain, AttendsInTime, is_attend, its_task, may_wait, works}
 use Rattle.look_tasks.specs.Tasks.{Tasks, asked_then, attend_after, batch_task, came_to, done_then, first_task, flushes, in_window, ending, later_task, or_task, rests, stage_then, stepped_in, task_of, tasks_by}

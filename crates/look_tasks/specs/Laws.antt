@@ -1,6 +1,6 @@
 -- What the tasks of a look are worth: what comes before what, which parts come, and what isn't put off.
 use Rattle.std.specs.Prelude.{◌≡◌, ℕ, ◌<◌, Bool, true, false, if◌then◌else◌, List, [], ◌∷◌, ◌++◌}
-use Rattle.look_steps.specs.Laws.{numbers_from}
+use Rattle.look_tasks.specs.StepLaws.{numbers_from}
 use Rattle.look_tasks.specs.Tasks.{Tasks, asked_then, attend_after, done_then, look_begun, rests, task_of}
 use Rattle.look_tasks.specs.declared.task.TaskOutcome.{TaskOutcome}
 use Rattle.look_tasks.specs.declared.task.Sharing.TheVariants.{Gathers}

@@ -1,3 +1,12 @@
 pub mod Budgets
+pub mod Chores
 pub mod Laws
+pub mod RoomLaws
+pub mod Rooms
+pub mod Shares
+pub mod StepLaws
+pub mod Steps
+pub mod Stretches
 pub mod Tasks
+pub mod TimeLaws
+pub mod Times

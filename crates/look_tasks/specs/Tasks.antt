@@ -1,7 +1,7 @@
 -- What the thread that looks does next, and where the look is then.
 use Rattle.std.specs.Prelude.{ℕ, ◌+◌, ◌-◌, ◌^◌, min, Bool, true, false, ◌&&◌, ◌||◌, nat_eq, nat_le, nat_lt, if◌then◌else◌, Option, Some, None}
-use Rattle.look_steps.specs.Steps.{Steps, begun, looked_then, step_of, stepped, steps_of}
-use Rattle.look_steps.specs.declared.step.Step.{Step}
+use Rattle.look_tasks.specs.Steps.{Steps, begun, looked_then, step_of, stepped, steps_of}
+use Rattle.look_tasks.specs.declared.step.Step.{Step}
 use Rattle.look_tasks.specs.declared.task.LookTasks.{LookTasks}
 use Rattle.look_tasks.specs.declared.task.TaskOutcome.{TaskOutcome}
 use Rattle.look_tasks.specs.declared.task.Sharing.{Sharing}

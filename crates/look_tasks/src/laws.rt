@@ -1,6 +1,6 @@
 //! What the tasks of a look are worth. The functions' bodies are empty: the contract is all there is.
 ghost use Rattle.std.specs.Prelude.{◌≡◌};
-ghost use Rattle.look_tasks.specs.Budgets.{KeepsToItsShare};
+ghost use Rattle.look_tasks.specs.Shares.{KeepsToItsShare};
 ghost use Rattle.look_tasks.specs.Laws.{AllPartsCome, AttendsAgain, AttendsInTime, EachPartComesOnce, FoundComesFirst, ReleasesComeFirst, StandsUntilItsEnd};
 ghost use Rattle.look_tasks.specs.declared.task.TheConstants.{ATTEND_NS, BATCH, NAP_NS};
 

@@ -1,6 +1,6 @@
 //! The tasks of a look, and where a look is.
 
-use look_steps::LookSteps;
+use crate::LookSteps;
 
 /// As many pages are shared, or given back, together: as many as one message to a lender names.
 pub const BATCH: u32 = 128;

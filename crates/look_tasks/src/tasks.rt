@@ -1,11 +1,10 @@
 //! What comes next in a look.
 ghost use Rattle.std.specs.Prelude.{◌≡◌, true, false};
-ghost use Rattle.look_steps.specs.Steps.{step_of, steps_of};
+ghost use Rattle.look_tasks.specs.Steps.{step_of, steps_of};
 ghost use Rattle.look_tasks.specs.declared.task.Sharing.TheVariants.{Gathers};
 ghost use Rattle.look_tasks.specs.Tasks.{asked_then, attended, batch_task, begun_then, came_to, done_then, entered, first_task, flushes, is_due, later_task, later_then, look_begun, looked_at, or_task, rests, shared_then, sharing_of, stage_of, stage_task, stage_then, stepped_in, task_in, task_of, tasks_of, with_found};
 
-use crate::{ATTEND_NS, BATCH, LookTasks, NAP_NS, Sharing, Stage, Task, TaskOutcome};
-use look_steps::{LookSteps, Step};
+use crate::{ATTEND_NS, BATCH, LookSteps, LookTasks, NAP_NS, Sharing, Stage, Step, Task, TaskOutcome};
 
 // Returns the number of a stage.
 fn stage_number(stage: Stage) -> u8

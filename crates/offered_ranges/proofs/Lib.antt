@@ -1,4 +1,5 @@
-mod Found
 mod Counted
-mod Removed
+mod Found
+mod Free
 mod Outside
+mod Removed

@@ -1,4 +1,6 @@
-pub mod Pieces
 pub mod Bounds
-pub mod Tables
 pub mod Laws
+pub mod NumberLaws
+pub mod Numbers
+pub mod Pieces
+pub mod Tables

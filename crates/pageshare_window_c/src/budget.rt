@@ -1,9 +1,9 @@
 //! A thread's budget, as C keeps it.
 ghost use Rattle.std.specs.Prelude.{◌≡◌};
-ghost use Rattle.work_budget.specs.Budgets.{config_of, settled, wait_of};
+ghost use Rattle.look_tasks.specs.Budgets.{config_of, settled, wait_of};
 ghost use Rattle.pageshare_window_c.specs.Budgets.{ledger_of, rates};
 
-use work_budget::{Budget, Config, Counts};
+use look_tasks::{Budget, BudgetConfig, BudgetCounts};
 
 /// What is saved up at most while the thread has nothing to do: 2 ms.
 pub const SAVED_NS: u64 = 2_000_000;
@@ -35,10 +35,10 @@ pub struct WindowBudget {
 }
 
 /// Returns these rates with the limits of each budget.
-pub(crate) fn config_by(percent: u32, burst: u32) -> Config
+pub(crate) fn config_by(percent: u32, burst: u32) -> BudgetConfig
     ensures { result ≡ rates percent burst }
 {
-    Config {
+    BudgetConfig {
         percent,
         burst,
         saved_ns: SAVED_NS,
@@ -51,7 +51,7 @@ pub(crate) fn config_by(percent: u32, burst: u32) -> Config
 pub(crate) fn budget_of(numbers: &WindowBudget) -> Budget
     ensures { result ≡ ledger_of numbers.now }
 {
-    let counts = Counts {
+    let counts = BudgetCounts {
         time: numbers.time,
         spent: numbers.spent,
         saved: numbers.saved,
@@ -79,7 +79,7 @@ pub(crate) fn put(numbers: &mut WindowBudget, budget: &Budget)
     };
 }
 
-/// Counts what was used since the last call. Returns how many nanoseconds the thread waits before it calls again, 0 if it may work.
+/// BudgetCounts what was used since the last call. Returns how many nanoseconds the thread waits before it calls again, 0 if it may work.
 pub(crate) fn settle(numbers: &mut WindowBudget, now: u64, spent: u64) -> u64
     ensures ledger { ledger_of numbers.new ≡ settled (ledger_of numbers.old) now spent }
     ensures wait { result ≡ wait_of (ledger_of numbers.new) }

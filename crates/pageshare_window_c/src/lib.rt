@@ -8,9 +8,9 @@
 ghost use Rattle.std.specs.Prelude.{◌≡◌, ◌+◌, if◌then◌else◌, length, not, slice_get, true, false};
 ghost use Rattle.std.specs.List.{list_any, prefix_len};
 ghost use Rattle.std.specs.Option.{option_map_or};
-ghost use Rattle.work_budget.specs.Budgets.{begun, credited, paced};
-ghost use Rattle.work_budget.specs.Chores.{again_at};
-ghost use Rattle.mapping_room.specs.Rooms.{fits, most_of};
+ghost use Rattle.look_tasks.specs.Budgets.{begun, credited, paced};
+ghost use Rattle.look_tasks.specs.Chores.{again_at};
+ghost use Rattle.look_tasks.specs.Rooms.{fits, most_of};
 ghost use Rattle.offered_ranges.specs.Pieces.{IsFirst, meets};
 ghost use Rattle.offered_ranges.specs.Tables.{added, can_add, can_take_out, is_of, ranges_of, taken_out};
 ghost use Rattle.page_lender.specs.Decisions.{is_busy};
@@ -39,120 +39,66 @@ mod order;
 mod part;
 mod pins;
 mod ranges;
-mod session;
+pub mod session;
 mod tables;
 mod tasks;
 mod times;
 
-pub use budget::CREDIT_NS;
-pub use budget::OWED_NS;
-pub use budget::SAVED_NS;
-pub use budget::WindowBudget;
-use budget::budget_of;
-use budget::config_by;
-use budget::put;
+pub use budget::{CREDIT_NS, OWED_NS, SAVED_NS, WindowBudget};
+use budget::{budget_of, config_by, put};
 pub use client_session::KeptSession;
-pub use finds::pageshare_window_begin_find;
-pub use finds::pageshare_window_find_done;
-pub use holds::WindowRowOrder;
-pub use holds::pageshare_window_begin_row;
-pub use holds::pageshare_window_next_of_row;
-pub use holds::pageshare_window_row_again;
-pub use holds::pageshare_window_row_done;
-pub use laws::limits_law;
-pub use laws::tasks_law;
-pub use look_steps::LookSteps;
-pub use look_steps::PartReturn;
-pub use look_tasks::LookTasks;
-pub use look_tasks::TaskOutcome;
-pub use look_times::LookFinds;
-pub use look_times::LookTimes;
-pub use looks::WindowLook;
-pub use looks::pageshare_window_ask_at_once;
-pub use looks::pageshare_window_asked;
-pub use looks::pageshare_window_asked_last;
-pub use looks::pageshare_window_glanced_by;
-pub use looks::pageshare_window_held;
-pub use looks::pageshare_window_is_in_passing;
-pub use looks::pageshare_window_is_left_out;
-pub use looks::pageshare_window_is_to_fetch;
-pub use looks::pageshare_window_set_rest;
-pub use looks::pageshare_window_wake;
-use mapping_room::fits;
-use mapping_room::most;
-pub use mappings::pageshare_window_mappings_at;
-pub use mappings::pageshare_window_mappings_more;
-pub use mappings::pageshare_window_mappings_new;
+pub use finds::{pageshare_window_begin_find, pageshare_window_find_done};
+pub use holds::{
+    WindowRowOrder, pageshare_window_begin_row, pageshare_window_next_of_row,
+    pageshare_window_row_again, pageshare_window_row_done,
+};
+pub use laws::{limits_law, tasks_law};
+use look_tasks::Budget;
+use look_tasks::room::{fits, most};
+pub use look_tasks::{LookFinds, LookSteps, LookTasks, LookTimes, PartReturn, TaskOutcome};
+pub use looks::{
+    WindowLook, pageshare_window_ask_at_once, pageshare_window_asked, pageshare_window_asked_last,
+    pageshare_window_glanced_by, pageshare_window_held, pageshare_window_is_in_passing,
+    pageshare_window_is_left_out, pageshare_window_is_to_fetch, pageshare_window_set_rest,
+    pageshare_window_wake,
+};
+pub use mappings::{
+    pageshare_window_mappings_at, pageshare_window_mappings_more, pageshare_window_mappings_new,
+};
 pub use numbers::pageshare_window_find_numbers;
-pub use offered_ranges::OfferedBounds;
-pub use offered_ranges::OfferedRange;
-pub use offered_ranges::Piece;
-use offered_ranges::add;
-use offered_ranges::is_part_left;
-use offered_ranges::next as next_piece;
-use offered_ranges::take_out;
+pub use offered_ranges::{OfferedBounds, OfferedRange, Piece, Taken};
+use offered_ranges::{add, is_part_left, next as next_piece, take_out};
 use order::number_of;
 pub use page_finds::FindOutcome;
-use page_lender::Notice;
-use page_lender::Outcome;
+use page_lender::{Notice, Outcome};
 pub use page_pins::Transfer;
-pub use part::WindowPartConfig;
-pub use part::WindowPartLook;
 use part::next_of_part;
-pub use pins::pageshare_window_begin_transfer;
-pub use pins::pageshare_window_end_transfer;
-pub use pins::pageshare_window_pin;
-pub use pins::pageshare_window_unpin;
-pub use ranges::pageshare_window_bounds;
-pub use ranges::pageshare_window_is_all_left;
-pub use session::pageshare_window_ask;
-pub use session::pageshare_window_connect;
-pub use session::pageshare_window_disconnect;
-pub use session::pageshare_window_give_slots_up;
-pub use session::pageshare_window_hear_answers;
-pub use session::pageshare_window_hear_loans;
-pub use session::pageshare_window_lend;
-pub use session::pageshare_window_next_release;
-pub use session::pageshare_window_welcome;
-pub use tables::pageshare_window_are_movable;
-pub use tables::pageshare_window_cover;
-pub use tables::pageshare_window_detach;
-pub use tables::pageshare_window_find_facts;
-pub use tables::pageshare_window_give_up;
-pub use tables::pageshare_window_leave;
-pub use tables::pageshare_window_may_give_up;
-pub use tables::pageshare_window_may_go_on;
-pub use tables::pageshare_window_uncover;
-pub use tables::pageshare_window_unmap;
-pub use tasks::WindowTask;
-pub use tasks::pageshare_window_begin_tasks;
-pub use tasks::pageshare_window_next_task;
-pub use tasks::pageshare_window_task_done;
-pub use times::pageshare_window_be_eager;
-pub use times::pageshare_window_begin_times;
-pub use times::pageshare_window_look_ended;
-pub use times::pageshare_window_pause_ms;
-pub use window_numbers::Taken;
-pub use window_pages::PartCounts;
-pub use window_pages::WindowFacts;
-pub use window_pages::WindowPage;
-use window_pages::alike;
-use window_pages::before_release;
-use window_pages::choose;
-use window_pages::forget;
-use window_pages::give_back;
-use window_pages::hear;
-use window_pages::here;
-use window_pages::is_free;
-use window_pages::next;
-use window_pages::see;
-use window_pages::stays;
-use window_pages::stop_past;
-use window_pages::take;
-use window_pages::withdraw;
-pub use window_tables::TableFacts;
-pub use window_tables::WindowPart;
-use work_budget::Budget;
+pub use part::{WindowPartConfig, WindowPartLook};
+pub use pins::{
+    pageshare_window_begin_transfer, pageshare_window_end_transfer, pageshare_window_pin,
+    pageshare_window_unpin,
+};
+pub use ranges::{pageshare_window_bounds, pageshare_window_is_all_left};
+pub use tables::{
+    pageshare_window_are_movable, pageshare_window_cover, pageshare_window_detach,
+    pageshare_window_find_facts, pageshare_window_give_up, pageshare_window_leave,
+    pageshare_window_may_give_up, pageshare_window_may_go_on, pageshare_window_uncover,
+    pageshare_window_unmap,
+};
+pub use tasks::{
+    WindowTask, pageshare_window_begin_tasks, pageshare_window_next_task,
+    pageshare_window_task_done,
+};
+pub use times::{
+    pageshare_window_be_eager, pageshare_window_begin_times, pageshare_window_look_ended,
+    pageshare_window_pause_ms,
+};
+pub use window_pages::{PartCounts, WindowFacts, WindowPage};
+use window_pages::{
+    alike, before_release, choose, forget, give_back, hear, here, is_free, next, see, stays,
+    stop_past, take, withdraw,
+};
+pub use window_tables::{TableFacts, WindowPart};
 
 /// Begins a budget at these readings of the clocks: the time, and the processor time that the thread has used. A share is 1 to 100
 /// percent of one processor, and a burst is no less.
@@ -195,7 +141,7 @@ pub extern "C" fn pageshare_window_give_credit(budget: &mut WindowBudget, ns: u6
 pub extern "C" fn pageshare_window_again(percent: u32, begun: u64, took: u64, least: u64) -> u64
     ensures { result ≡ again_at percent begun took least }
 {
-    work_budget::again_ns(percent, begun, took, least)
+    look_tasks::again_ns(percent, begun, took, least)
 }
 
 /// Returns how many mappings windows may take in all, of so many that the system lets the process have.

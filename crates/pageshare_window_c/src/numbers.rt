@@ -1,8 +1,8 @@
 //! Which numbers the pages of a new window get.
 ghost use Rattle.std.specs.Prelude.{◌≡◌, ℕ, true, false};
-ghost use Rattle.window_numbers.specs.Numbers.{IsFirst, fits};
+ghost use Rattle.offered_ranges.specs.Numbers.{IsFirst, fits};
 
-use window_numbers::{Taken, first_free};
+use offered_ranges::{Taken, first_free};
 
 /// Finds the least number from which so many in a row are no window's. All of them are below 2^32 - 1. Returns whether there is one, and
 /// else leaves `base` as it is.

@@ -1,7 +1,7 @@
 //! What the thread that looks does next.
 ghost use Rattle.std.specs.Prelude.{◌≡◌, false, true};
 ghost use Rattle.look_tasks.specs.Tasks.{asked_then, done_then, look_begun, rests, task_of, tasks_of};
-ghost use Rattle.work_budget.specs.Budgets.{settled, wait_of};
+ghost use Rattle.look_tasks.specs.Budgets.{settled, wait_of};
 ghost use Rattle.pageshare_window_c.specs.Budgets.{ledger_of};
 ghost use Rattle.pageshare_window_c.specs.Tasks.{early_task, late_task, numbers, task_by, task_numbers};
 

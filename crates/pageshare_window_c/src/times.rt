@@ -1,8 +1,8 @@
 //! When looks begin.
 ghost use Rattle.std.specs.Prelude.{◌≡◌};
-ghost use Rattle.look_times.specs.Times.{begun, looked, made_eager, pause_of};
+ghost use Rattle.look_tasks.specs.Times.{begun, looked, made_eager, pause_of};
 
-use look_times::{LookFinds, LookTimes};
+use look_tasks::{LookFinds, LookTimes};
 
 /// Begins the times of looks that are `period_ms` apart.
 #[unsafe(no_mangle)]

@@ -1,4 +1,0 @@
-mod Few
-mod Ordered
-mod Popped
-mod Stepped

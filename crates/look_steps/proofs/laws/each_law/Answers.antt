@@ -1,8 +1,0 @@
-use Rattle.look_steps.proofs.Stepped.{each_comes_once, over_is_all}
-use Rattle.look_steps.proofs.laws.each_law.Goals as goal
-
-pub returns-clause-once : goal.returns-clause-once
-returns-clause-once c = each_comes_once
-
-pub returns-clause-all : goal.returns-clause-all
-returns-clause-all c = over_is_all

@@ -1,5 +1,0 @@
-use Rattle.look_times.proofs.Turning.{turns_stay_in_bounds}
-use Rattle.look_times.proofs.laws.turns_law.Goals as goal
-
-pub returns : goal.returns
-returns c = turns_stay_in_bounds

@@ -1,3 +1,0 @@
-pub mod Budgets
-pub mod Chores
-pub mod Stretches
