@@ -1,6 +1,5 @@
 //! The session with a host: what is said next, and what a reply or its loss means.
 ghost use Rattle.std.specs.Prelude.{◌≡◌, ◌≤◌, is_some, length};
-ghost use Rattle.arrayvec.specs.ArrayVec.{array_vec_len};
 ghost use Rattle.client_session.specs.Kept.{session_of};
 ghost use Rattle.client_session.specs.Sessions.{wanted_of, connected, welcomed, welcomed_as, may_ask, may_lend, asked, lending, is_answer, answered, are_loans, counted, may_give_up, given_up, due, said_more, parted};
 ghost use Rattle.pageshare_window_c.specs.Sessions.{name_after, loans_after, welcomed_number, put_front};
