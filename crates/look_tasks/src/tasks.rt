@@ -4,7 +4,9 @@ ghost use Rattle.look_tasks.specs.Steps.{step_of, steps_of};
 ghost use Rattle.look_tasks.specs.declared.task.Sharing.TheVariants.{Gathers};
 ghost use Rattle.look_tasks.specs.Tasks.{asked_then, attended, batch_task, begun_then, came_to, done_then, entered, first_task, flushes, is_due, later_task, later_then, look_begun, looked_at, or_task, rests, shared_then, sharing_of, stage_of, stage_task, stage_then, stepped_in, task_in, task_of, tasks_of, with_found};
 
-use crate::{ATTEND_NS, BATCH, LookSteps, LookTasks, NAP_NS, Sharing, Stage, Step, Task, TaskOutcome};
+use crate::{
+    ATTEND_NS, BATCH, LookSteps, LookTasks, NAP_NS, Sharing, Stage, Step, Task, TaskOutcome,
+};
 
 // Returns the number of a stage.
 fn stage_number(stage: Stage) -> u8
