@@ -80,9 +80,11 @@ fn a_frame_is_found(rt: HostRuntime) {
     let mut fingerprints = FrameFingerprints::new(rt.alloc(), 3, 7).expect(&rt, "memory");
     fingerprints.put(1, 5);
     fingerprints.put(2, 6);
-    holds(&rt, fingerprints.find(5) == Some(1));
-    holds(&rt, fingerprints.find(6) == Some(2));
-    holds(&rt, fingerprints.find(7).is_none());
+    holds(&rt, fingerprints.find(5, 1, &[]) == Some(1));
+    holds(&rt, fingerprints.find(6, 1, &[]) == Some(2));
+    holds(&rt, fingerprints.find(6, 2, &[true]) == Some(2));
+    holds(&rt, fingerprints.find(6, 2, &[false, true]).is_none());
+    holds(&rt, fingerprints.find(7, 1, &[]).is_none());
     fingerprints.remove(1);
-    holds(&rt, fingerprints.find(5).is_none());
+    holds(&rt, fingerprints.find(5, 1, &[]).is_none());
 }
