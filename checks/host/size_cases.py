@@ -204,7 +204,8 @@ class Group:
 
     def remove(self) -> None:
         if self.folder:
-            must(until(20, lambda: not read(self.folder / "cgroup.procs"), 0.1)[0], "the group has processes still")
+            processes = self.folder / "cgroup.procs"
+            must(until(20, lambda: not read(processes), 0.1)[0], "the group has processes still")
             self.folder.rmdir()
         self.folder = None
 
