@@ -82,13 +82,22 @@ def case_pause() -> None:
     host.stop()
 
 
+def word_of(ran: subprocess.Popen[str]) -> str:
+    """The next line of a process that isn't its library's."""
+    assert ran.stdout
+    line = ran.stdout.readline()
+    while line.startswith("pageshare: "):
+        line = ran.stdout.readline()
+    return line.strip()
+
+
 def case_pause_guarded() -> None:
     """--pause waits while a monitor guards its memory itself, as for a snapshot, and goes on by itself."""
     program, host = compile_parts("raw_calls"), Host(memory="64M")
     ran = start(program, "stays-guarded", host, {"PAGESHARE_FILTER": "1"})
     HERE.place.started.append(ran)
-    assert ran.stdout and ran.stdin
-    said = ran.stdout.readline().strip()
+    assert ran.stdin
+    said = word_of(ran)
     if said.startswith("left out: "):
         raise LeftOut(said.removeprefix("left out: "))
     must(said == "guarded", said)
@@ -97,7 +106,7 @@ def case_pause_guarded() -> None:
     must(asks.poll() is None and not is_paused(host, ran.pid), f"guarded memory came home: {host.status()}")
     ran.stdin.write("\n")
     ran.stdin.flush()
-    must(ran.stdout.readline().strip() == "free", "the guard doesn't end")
+    must(word_of(ran) == "free", "the guard doesn't end")
     asked = asks.communicate(timeout=100)[0]
     must(asks.returncode == 0 and is_paused(host, ran.pid), f"status {asks.returncode}: {asked}; {host.status()}")
     must(ask("resume", ran.pid).returncode == 0, "it doesn't share again")
