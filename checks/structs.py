@@ -19,7 +19,7 @@ from harness import TOP, Tally
 HEADERS = ["lib/include/pageshare.h", "lib/include/pageshare_host.h", "window/pageshare_window.h"]
 FOLDERS = {
     "crates/c_surface/src": "rt", "crates/pageshare_c/src": "rt", "crates/pageshare_host_c/src": "rt", "crates/pageshare_window_c/src": "rt",
-    "crates/offered_ranges/src": "rt", "crates/page_pins/src": "rt", "crates/window_pages/src": "rt", "crates/client_session/src": "rt",
+    "crates/offered_ranges/src": "rt", "crates/page_looks/src": "rt", "crates/window_pages/src": "rt", "crates/client_session/src": "rt",
     "crates/host_messages/src": "rt", "crates/window_tables/src": "rt", "crates/look_tasks/src": "rt", "lib/rust/src": "rs",
 }
 # The statuses of the proved libraries, and what a header writes before a name. FAULT_ANSWER is a fault that no packet of a client has.
@@ -35,8 +35,8 @@ STRUCTS = {
     "ServedPacket": "pageshare_host_served", "PacketHead": "pageshare_host_packet", "WindowBudget": "pageshare_window_budget",
     "KeptSession": "pageshare_window_session", "Lent": "pageshare_window_lent pageshare_host_lent",
     "WindowPage": "pageshare_window_page", "TableFacts": "pageshare_window_table_facts", "PartCounts": "pageshare_window_counts", "WindowFacts": "pageshare_window_facts",
-    "WindowPart": "pageshare_window_part", "WindowPartConfig": "pageshare_window_part_config",
-    "WindowPartLook": "pageshare_window_part_look", "OfferedRange": "pageshare_window_range", "Piece": "pageshare_window_piece",
+    "Part": "pageshare_window_part", "PartConfig": "pageshare_window_part_config",
+    "PartLook": "pageshare_window_part_look", "OfferedRange": "pageshare_window_range", "Piece": "pageshare_window_piece",
     "OfferedBounds": "pageshare_window_range_bounds", "Transfer": "pageshare_window_transfer", "FindOutcome": "pageshare_window_find_outcome",
     "WindowLook": "pageshare_window_look", "LookSteps": "pageshare_window_steps", "PartReturn": "pageshare_window_return",
     "WindowTask": "pageshare_window_task", "WindowRowOrder": "pageshare_window_row_order", "LookTasks": "pageshare_window_tasks", "TaskOutcome": "pageshare_window_outcome",

@@ -15,7 +15,7 @@ use Rattle.page_lender.specs.declared.order.Outcome.TheVariants.{Done, Lent, Ref
 use Rattle.window_events.specs.Played.{played}
 use Rattle.window_events.specs.Windows.{Mappings, shown_in}
 use Rattle.window_events.specs.declared.page.Page.{Page}
-use Rattle.window_lender.specs.Calls.{IsDone}
+use Rattle.page_lender.specs.Calls.{IsDone}
 use Rattle.window_pages.specs.Bytes.{belief_of, known_of}
 use Rattle.window_pages.specs.Changed.{lender_with}
 use Rattle.window_pages.specs.Known.{chosen_as, no_bars}

@@ -2,14 +2,14 @@
 use Rattle.std.proofs.Common.{◌≡◌, ℕ, Bool, true, false, cond, not, ◌&&◌, ◌||◌, refl, ap, sym, subst}
 use Rattle.page_lender.specs.Decisions.{is_barred, is_private}
 use Rattle.page_lender.specs.declared.bars.Bars.{Bars}
-use Rattle.page_finds.specs.Laws.{IsReadable, is_found, reads_bytes}
-use Rattle.page_finds.specs.Steps.{Came, Glanced, act_by, first_step, has_memory, is_met, is_present, may_read, shows_frame, unseen_step, way_of}
-use Rattle.page_finds.specs.declared.step.FindOutcome.{FindOutcome}
-use Rattle.page_finds.specs.declared.step.FindStep.{FindStep}
-use Rattle.page_finds.specs.declared.step.FindStep.TheVariants.{Over, FindCopy, Glance, Read, Count, Idle, Zeros}
-use Rattle.page_finds.specs.declared.step.Memory.{Memory}
-use Rattle.page_finds.specs.declared.step.Sight.{Sight}
-use Rattle.window_lender.specs.Calls.{is_free}
+use Rattle.page_looks.specs.FindLaws.{IsReadable, is_found, reads_bytes}
+use Rattle.page_looks.specs.Steps.{Came, Glanced, act_by, first_step, has_memory, is_met, is_present, may_read, shows_frame, unseen_step, way_of}
+use Rattle.page_looks.specs.declared.finds.step.FindOutcome.{FindOutcome}
+use Rattle.page_looks.specs.declared.finds.step.FindStep.{FindStep}
+use Rattle.page_looks.specs.declared.finds.step.FindStep.TheVariants.{Over, FindCopy, Glance, Read, Count, Idle, Zeros}
+use Rattle.page_looks.specs.declared.finds.step.Memory.{Memory}
+use Rattle.page_looks.specs.declared.finds.step.Sight.{Sight}
+use Rattle.page_lender.specs.Calls.{is_free}
 use Rattle.window_pages.specs.Bytes.{known_of}
 use Rattle.window_pages.specs.Known.{bars_of, lender_of, shows_past}
 use Rattle.window_pages.specs.declared.counts.PartCounts.{PartCounts}

@@ -11,8 +11,8 @@ use Rattle.window_pages.specs.declared.counts.PartCounts.{PartCounts}
 use Rattle.window_pages.specs.declared.page.KnownPage.{KnownPage}
 use Rattle.window_pages.specs.declared.page.WindowPage.{WindowPage}
 use Rattle.window_tables.specs.declared.changes.Change.TheVariants.{Covered, Uncovered, GivenUp, Unmapped, Left, Detached}
-use Rattle.page_finds.specs.Steps.{IsCopy}
-use Rattle.page_finds.specs.declared.step.FindStep.TheVariants as Find
+use Rattle.page_looks.specs.Steps.{IsCopy}
+use Rattle.page_looks.specs.declared.finds.step.FindStep.TheVariants as Find
 use Rattle.page_holds.specs.Steps.{Took, is_taken}
 use Rattle.page_lender.specs.Decisions.{is_busy}
 use Rattle.page_lender.specs.declared.order.Notice.TheVariants.{Written}

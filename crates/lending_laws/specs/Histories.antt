@@ -14,7 +14,7 @@ use Rattle.window_events.specs.Whole.{IsRight}
 use Rattle.window_events.specs.Windows.{Mappings, is_bare, own_content, shown_in, step}
 use Rattle.window_events.specs.declared.event.Event.{Event}
 use Rattle.window_events.specs.declared.page.Page.{Page}
-use Rattle.window_lender.specs.Calls.{IsChosen, IsDone, IsHeard, IsOrdered}
+use Rattle.page_lender.specs.Calls.{IsChosen, IsDone, IsHeard, IsOrdered}
 use Rattle.window_pages.specs.Bytes.{belief_of, known_of}
 use Rattle.window_pages.specs.Changed.{Lends, discarded, lender_with}
 use Rattle.window_pages.specs.Known.{chosen_as, no_bars}

@@ -1,7 +1,7 @@
 -- A hold of a page, in bytes, inside a history of its window: what both say is the same.
 use Rattle.std.specs.Prelude.{◌≡◌, ℕ, ◌+◌, ◌<◌, Bool, true, List, Some, slice_get}
-use Rattle.hold_rows.specs.Bytes.{place_in}
-use Rattle.hold_rows.specs.Laws.{RowCourse}
+use Rattle.page_holds.specs.Bytes.{place_in}
+use Rattle.page_holds.specs.RowLaws.{RowCourse}
 use Rattle.page_lender.specs.Events.{Done_is_true}
 use Rattle.page_lender.specs.declared.belief.Belief.{Belief}
 use Rattle.page_lender.specs.declared.belief.Belief.TheVariants.{Held}

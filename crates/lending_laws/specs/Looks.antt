@@ -1,11 +1,11 @@
 -- A look at a page, step by step, and what it keeps to at each of them.
 use Rattle.std.specs.Prelude.{◌≡◌, Bool, true, ◌||◌}
-use Rattle.page_finds.specs.Laws.{IsReadable, is_found, reads_bytes}
-use Rattle.page_finds.specs.Steps.{Came, first_step}
-use Rattle.page_finds.specs.declared.step.FindOutcome.{FindOutcome}
-use Rattle.page_finds.specs.declared.step.FindStep.{FindStep}
-use Rattle.page_finds.specs.declared.step.Memory.{Memory}
-use Rattle.page_finds.specs.declared.step.Sight.{Sight}
+use Rattle.page_looks.specs.FindLaws.{IsReadable, is_found, reads_bytes}
+use Rattle.page_looks.specs.Steps.{Came, first_step}
+use Rattle.page_looks.specs.declared.finds.step.FindOutcome.{FindOutcome}
+use Rattle.page_looks.specs.declared.finds.step.FindStep.{FindStep}
+use Rattle.page_looks.specs.declared.finds.step.Memory.{Memory}
+use Rattle.page_looks.specs.declared.finds.step.Sight.{Sight}
 use Rattle.window_pages.specs.Bytes.{known_of}
 use Rattle.window_pages.specs.declared.counts.PartCounts.{PartCounts}
 use Rattle.window_pages.specs.declared.facts.WindowFacts.{WindowFacts}

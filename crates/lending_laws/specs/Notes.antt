@@ -3,7 +3,7 @@ use Rattle.std.specs.Prelude.{◌≡◌, ℕ, true, false, List, Option, Some, s
 use Rattle.page_lender.specs.declared.order.Outcome.{Outcome}
 use Rattle.window_events.specs.Windows.{Mappings, is_bare}
 use Rattle.window_events.specs.declared.page.Page.{Page}
-use Rattle.window_lender.specs.Calls.{IsDone}
+use Rattle.page_lender.specs.Calls.{IsDone}
 use Rattle.window_pages.specs.Changed.{Lends}
 use Rattle.window_pages.specs.Known.{no_bars}
 use Rattle.window_pages.specs.Lives.{WasDetached}
@@ -12,10 +12,10 @@ use Rattle.window_pages.specs.declared.page.WindowPage.{WindowPage}
 use Rattle.window_tables.specs.Changes.{IsNow}
 use Rattle.window_tables.specs.declared.changes.Change.{Change}
 use Rattle.window_tables.specs.declared.changes.Change.TheVariants.{Covered, Uncovered, GivenUp, Unmapped, Left, Detached}
-use Rattle.page_finds.specs.Steps.{Came}
-use Rattle.page_finds.specs.declared.step.FindOutcome.{FindOutcome}
-use Rattle.page_finds.specs.declared.step.FindStep.{FindStep}
-use Rattle.page_finds.specs.declared.step.Sight.{Sight}
+use Rattle.page_looks.specs.Steps.{Came}
+use Rattle.page_looks.specs.declared.finds.step.FindOutcome.{FindOutcome}
+use Rattle.page_looks.specs.declared.finds.step.FindStep.{FindStep}
+use Rattle.page_looks.specs.declared.finds.step.Sight.{Sight}
 use Rattle.page_holds.specs.Steps.{Took}
 use Rattle.lending_laws.specs.Histories.{Calls, Pending}
 

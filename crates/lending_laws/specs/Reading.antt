@@ -9,7 +9,7 @@ use Rattle.window_events.specs.Played.{refused_from}
 use Rattle.window_events.specs.Windows.{Mappings, is_bare, run, shown_in, start, step}
 use Rattle.window_events.specs.declared.event.Event.{Event}
 use Rattle.window_events.specs.declared.page.Page.{Page}
-use Rattle.window_lender.specs.Calls.{IsDone}
+use Rattle.page_lender.specs.Calls.{IsDone}
 use Rattle.window_pages.specs.Bytes.{belief_of, known_of}
 use Rattle.window_pages.specs.Changed.{Lends}
 use Rattle.window_pages.specs.Known.{no_bars}

@@ -15,7 +15,7 @@ ghost use Rattle.page_lender.specs.declared.belief.Belief.TheVariants as Belief;
 ghost use Rattle.page_lender.specs.declared.order.Order.TheVariants as Order;
 ghost use Rattle.page_lender.specs.declared.order.Outcome.TheVariants as Outcome;
 
-use hold_rows::laws::row_law;
+use page_holds::rows::laws::row_law;
 
 /// *Each page of a window reads what its guest stored last*, at each moment of every history, also while an order of it is open, or was
 /// carried out and nobody is told. What is believed of it is right, each order that is carried out is possible in the protocol, and an

@@ -1,3 +1,7 @@
 pub mod Courses
 pub mod Kept
 pub mod Left
+mod RowCourses
+mod RowEnds
+mod RowRuns
+mod RowsKept

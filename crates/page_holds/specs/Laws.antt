@@ -3,7 +3,7 @@ use Rattle.std.specs.Prelude.{◌≡◌, ℕ, ◌<◌, Bool, true, false, List, 
 use Rattle.page_lender.specs.Decisions.{waiting}
 use Rattle.page_lender.specs.declared.bars.Bars.{Bars}
 use Rattle.page_lender.specs.declared.order.Order.{Order}
-use Rattle.window_lender.specs.Calls.{IsOrdered}
+use Rattle.page_lender.specs.Calls.{IsOrdered}
 use Rattle.window_pages.specs.Bytes.{belief_of, known_of}
 use Rattle.window_pages.specs.Changed.{Lends}
 use Rattle.window_pages.specs.declared.counts.PartCounts.{PartCounts}

@@ -5,7 +5,7 @@ use Rattle.page_lender.specs.declared.belief.Belief.{Belief}
 use Rattle.page_lender.specs.declared.belief.Belief.TheVariants.{Private, Chosen, Copied, Loaned, Held, Equal, LettingGo, Shown, Homing, Leaving, Zeros, HeldZeros, EqualZeros, PuttingBack}
 use Rattle.page_lender.specs.declared.order.Outcome.{Outcome}
 use Rattle.page_lender.specs.declared.order.Outcome.TheVariants.{Done, Unknown, Refused as NotDone}
-use Rattle.window_lender.specs.Calls.{IsDone}
+use Rattle.page_lender.specs.Calls.{IsDone}
 use Rattle.window_pages.specs.Bytes.{known_of}
 use Rattle.window_pages.specs.Changed.{Lends}
 use Rattle.window_pages.specs.Known.{no_bars, takes}

@@ -2,7 +2,7 @@
 ghost use Rattle.std.specs.Prelude.{◌≡◌, true, false};
 ghost use Rattle.page_holds.specs.Steps.{Took, asks_for, is_to_hold, outcome_for, outcome_of, place_after, place_of, said, step_of, still_watched};
 ghost use Rattle.page_lender.specs.Decisions.{waiting};
-ghost use Rattle.window_lender.specs.Calls.{IsOrdered, order_due};
+ghost use Rattle.page_lender.specs.Calls.{IsOrdered, order_due};
 ghost use Rattle.window_pages.specs.Bytes.{belief_of, known_of};
 ghost use Rattle.window_pages.specs.Changed.{Lends};
 ghost use Rattle.window_pages.specs.Known.{bars_of, lender_of};

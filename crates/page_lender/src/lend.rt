@@ -1,19 +1,18 @@
 //! The lender of one page.
 ghost use Rattle.std.specs.Prelude.{◌≡◌, true, false, not, ◌&&◌, if◌then◌else◌};
-ghost use Rattle.page_lender.specs.Decisions.{due, waiting, shows, touches, leads, moves, is_given, is_barred, must_own, prepared, is_busy, is_held, is_movable, may_go_on, joined, is_private};
+ghost use Rattle.page_lender.specs.Calls.{IsOrdered, is_free};
+ghost use Rattle.page_lender.specs.Decisions.{due, waiting, shows, touches, is_given, is_barred, must_own, prepared, is_busy, is_held, is_movable, may_go_on, joined, is_private};
 ghost use Rattle.page_lender.specs.Decisions.{is_outcome, stage_of, led_to, account, account_then, KeepsLoan};
 ghost use Rattle.page_lender.specs.Lender.{heard_of};
-ghost use Rattle.page_lender.specs.Slots.{NamesOwn};
 ghost use Rattle.page_lender.specs.Events.{DoneByEvents, StaysRight, HeardRightly, IsFree, ShowsNone};
 ghost use Rattle.page_lender.specs.declared.belief.Belief.TheVariants as Belief;
-ghost use Rattle.page_lender.specs.declared.order.Order.TheVariants as Order;
 
 use crate::{Bars, Belief, Notice, Order, Outcome, PageLender};
 
 impl PageLender {
     // Returns whether the page can be chosen: it is private, and nothing keeps it from being lent.
     fn is_free(&self) -> bool
-        ensures { result ≡ (is_private self.now.belief && not (is_barred self.now.bars)) }
+        ensures { result ≡ is_free self.now }
     {
         self.belief.is_private() && !self.bars.any()
     }
@@ -52,17 +51,7 @@ impl PageLender {
     /// Returns what to do next with the page: one order at a time, and none that leads to showing a frame or to giving memory back
     /// while something keeps the page from being lent.
     pub fn next(&mut self) -> Order
-        ensures one { self.old.ordered ≡ true → (result ≡ Order.Wait) × (self.new ≡ self.old) }
-        ensures belief { self.old.ordered ≡ false → self.new.belief ≡ prepared self.old.bars self.old.belief }
-        ensures order { self.old.ordered ≡ false → result ≡ due self.new.belief }
-        ensures names { self.old.ordered ≡ false → NamesOwn result self.new.belief }
-        ensures ordered { self.old.ordered ≡ false → self.new.ordered ≡ is_given result }
-        ensures bars { self.new.bars ≡ self.old.bars }
-        ensures barred { is_barred self.old.bars ≡ true → leads result ≡ false }
-        ensures pinned { self.old.bars.pinned ≡ true → moves result ≡ false }
-        ensures quiet { is_barred self.old.bars ≡ true → may_go_on self.old ≡ true → touches result ≡ false }
-        ensures account { account self.new.belief ≡ account self.old.belief }
-        ensures right { StaysRight self.old.belief self.new.belief }
+        ensures { IsOrdered result self.old self.new }
     {
         if self.ordered {
             return Order::Wait;

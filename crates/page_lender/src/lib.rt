@@ -9,10 +9,12 @@ pub mod laws;
 mod lend;
 mod notices;
 mod order;
+mod packed;
 mod page;
 mod results;
 
 pub use bars::Bars;
 pub use belief::Belief;
 pub use order::{Notice, Order, Outcome};
+pub use packed::{belief_of, frame_of, number_of, slot_of};
 pub use page::PageLender;

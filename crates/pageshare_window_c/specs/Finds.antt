@@ -1,16 +1,16 @@
 -- The numbers of what a look does with a page.
 use Rattle.std.specs.Prelude.{◌≡◌, ℕ, ◌==◌, if◌then◌else◌}
-use Rattle.page_finds.specs.Steps.{Came}
-use Rattle.page_finds.specs.declared.step.FindOutcome.{FindOutcome}
-use Rattle.page_finds.specs.declared.step.FindStep.{FindStep}
-use Rattle.page_finds.specs.declared.step.FindStep.TheVariants.{Over, FindCopy, Glance, Read, Count, Idle, Zeros}
-use Rattle.page_finds.specs.declared.step.Memory.{Memory}
-use Rattle.page_finds.specs.declared.step.Memory.TheVariants.{Missing, Present, Swapped}
-use Rattle.page_finds.specs.declared.step.Sight.{Sight}
+use Rattle.page_looks.specs.Steps.{Came}
+use Rattle.page_looks.specs.declared.finds.step.FindOutcome.{FindOutcome}
+use Rattle.page_looks.specs.declared.finds.step.FindStep.{FindStep}
+use Rattle.page_looks.specs.declared.finds.step.FindStep.TheVariants.{Over, FindCopy, Glance, Read, Count, Idle, Zeros}
+use Rattle.page_looks.specs.declared.finds.step.Memory.{Memory}
+use Rattle.page_looks.specs.declared.finds.step.Memory.TheVariants.{Missing, Present, Swapped}
+use Rattle.page_looks.specs.declared.finds.step.Sight.{Sight}
 use Rattle.window_pages.specs.declared.counts.PartCounts.{PartCounts}
 use Rattle.window_pages.specs.declared.page.WindowPage.{WindowPage}
-use Rattle.window_tables.specs.declared.parts.WindowPart.{WindowPart}
-use Rattle.pageshare_window_c.specs.Looks.{config_of, rests_of}
+use Rattle.page_looks.specs.declared.parts.part.Part.{Part}
+use Rattle.pageshare_window_c.specs.Looks.{config_of}
 use Rattle.pageshare_window_c.specs.declared.looks.WindowLook.{WindowLook}
 
 -- which memory the system has for a page, by its number; none by any other
@@ -33,8 +33,8 @@ step_number Idle = 5
 step_number Zeros = 6
 
 -- the look at a page
-abbrev pub sight_of : WindowLook → WindowPart → ℕ → Sight
-sight_of look part number = record { config = config_of look; part = rests_of part; look = look.look; number = number; zeros = look.zeros }
+abbrev pub sight_of : WindowLook → Part → ℕ → Sight
+sight_of look part number = record { config = config_of look; part = part; look = look.look; number = number; zeros = look.zeros }
 
 -- This came of a step with this number, and the step with that number is next.
 pub record CameBy (step : ℕ) (sight : Sight) (outcome : FindOutcome) (number : ℕ) (old new : WindowPage) (part part_new : PartCounts) : Type 0 where

@@ -1,6 +1,6 @@
 -- The numbers of what a row of held pages is about.
 use Rattle.std.specs.Prelude.{ℕ, ◌==◌, if◌then◌else◌}
-use Rattle.hold_rows.specs.declared.run.RowOrder.{RowOrder}
+use Rattle.page_holds.specs.declared.rows.run.RowOrder.{RowOrder}
 use Rattle.page_holds.specs.declared.place.HoldStep.{HoldStep}
 use Rattle.page_holds.specs.declared.place.HoldStep.TheVariants.{Over, Compare, CompareZeros, Map, GiveBack, PutBack, EndWatch}
 use Rattle.pageshare_window_c.specs.declared.holds.WindowRowOrder.{WindowRowOrder}

@@ -3,7 +3,7 @@ use Rattle.std.specs.Prelude.{◌≡◌, ℕ, Bool, true, false}
 use Rattle.page_lender.specs.declared.order.Order.{Order}
 use Rattle.page_lender.specs.declared.order.Order.TheVariants.{Wait, Copy, Lend, Hold, Compare, Map, LetGo, CopyInPlace, TakeHome, Release, HoldZeros, CompareZeros, GiveBack, PutBack}
 use Rattle.page_lender.specs.declared.order.Outcome.{Outcome}
-use Rattle.window_lender.specs.Calls.{IsDone}
+use Rattle.page_lender.specs.Calls.{IsDone}
 use Rattle.window_pages.specs.Bytes.{known_of}
 use Rattle.window_pages.specs.Changed.{Lends}
 use Rattle.window_pages.specs.Known.{no_bars, takes}

@@ -1,11 +1,12 @@
 //! What a look does with a page, step by step.
 ghost use Rattle.std.specs.Prelude.{◌≡◌};
-ghost use Rattle.page_finds.specs.Steps.{NotesMemory, first_step};
+ghost use Rattle.page_looks.specs.Steps.{NotesMemory, first_step};
 ghost use Rattle.pageshare_window_c.specs.Finds.{CameBy, memory_by, sight_of, step_by, step_number};
 
-use crate::looks::{config_of, rests_of};
-use crate::{WindowLook, WindowPart};
-use page_finds::{FindOutcome, FindStep, Memory, Sight, begin, done};
+use crate::WindowLook;
+use crate::looks::config_of;
+use page_looks::finds::{FindOutcome, FindStep, Memory, Sight, begin, done};
+use page_looks::parts::Part;
 use window_pages::{PartCounts, WindowFacts, WindowPage};
 
 // Returns which memory the system has for a page, by its number.
@@ -50,12 +51,12 @@ fn step_number(step: FindStep) -> u8
 }
 
 // Returns the look at a page.
-fn sight_of(look: &WindowLook, part: &WindowPart, number: u32) -> Sight
+fn sight_of(look: &WindowLook, part: &Part, number: u32) -> Sight
     ensures { result ≡ sight_of look.now part.now number }
 {
     Sight {
         config: config_of(look),
-        part: rests_of(part),
+        part: *part,
         look: look.look,
         number,
         zeros: look.zeros,
@@ -69,7 +70,7 @@ fn sight_of(look: &WindowLook, part: &WindowPart, number: u32) -> Sight
 pub extern "C" fn pageshare_window_begin_find(
     page: &mut WindowPage,
     counts: &mut PartCounts,
-    part: &WindowPart,
+    part: &Part,
     look: &WindowLook,
     facts: &WindowFacts,
     number: u32,
@@ -88,7 +89,7 @@ pub extern "C" fn pageshare_window_begin_find(
 pub extern "C" fn pageshare_window_find_done(
     page: &mut WindowPage,
     counts: &mut PartCounts,
-    part: &WindowPart,
+    part: &Part,
     look: &WindowLook,
     number: u32,
     step: u8,

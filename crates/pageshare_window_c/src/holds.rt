@@ -1,11 +1,11 @@
 //! What is done next with pages that are held in a row.
 ghost use Rattle.std.specs.Prelude.{◌≡◌, ◌%◌};
-ghost use Rattle.hold_rows.specs.Orders.{OrdersNext};
-ghost use Rattle.hold_rows.specs.Rows.{RowBegins, RowCameOut};
+ghost use Rattle.page_holds.specs.Orders.{OrdersNext};
+ghost use Rattle.page_holds.specs.Rows.{RowBegins, RowCameOut};
 ghost use Rattle.pageshare_window_c.specs.Holds.{order_by, step_number};
 
-use hold_rows::{RowOrder, again, begin, next};
 use page_holds::HoldStep;
+use page_holds::rows::{RowOrder, again, begin, next};
 use window_pages::{PartCounts, WindowPage};
 use window_tables::TableFacts;
 
@@ -103,7 +103,7 @@ pub extern "C" fn pageshare_window_row_done(
 ) -> bool
     ensures { RowCameOut lead first order.now.first done refused result pages.old pages.new parts.old parts.new row.old row.new }
 {
-    hold_rows::done(pages, parts, lead, first, row, order.first, done, refused)
+    page_holds::rows::done(pages, parts, lead, first, row, order.first, done, refused)
 }
 
 /// Returns the byte of a page with which a row of its own begins: it isn't stuck, and its memory is where it was.

@@ -16,17 +16,16 @@ ghost use Rattle.offered_ranges.specs.Tables.{added, can_add, can_take_out, is_o
 ghost use Rattle.page_lender.specs.Decisions.{is_busy};
 ghost use Rattle.page_lender.specs.declared.order.Notice.TheVariants as Notice;
 ghost use Rattle.page_lender.specs.declared.order.Outcome.TheVariants as Outcome;
-ghost use Rattle.window_lender.specs.Calls.{IsChosen, IsHeard, IsOrdered, is_free, order_due};
-ghost use Rattle.window_lender.specs.Huge.{order_of, part_then};
+ghost use Rattle.page_lender.specs.Calls.{IsChosen, IsHeard, IsOrdered, is_free, order_due};
+ghost use Rattle.page_looks.specs.Parts.{order_of, part_then};
 ghost use Rattle.window_pages.specs.Runs.{is_here_as, keeps_slot, lies_as};
 ghost use Rattle.pageshare_window_c.specs.Budgets.{ledger_of, rates};
 ghost use Rattle.window_pages.specs.Bytes.{known_of, notes_of};
 ghost use Rattle.window_pages.specs.Changed.{Becomes, Lends, given_back, lender_with, no_past};
 ghost use Rattle.window_pages.specs.Counted.{counts_then};
 ghost use Rattle.window_pages.specs.Known.{bars_of, chosen_as, lender_of, no_bars, shows_past, stays};
-ghost use Rattle.pageshare_window_c.specs.Looks.{rests_of};
 ghost use Rattle.pageshare_window_c.specs.Pages.{Takes, number_of};
-ghost use Rattle.pageshare_window_c.specs.Parts.{config_of, look_of, part_number, part_of};
+ghost use Rattle.pageshare_window_c.specs.Parts.{part_number};
 
 mod budget;
 mod finds;
@@ -69,11 +68,10 @@ pub use numbers::pageshare_window_find_numbers;
 pub use offered_ranges::{OfferedBounds, OfferedRange, Piece, Taken};
 use offered_ranges::{add, is_part_left, next as next_piece, take_out};
 use order::number_of;
-pub use page_finds::FindOutcome;
 use page_lender::{Notice, Outcome};
-pub use page_pins::Transfer;
-use part::next_of_part;
-pub use part::{WindowPartConfig, WindowPartLook};
+pub use page_looks::finds::FindOutcome;
+pub use page_looks::parts::{Part, PartConfig, PartLook};
+use part::part_number;
 pub use pins::{
     pageshare_window_begin_transfer, pageshare_window_end_transfer, pageshare_window_pin,
     pageshare_window_unpin,
@@ -98,7 +96,8 @@ use window_pages::{
     alike, before_release, choose, forget, give_back, hear, here, is_free, next, see, stays,
     stop_past, take, withdraw,
 };
-pub use window_tables::{TableFacts, WindowPart};
+pub use window_tables::TableFacts;
+pub use window_tables::pins::Transfer;
 
 /// Begins a budget at these readings of the clocks: the time, and the processor time that the thread has used. A share is 1 to 100
 /// percent of one processor, and a burst is no less.
@@ -390,14 +389,12 @@ pub extern "C" fn pageshare_window_before_release(pages: &[WindowPage]) -> usize
 /// then writes to `whole` whether it was done.
 #[unsafe(no_mangle)]
 pub extern "C" fn pageshare_window_next_of_part(
-    part: &mut WindowPart,
-    config: &WindowPartConfig,
-    look: &WindowPartLook,
+    part: &mut Part,
+    config: &PartConfig,
+    look: &PartLook,
 ) -> u8
-    ensures order { result ≡ part_number (order_of (config_of config.now) (part_of part.old) (look_of look.now) look.now.is_loose look.now.is_movable) }
-    ensures huge { part.new.is_huge ≡ part.old.is_huge }
-    ensures rests { rests_of part.new ≡ record (rests_of part.old) { whole = part.new.whole } }
-    ensures part { part_of part.new ≡ part_then (config_of config.now) (part_of part.old) (look_of look.now) (order_of (config_of config.now) (part_of part.old) (look_of look.now) look.now.is_loose look.now.is_movable) }
+    ensures order { result ≡ part_number (order_of config.now part.old look.now) }
+    ensures part { part.new ≡ part_then config.now part.old look.now (order_of config.now part.old look.now) }
 {
-    next_of_part(part, config, look)
+    part_number(part.next(config, look))
 }

@@ -1,17 +1,17 @@
 //! Pages and parts, as looks know them.
 ghost use Rattle.std.specs.Prelude.{◌≡◌, ◌+◌, ◌%◌, ◌<◌, ◌≤◌, nat_eq, if◌then◌else◌, false, [], ◌∷◌, ◌++◌, length, take};
-ghost use Rattle.idle_pages.specs.Idle.{asked, asked_last, due, glanced_by, held};
-ghost use Rattle.idle_pages.specs.Rests.{found_then, woken};
-ghost use Rattle.idle_pages.specs.Samples.{is_left_out, is_to_fetch};
-ghost use Rattle.idle_pages.specs.Turns.{is_asked_in_passing, is_turn_of_idle};
-ghost use Rattle.idle_pages.specs.declared.look.TheConstants.{TOGETHER};
-ghost use Rattle.page_finds.specs.Notes.{Notes, looks_of};
+ghost use Rattle.page_looks.specs.Idle.{asked, asked_last, due, glanced_by, held};
+ghost use Rattle.page_looks.specs.Rests.{found_then, woken};
+ghost use Rattle.page_looks.specs.Samples.{is_left_out, is_to_fetch};
+ghost use Rattle.page_looks.specs.Turns.{is_asked_in_passing, is_turn_of_idle};
+ghost use Rattle.page_looks.specs.declared.idle.look.TheConstants.{TOGETHER};
+ghost use Rattle.page_looks.specs.Notes.{Notes, looks_of};
 ghost use Rattle.window_pages.specs.Bytes.{known_of, notes_of};
-ghost use Rattle.pageshare_window_c.specs.Looks.{config_of, is_taken, number_at, places_in, places_where, rests_of, takes_at, takes_by, with_rests};
+ghost use Rattle.pageshare_window_c.specs.Looks.{config_of, is_taken, number_at, places_in, places_where, takes_at, takes_by};
 
-use crate::WindowPart;
-use idle_pages::{LookConfig, PartLooks, TOGETHER};
-use page_finds::{looks_of, write_looks};
+use page_looks::finds::{looks_of, write_looks};
+use page_looks::idle::{LookConfig, TOGETHER};
+use page_looks::parts::Part;
 use window_pages::{PartCounts, WindowPage};
 
 /// What is so of a part and of the look at it.
@@ -28,19 +28,6 @@ pub struct WindowLook {
     pub rest_most: u8,
 }
 
-// Returns what looks have found of a part.
-pub(crate) fn rests_of(part: &WindowPart) -> PartLooks
-    ensures { result ≡ rests_of part.now }
-{
-    PartLooks {
-        whole: part.whole,
-        rest: part.rest,
-        left: part.left,
-        own: part.own,
-        is_still: part.is_still,
-    }
-}
-
 // Returns how often a look takes what.
 pub(crate) fn config_of(look: &WindowLook) -> LookConfig
     ensures { result ≡ config_of look.now }
@@ -49,19 +36,6 @@ pub(crate) fn config_of(look: &WindowLook) -> LookConfig
         turns: look.turns,
         rest_most: look.rest_most,
     }
-}
-
-// Writes a part's rest.
-fn put_rests(part: &mut WindowPart, rests: &PartLooks)
-    ensures { part.new ≡ with_rests rests.now part.old }
-{
-    *part = WindowPart {
-        rest: rests.rest,
-        left: rests.left,
-        own: rests.own,
-        is_still: rests.is_still,
-        ..*part
-    };
 }
 
 // Returns the number of a page, at most the greatest one.
@@ -73,7 +47,7 @@ fn number_at(first: u32, place: usize) -> u32
 }
 
 // Returns whether it is the turn of idle pages at a page, by whether it was at the page before it. Pages in one row have their turns together.
-fn turn_after(before: bool, part: &PartLooks, config: &LookConfig, look: u32, number: u32) -> bool
+fn turn_after(before: bool, part: &Part, config: &LookConfig, look: u32, number: u32) -> bool
     requires { nat_eq (number % TOGETHER) 0 ≡ false → before ≡ is_turn_of_idle config.now part.now look number }
     ensures { result ≡ is_turn_of_idle config.now part.now look number }
 {
@@ -88,7 +62,7 @@ fn turn_after(before: bool, part: &PartLooks, config: &LookConfig, look: u32, nu
 // idle pages there.
 fn is_taken(
     page: &WindowPage,
-    part: &PartLooks,
+    part: &Part,
     look: u32,
     number: u32,
     is_return: bool,
@@ -107,7 +81,7 @@ fn is_taken(
 fn takes_by(
     pages: &[WindowPage],
     found: &[u8],
-    part: &PartLooks,
+    part: &Part,
     look: u32,
     number: u32,
     is_return: bool,
@@ -146,28 +120,27 @@ fn put_if(is_so: bool, taken: &mut [u16], count: usize, place: usize) -> usize
 pub extern "C" fn pageshare_window_take_pages(
     pages: &[WindowPage],
     found: &[u8],
-    part: &WindowPart,
+    part: &Part,
     look: &WindowLook,
     first: u32,
     is_return: bool,
     all: bool,
     taken: &mut [u16],
 ) -> usize
-    ensures { take result taken.new ≡ places_where (takes_at pages.now found.now (config_of look.now) (rests_of part.now) look.now.look first is_return all) (places_in pages.now found.now taken.old) }
+    ensures { take result taken.new ≡ places_where (takes_at pages.now found.now (config_of look.now) part.now look.now.look first is_return all) (places_in pages.now found.now taken.old) }
 {
-    let rests = rests_of(part);
     let config = config_of(look);
     let most = pages.len().min(found.len()).min(taken.len()).min(65_535);
     let mut count = 0;
     let mut number = number_at(first, 0);
-    let mut is_turn = rests.is_turn_of_idle(&config, look.look, number);
+    let mut is_turn = part.is_turn_of_idle(&config, look.look, number);
     for place in 0..most {
         let is_so = takes_by(
-            pages, found, &rests, look.look, number, is_return, all, is_turn, place,
+            pages, found, part, look.look, number, is_return, all, is_turn, place,
         );
         count = put_if(is_so, taken, count, place);
         number = number_at(first, place + 1);
-        is_turn = turn_after(is_turn, &rests, &config, look.look, number);
+        is_turn = turn_after(is_turn, part, &config, look.look, number);
     }
     count
 }
@@ -231,63 +204,59 @@ pub extern "C" fn pageshare_window_held(
 #[unsafe(no_mangle)]
 pub extern "C" fn pageshare_window_is_in_passing(
     page: &WindowPage,
-    part: &WindowPart,
+    part: &Part,
     look: &WindowLook,
     number: u32,
 ) -> bool
-    ensures { result ≡ is_asked_in_passing (config_of look.now) (rests_of part.now) (looks_of page.now) look.now.look number }
+    ensures { result ≡ is_asked_in_passing (config_of look.now) part.now (looks_of page.now) look.now.look number }
 {
-    looks_of(page).is_asked_in_passing(&config_of(look), &rests_of(part), look.look, number)
+    looks_of(page).is_asked_in_passing(&config_of(look), part, look.look, number)
 }
 
 /// Returns whether a look leaves a page out, if its part rests.
 #[unsafe(no_mangle)]
 pub extern "C" fn pageshare_window_is_left_out(
     page: &WindowPage,
-    part: &WindowPart,
+    part: &Part,
     look: &WindowLook,
     number: u32,
 ) -> bool
-    ensures { result ≡ is_left_out (config_of look.now) (rests_of part.now) (looks_of page.now) look.now.look number }
+    ensures { result ≡ is_left_out (config_of look.now) part.now (looks_of page.now) look.now.look number }
 {
-    looks_of(page).is_left_out(&config_of(look), &rests_of(part), look.look, number)
+    looks_of(page).is_left_out(&config_of(look), part, look.look, number)
 }
 
 /// Returns whether a glance at a page is so likely that what it reads is fetched before.
 #[unsafe(no_mangle)]
 pub extern "C" fn pageshare_window_is_to_fetch(
     page: &WindowPage,
-    part: &WindowPart,
+    part: &Part,
     look: &WindowLook,
     number: u32,
 ) -> bool
-    ensures { result ≡ is_to_fetch (rests_of part.now) (looks_of page.now) (known_of page.now).over look.now.look number }
+    ensures { result ≡ is_to_fetch part.now (looks_of page.now) (known_of page.now).over look.now.look number }
 {
     let is_over = page.known().over;
-    looks_of(page).is_to_fetch(&rests_of(part), is_over, look.look, number)
+    looks_of(page).is_to_fetch(part, is_over, look.look, number)
 }
 
 /// Takes what a look found of a part: how many idle pages have changed, and how many have memory of their own.
 #[unsafe(no_mangle)]
 pub extern "C" fn pageshare_window_set_rest(
-    part: &mut WindowPart,
+    part: &mut Part,
     look: &WindowLook,
     changes: u32,
     own: u32,
 )
-    ensures { part.new ≡ with_rests (found_then (config_of look.now) (rests_of part.old) changes own) part.old }
+    ensures { part.new ≡ found_then (config_of look.now) part.old changes own }
 {
-    let mut rests = rests_of(part);
-    rests.set_rest(&config_of(look), changes, own);
-    put_rests(part, &rests);
+    part.set_rest(&config_of(look), changes, own);
 }
 
 /// Ends a part's rest.
 #[unsafe(no_mangle)]
-pub extern "C" fn pageshare_window_wake(part: &mut WindowPart)
-    ensures { part.new ≡ with_rests (woken (rests_of part.old)) part.old }
+pub extern "C" fn pageshare_window_wake(part: &mut Part)
+    ensures { part.new ≡ woken part.old }
 {
-    let mut rests = rests_of(part);
-    rests.wake();
-    put_rests(part, &rests);
+    part.wake();
 }

@@ -3,15 +3,16 @@ ghost use Rattle.std.specs.Prelude.{◌≡◌, replicate};
 ghost use Rattle.window_pages.specs.Laws.{new_page};
 ghost use Rattle.window_tables.specs.Mappings.{mappings_at, mappings_more, mappings_of};
 
+use page_looks::parts::Part;
 use window_pages::WindowPage;
-use window_tables::{WindowPart, mappings_at, mappings_more, mappings_new};
+use window_tables::{mappings_at, mappings_more, mappings_new};
 
 /// Returns how many mappings begin at so many pages from one on, or at the page behind them, as far as these pages are there. Of a whole table
 /// that is how many mappings it has.
 #[unsafe(no_mangle)]
 pub extern "C" fn pageshare_window_mappings_at(
     pages: &[WindowPage],
-    parts: &[WindowPart],
+    parts: &[Part],
     lead: usize,
     first: usize,
     count: usize,
@@ -25,7 +26,7 @@ pub extern "C" fn pageshare_window_mappings_at(
 #[unsafe(no_mangle)]
 pub extern "C" fn pageshare_window_mappings_more(
     pages: &[WindowPage],
-    parts: &[WindowPart],
+    parts: &[Part],
     lead: usize,
     first: usize,
     count: usize,
@@ -37,11 +38,7 @@ pub extern "C" fn pageshare_window_mappings_more(
 
 /// Returns how many mappings a window of so many pages takes at first, where nothing is known of its pages.
 #[unsafe(no_mangle)]
-pub extern "C" fn pageshare_window_mappings_new(
-    parts: &[WindowPart],
-    lead: usize,
-    count: usize,
-) -> usize
+pub extern "C" fn pageshare_window_mappings_new(parts: &[Part], lead: usize, count: usize) -> usize
     ensures { result ≡ mappings_of lead parts.now (replicate count new_page) }
 {
     mappings_new(parts, lead, count)

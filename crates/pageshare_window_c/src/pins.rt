@@ -1,9 +1,9 @@
 //! Which pages a device may hold: transfers that are under way, and pages that were pinned.
 ghost use Rattle.std.specs.Prelude.{◌≡◌, if◌then◌else◌};
-ghost use Rattle.page_pins.specs.Pins.{can_pin, can_unpin, pinned, unpinned};
-ghost use Rattle.page_pins.specs.Transfers.{elsewhere_begun, elsewhere_ended, first_free, with_begun, with_ended};
+ghost use Rattle.window_tables.specs.Pins.{can_pin, can_unpin, pinned, unpinned};
+ghost use Rattle.window_tables.specs.Transfers.{elsewhere_begun, elsewhere_ended, first_free, with_begun, with_ended};
 
-use page_pins::{Transfer, begin, end, pin, unpin};
+use window_tables::pins::{Transfer, begin, end, pin, unpin};
 
 /// Begins a transfer at the first free place, and returns that place. Where none is free it counts the transfer as one that is elsewhere,
 /// and returns the number of places.

@@ -3,7 +3,7 @@ use Rattle.std.proofs.Common.{◌≡◌, ◌∙◌, ℕ, ◌+◌, ◌*◌, ◌/�
 use Rattle.std.specs.Prelude.{nat_eq}
 use Rattle.page_lender.specs.declared.belief.Belief.{Belief}
 use Rattle.page_lender.specs.declared.belief.Belief.TheVariants.{Private, Chosen, Copied, Loaned, Held, Equal, LettingGo, Shown, Homing, Leaving, Zeros, HeldZeros, EqualZeros, PuttingBack}
-use Rattle.window_lender.specs.Packing.{belief_if, belief_in, frame_in, number_of, slot_in}
+use Rattle.page_lender.specs.Packing.{belief_if, belief_in, frame_in, number_of, slot_in}
 use Rattle.window_pages.specs.Bytes.{belief_byte, belief_of, digit, known_of, looks_byte}
 use Rattle.window_pages.specs.Known.{has_slot}
 use Rattle.window_pages.specs.declared.page.KnownPage.{KnownPage}

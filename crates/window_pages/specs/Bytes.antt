@@ -1,7 +1,7 @@
 -- What the bytes of a page mean.
 use Rattle.std.specs.Prelude.{ℕ, ◌+◌, ◌*◌, ◌/◌, ◌%◌, ◌^◌, ◌==◌, Bool, true, false}
 use Rattle.page_lender.specs.declared.belief.Belief.{Belief}
-use Rattle.window_lender.specs.Packing.{belief_in, number_of}
+use Rattle.page_lender.specs.Packing.{belief_in, number_of}
 use Rattle.window_pages.specs.declared.page.KnownPage.{KnownPage}
 use Rattle.window_pages.specs.declared.page.PageNotes.{PageNotes}
 use Rattle.window_pages.specs.declared.page.WindowPage.{WindowPage}

@@ -6,7 +6,7 @@ use Rattle.page_lender.specs.declared.belief.Belief.{Belief}
 use Rattle.page_lender.specs.declared.belief.Belief.TheVariants.{Private, Chosen, Copied, Loaned, Held, Equal, LettingGo, Shown, Homing, Leaving, Zeros, HeldZeros, EqualZeros, PuttingBack}
 use Rattle.page_lender.specs.declared.order.Outcome.{Outcome}
 use Rattle.page_lender.specs.declared.page.PageLender.{PageLender}
-use Rattle.window_lender.specs.Packing.{slot_in, frame_in}
+use Rattle.page_lender.specs.Packing.{slot_in, frame_in}
 use Rattle.window_pages.specs.declared.facts.WindowFacts.{WindowFacts}
 use Rattle.window_pages.specs.declared.page.KnownPage.{KnownPage}
 use Rattle.window_pages.specs.declared.page.PageNotes.{PageNotes}

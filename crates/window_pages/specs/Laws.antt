@@ -4,7 +4,7 @@ use Rattle.std.specs.List.{count_by}
 use Rattle.page_lender.specs.Decisions.{leads, moves, shows}
 use Rattle.page_lender.specs.declared.order.Order.{Order}
 use Rattle.page_lender.specs.declared.page.PageLender.{PageLender}
-use Rattle.window_lender.specs.Calls.{IsOrdered}
+use Rattle.page_lender.specs.Calls.{IsOrdered}
 use Rattle.window_pages.specs.Bytes.{known_of, notes_of}
 use Rattle.window_pages.specs.Counted.{counts_then, is_to_release}
 use Rattle.window_pages.specs.Known.{is_given_back, lender_of, may_be_copy, shows_past, stays}

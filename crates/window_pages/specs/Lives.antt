@@ -14,7 +14,7 @@ use Rattle.window_events.specs.Windows.{Mappings, is_bare, shown, shown_in, step
 use Rattle.window_events.specs.declared.event.Event.{Event}
 use Rattle.window_events.specs.declared.page.Page.{Page}
 use Rattle.window_events.specs.declared.page.View.TheVariants.{Own}
-use Rattle.window_lender.specs.Calls.{IsChosen, IsDone, IsHeard, IsOrdered}
+use Rattle.page_lender.specs.Calls.{IsChosen, IsDone, IsHeard, IsOrdered}
 use Rattle.window_pages.specs.Bytes.{belief_of, known_of}
 use Rattle.window_pages.specs.Changed.{Becomes, Lends, detached, discarded}
 use Rattle.window_pages.specs.Known.{no_bars}

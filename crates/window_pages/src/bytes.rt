@@ -1,12 +1,11 @@
 //! What is known of a page, as bytes.
 ghost use Rattle.std.specs.Prelude.{◌≡◌, ◌+◌, ◌*◌, ◌/◌, ◌%◌, ◌^◌, ◌<◌, ◌≤◌, if◌then◌else◌};
-ghost use Rattle.window_lender.specs.Packing.{frame_in, slot_in};
+ghost use Rattle.page_lender.specs.Packing.{frame_in, slot_in};
 ghost use Rattle.window_pages.specs.Bytes.{belief_byte, belief_of, bit, digit, known_of, looks_byte, nibble, notes_of};
 ghost use Rattle.window_pages.specs.Known.{has_slot, kept_by, stored};
 
 use crate::{KnownPage, PageNotes, WindowPage};
-use page_lender::Belief;
-use window_lender::{belief_of, frame_of, number_of, slot_of};
+use page_lender::{Belief, belief_of, frame_of, number_of, slot_of};
 
 // What a clue is below.
 pub(crate) const CLUES: u16 = 32_768;

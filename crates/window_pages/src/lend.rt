@@ -2,7 +2,7 @@
 ghost use Rattle.std.specs.Prelude.{◌≡◌, ◌&&◌, not, true, false};
 ghost use Rattle.page_lender.specs.Decisions.{due, is_busy, is_movable, is_outcome, may_go_on, must_own};
 ghost use Rattle.page_lender.specs.Events.{IsFree, ShowsNone};
-ghost use Rattle.window_lender.specs.Calls.{IsChosen, IsDone, IsHeard, IsOrdered, is_free};
+ghost use Rattle.page_lender.specs.Calls.{IsChosen, IsDone, IsHeard, IsOrdered, is_free};
 ghost use Rattle.window_pages.specs.Bytes.{known_of, notes_of};
 ghost use Rattle.window_pages.specs.Changed.{Lends, lender_with};
 ghost use Rattle.window_pages.specs.Known.{bars_of, lender_of, no_bars, takes, chosen_as};
@@ -10,7 +10,6 @@ ghost use Rattle.window_pages.specs.Known.{bars_of, lender_of, no_bars, takes, c
 use crate::change::believe;
 use crate::{KnownPage, PartCounts, WindowFacts, WindowPage};
 use page_lender::{Bars, Notice, Order, Outcome, PageLender};
-use window_lender::next_of;
 
 // Returns no bars.
 fn no_bars() -> Bars
@@ -107,7 +106,7 @@ pub fn next(page: &mut WindowPage, part: &mut PartCounts, facts: &WindowFacts) -
     ensures { Lends (IsOrdered result) (bars_of facts.now (known_of page.old)) page.old page.new part.old part.new }
 {
     let mut lender = page.known().lender(facts);
-    let order = next_of(&mut lender);
+    let order = lender.next();
     believe(page, part, &lender);
     order
 }

@@ -18,15 +18,15 @@ use Rattle.window_tables.specs.Laws.{EachNumberIsRight, NotesStayInside, SameMap
 use Rattle.window_tables.specs.Mappings.{Mapped, StaysOutside, begins_after, begins_at, is_one, is_whole, mapped_as, mapped_at, mapped_before, mappings_at, mappings_from, mappings_more, mappings_of, sum_from, unmarked}
 use Rattle.window_tables.specs.declared.changes.Change.{Change}
 use Rattle.window_tables.specs.declared.changes.Change.TheVariants.{Covered, Uncovered, GivenUp, Unmapped, Left, Detached}
-use Rattle.window_tables.specs.declared.parts.WindowPart.{WindowPart}
+use Rattle.page_looks.specs.declared.parts.part.Part.{Part}
 
 -- the table's first page
-pub begins_first : (lead : ℕ) (parts : List WindowPart) (pages : List WindowPage) (place : ℕ) → place < length pages → place ≡ 0 → begins_at lead parts pages place ≡ true
+pub begins_first : (lead : ℕ) (parts : List Part) (pages : List WindowPage) (place : ℕ) → place < length pages → place ≡ 0 → begins_at lead parts pages place ≡ true
 begins_first lead parts [] place l e = absurd (omega (arith, l))
 begins_first lead parts (y ∷ pages) place l e = subst (λ i. begins_at lead parts (y ∷ pages) i ≡ true) (sym e) refl
 
 -- a page behind another one
-pub behind_page : (lead : ℕ) (parts : List WindowPart) (pages : List WindowPage) (p : ℕ) (x y : WindowPage) → slice_get pages p ≡ Some x → slice_get pages (suc p) ≡ Some y →
+pub behind_page : (lead : ℕ) (parts : List Part) (pages : List WindowPage) (p : ℕ) (x y : WindowPage) → slice_get pages p ≡ Some x → slice_get pages (suc p) ≡ Some y →
     begins_at lead parts pages (suc p) ≡ not (is_one (mapped_as (is_whole lead parts p) x) (mapped_as (is_whole lead parts (suc p)) y))
 behind_page lead parts pages p x y e f =
     ap (λ o. option_map_or (begins_after (option_map (mapped_as (is_whole lead parts p)) o)) (option_map (mapped_as (is_whole lead parts (suc p))) (slice_get pages (suc p))) false) e
@@ -35,7 +35,7 @@ behind_page lead parts pages p x y e f =
 next : (p : ℕ) → (p ≡ 0 → ⊥) → suc (p - 1) ≡ p
 next p n = omega (arith, n)
 
-behind_at : (lead : ℕ) (parts : List WindowPart) (pages : List WindowPage) (place : ℕ) (d : WindowPage) → place < length pages → (place ≡ 0 → ⊥) →
+behind_at : (lead : ℕ) (parts : List Part) (pages : List WindowPage) (place : ℕ) (d : WindowPage) → place < length pages → (place ≡ 0 → ⊥) →
     begins_at lead parts pages place
     ≡ not (is_one (mapped_as (is_whole lead parts (place - 1)) (get_or pages (place - 1) d)) (mapped_as (is_whole lead parts place) (get_or pages place d)))
 behind_at lead parts pages place d l n =
@@ -45,7 +45,7 @@ behind_at lead parts pages place d l n =
     subst (λ i. begins_at lead parts pages i ≡ not (is_one (mapped_as (is_whole lead parts (place - 1)) (get_or pages (place - 1) d)) (mapped_as (is_whole lead parts i) (get_or pages place d)))) (next place n)
     (behind_page lead parts pages (place - 1) (get_or pages (place - 1) d) (get_or pages place d) e g)
 
-pub begins_behind : (lead : ℕ) (parts : List WindowPart) (pages : List WindowPage) (place : ℕ) (d : WindowPage) (v w b : Bool) → place < length pages → (place ≡ 0 → ⊥) →
+pub begins_behind : (lead : ℕ) (parts : List Part) (pages : List WindowPage) (place : ℕ) (d : WindowPage) (v w b : Bool) → place < length pages → (place ≡ 0 → ⊥) →
     v ≡ is_whole lead parts (place - 1) → w ≡ is_whole lead parts place →
     b ≡ is_one (mapped_as v (get_or pages (place - 1) d)) (mapped_as w (get_or pages place d)) → not b ≡ begins_at lead parts pages place
 begins_behind lead parts pages place d v w b l n p q r =
@@ -56,11 +56,11 @@ begins_behind lead parts pages place d v w b l n p q r =
     ∙ sym (behind_at lead parts pages place d l n)
 
 -- no page is there
-pub none_begins : (lead : ℕ) (parts : List WindowPart) (pages : List WindowPage) (i : ℕ) → length pages ≤ i → begins_at lead parts pages i ≡ false
+pub none_begins : (lead : ℕ) (parts : List Part) (pages : List WindowPage) (i : ℕ) → length pages ≤ i → begins_at lead parts pages i ≡ false
 none_begins lead parts pages i l =
     ap (λ o. option_map_or (begins_after (mapped_before lead parts pages i)) (option_map (mapped_as (is_whole lead parts i)) o) false) (get_none pages i l)
 
-pub none_counts : (lead : ℕ) (parts : List WindowPart) (pages : List WindowPage) (i : ℕ) → length pages ≤ i → digit (begins_at lead parts pages i) ≡ 0
+pub none_counts : (lead : ℕ) (parts : List Part) (pages : List WindowPage) (i : ℕ) → length pages ≤ i → digit (begins_at lead parts pages i) ≡ 0
 none_counts lead parts pages i l = ap digit (none_begins lead parts pages i l)
 
 digit_most : (b : Bool) → digit b ≤ 1
@@ -68,20 +68,20 @@ digit_most true = omega arith
 digit_most false = omega arith
 
 -- as far as pages are there
-pub as_far : (lead : ℕ) (parts : List WindowPart) (pages : List WindowPage) (first count : ℕ) →
+pub as_far : (lead : ℕ) (parts : List Part) (pages : List WindowPage) (first count : ℕ) →
     mappings_at lead parts pages first count ≡ mappings_from lead parts pages first (min (count + 1) (length pages - first))
 as_far lead parts pages first count =
     sum_enough (λ place. digit (begins_at lead parts pages place)) first (min (count + 1) (length pages - first)) (count + 1) (omega arith)
     (λ i p q. none_counts lead parts pages i (omega (arith, p, q)))
 
-pub at_most : (lead : ℕ) (parts : List WindowPart) (pages : List WindowPage) (first count : ℕ) →
+pub at_most : (lead : ℕ) (parts : List Part) (pages : List WindowPage) (first count : ℕ) →
     mappings_at lead parts pages first count ≤ min (count + 1) (length pages - first)
 at_most lead parts pages first count =
     subst (λ m. m ≤ min (count + 1) (length pages - first)) (sym (as_far lead parts pages first count))
     (sum_most (λ place. digit (begins_at lead parts pages place)) first (min (count + 1) (length pages - first)) (λ i. digit_most (begins_at lead parts pages i)))
 
 -- before a range, in it, and beyond it
-in_three : (lead : ℕ) (parts : List WindowPart) (pages : List WindowPage) (first count n : ℕ) → length pages ≡ n →
+in_three : (lead : ℕ) (parts : List Part) (pages : List WindowPage) (first count n : ℕ) → length pages ≡ n →
     mappings_of lead parts pages
     ≡ mappings_from lead parts pages 0 first + mappings_at lead parts pages first count + mappings_from lead parts pages (first + (count + 1)) n
 in_three lead parts pages first count n e =
@@ -99,7 +99,7 @@ begins_same : (o q p : Option Mapped) → option_map unmarked o ≡ option_map u
 begins_same o q None e = refl
 begins_same o q (Some y) e = sym (unmarked_same o y) ∙ (ap (λ v. begins_after v y) e ∙ unmarked_same q y)
 
-same_at : (lead : ℕ) (parts parts_new : List WindowPart) (old new : List WindowPage) (i : ℕ) →
+same_at : (lead : ℕ) (parts parts_new : List Part) (old new : List WindowPage) (i : ℕ) →
     option_map unmarked (mapped_before lead parts_new new i) ≡ option_map unmarked (mapped_before lead parts old i) → mapped_at lead parts_new new i ≡ mapped_at lead parts old i →
     digit (begins_at lead parts_new new i) ≡ digit (begins_at lead parts old i)
 same_at lead parts parts_new old new i e f =
@@ -108,13 +108,13 @@ same_at lead parts parts_new old new i e f =
     ∙ ap (λ o. option_map_or (begins_after (mapped_before lead parts old i)) o false) f)
 
 -- before a range
-before_same : (lead first count : ℕ) (parts parts_new : List WindowPart) (old new : List WindowPage) → StaysOutside lead first count parts parts_new old new → (i : ℕ) → suc i ≤ first →
+before_same : (lead first count : ℕ) (parts parts_new : List Part) (old new : List WindowPage) → StaysOutside lead first count parts parts_new old new → (i : ℕ) → suc i ≤ first →
     mapped_before lead parts_new new i ≡ mapped_before lead parts old i
 before_same lead first count parts parts_new old new s zero l = refl
 before_same lead first count parts parts_new old new s (suc i) l = s.before i (omega (arith, l))
 
 -- beyond it
-beyond_same : (lead first count : ℕ) (parts parts_new : List WindowPart) (old new : List WindowPage) → StaysOutside lead first count parts parts_new old new → (i : ℕ) → first + (count + 1) ≤ i →
+beyond_same : (lead first count : ℕ) (parts parts_new : List Part) (old new : List WindowPage) → StaysOutside lead first count parts parts_new old new → (i : ℕ) → first + (count + 1) ≤ i →
     option_map unmarked (mapped_before lead parts_new new i) ≡ option_map unmarked (mapped_before lead parts old i)
 beyond_same lead first count parts parts_new old new s zero l = refl
 beyond_same lead first count parts parts_new old new s (suc i) l = pick (cases_eq i (first + count)) where
@@ -122,7 +122,7 @@ beyond_same lead first count parts parts_new old new s (suc i) l = pick (cases_e
   pick (inl e) = subst (λ j. option_map unmarked (mapped_at lead parts_new new j) ≡ option_map unmarked (mapped_at lead parts old j)) (sym e) s.behind
   pick (inr n) = ap (λ o. option_map unmarked o) (s.beyond i (omega (arith, l, n)))
 
-pub differences_count : (lead first count : ℕ) (parts parts_new : List WindowPart) (old new : List WindowPage) → StaysOutside lead first count parts parts_new old new →
+pub differences_count : (lead first count : ℕ) (parts parts_new : List Part) (old new : List WindowPage) → StaysOutside lead first count parts parts_new old new →
     mappings_of lead parts_new new ≡ mappings_of lead parts old - mappings_at lead parts old first count + mappings_at lead parts_new new first count
 differences_count lead first count parts parts_new old new s =
     let f : ℕ → ℕ = λ place. digit (begins_at lead parts old place) in
@@ -133,7 +133,7 @@ differences_count lead first count parts parts_new old new s =
     sum_same g f (first + (count + 1)) (length old) (λ i p q. same_at lead parts parts_new old new i (beyond_same lead first count parts parts_new old new s i p) (s.beyond i (omega (arith, p)))) in
     omega (arith, head, tail, in_three lead parts old first count (length old) refl, in_three lead parts_new new first count (length old) s.length)
 
-pub no_more_come : (lead first count : ℕ) (parts parts_new : List WindowPart) (old new : List WindowPage) → StaysOutside lead first count parts parts_new old new →
+pub no_more_come : (lead first count : ℕ) (parts parts_new : List Part) (old new : List WindowPage) → StaysOutside lead first count parts parts_new old new →
     mappings_of lead parts_new new ≤ mappings_of lead parts old + mappings_more lead parts old first count
 no_more_come lead first count parts parts_new old new s =
     omega
@@ -145,7 +145,7 @@ no_more_come lead first count parts parts_new old new s =
 abbrev mapped_by : Bool → KnownPage → PageNotes → Mapped
 mapped_by whole page notes = record { over = page.over; past = page.past; clue = notes.clue; moved = page.moved; begins = page.begins; whole = whole }
 
-same_page : (lead : ℕ) (parts : List WindowPart) (old new : List WindowPage) (i : ℕ) → slice_get new i ≡ slice_get old i → mapped_at lead parts new i ≡ mapped_at lead parts old i
+same_page : (lead : ℕ) (parts : List Part) (old new : List WindowPage) (i : ℕ) → slice_get new i ≡ slice_get old i → mapped_at lead parts new i ≡ mapped_at lead parts old i
 same_page lead parts old new i e = ap (λ o. option_map (mapped_as (is_whole lead parts i)) o) e
 
 marked_page : (w : Bool) (x y : WindowPage) → NowBegins x y → unmarked (mapped_as w y) ≡ unmarked (mapped_as w x)
@@ -235,7 +235,7 @@ some_keep_mappings what lead first count old new counts counts_new parts k n = r
 
 -- ---- numbers that are kept by differences ----
 
-same_number : (lead : ℕ) (parts parts_new : List WindowPart) (old new : List WindowPage) → SameMapped lead parts parts_new old new → mappings_of lead parts_new new ≡ mappings_of lead parts old
+same_number : (lead : ℕ) (parts parts_new : List Part) (old new : List WindowPage) → SameMapped lead parts parts_new old new → mappings_of lead parts_new new ≡ mappings_of lead parts old
 same_number lead parts parts_new old new s =
     sum_same (λ place. digit (begins_at lead parts_new new place)) (λ place. digit (begins_at lead parts old place)) 0 (length new) (λ i p q. same_at lead parts parts_new old new i (before i) (s.each i))
     ∙ ap (λ n. sum_from (λ place. digit (begins_at lead parts old place)) 0 n) s.length where

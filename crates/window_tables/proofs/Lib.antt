@@ -2,5 +2,9 @@ mod Behind
 pub mod Counts
 mod Differences
 mod NewTables
+mod Paired
+mod PinCounts
+mod PinPlaces
+mod Pinned
 pub mod Places
 mod Sums

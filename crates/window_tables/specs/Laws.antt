@@ -9,7 +9,7 @@ use Rattle.window_tables.specs.Changes.{keeps_mappings}
 use Rattle.window_tables.specs.Mappings.{StaysOutside, mapped_at, mappings_at, mappings_more, mappings_of}
 use Rattle.window_tables.specs.Tables.{Counted, Notes, OneChanges, part_at}
 use Rattle.window_tables.specs.declared.changes.Change.{Change}
-use Rattle.window_tables.specs.declared.parts.WindowPart.{WindowPart}
+use Rattle.page_looks.specs.declared.parts.part.Part.{Part}
 
 -- whatever becomes of a page
 abbrev pub Anything : WindowPage → WindowPage → Type 0
@@ -41,40 +41,40 @@ NoneIsMissed =
 -- where only pages of a range change, a table has as many mappings as before, less those that began there, and those that begin there then
 abbrev pub DifferencesCount : Type 0
 DifferencesCount =
-    (lead first count : ℕ) (parts parts_new : List WindowPart) (old new : List WindowPage) → StaysOutside lead first count parts parts_new old new →
+    (lead first count : ℕ) (parts parts_new : List Part) (old new : List WindowPage) → StaysOutside lead first count parts parts_new old new →
     mappings_of lead parts_new new ≡ mappings_of lead parts old - mappings_at lead parts old first count + mappings_at lead parts_new new first count
 
 -- whatever becomes of them, no more mappings come than `mappings_more` says
 abbrev pub NoMoreCome : Type 0
 NoMoreCome =
-    (lead first count : ℕ) (parts parts_new : List WindowPart) (old new : List WindowPage) → StaysOutside lead first count parts parts_new old new →
+    (lead first count : ℕ) (parts parts_new : List Part) (old new : List WindowPage) → StaysOutside lead first count parts parts_new old new →
     mappings_of lead parts_new new ≤ mappings_of lead parts old + mappings_more lead parts old first count
 
 -- what is noted of pages leaves what is mapped outside their range
 abbrev pub NotesStayInside : Type 0
 NotesStayInside =
-    (what : Change) (lead first count : ℕ) (old new : List WindowPage) (counts counts_new : List PartCounts) (parts : List WindowPart) →
+    (what : Change) (lead first count : ℕ) (old new : List WindowPage) (counts counts_new : List PartCounts) (parts : List Part) →
     Notes what lead first count true old new counts counts_new → StaysOutside lead first count parts parts old new
 
 -- the same is mapped at each place
-pub record SameMapped (lead : ℕ) (parts parts_new : List WindowPart) (old new : List WindowPage) : Type 0 where
+pub record SameMapped (lead : ℕ) (parts parts_new : List Part) (old new : List WindowPage) : Type 0 where
   pub length : length new ≡ length old
   pub each : (i : ℕ) → mapped_at lead parts_new new i ≡ mapped_at lead parts old i
 
 -- where content is given up, or pages leave, the same stays mapped
 abbrev pub SomeKeepMappings : Type 0
 SomeKeepMappings =
-    (what : Change) (lead first count : ℕ) (old new : List WindowPage) (counts counts_new : List PartCounts) (parts : List WindowPart) → keeps_mappings what ≡ true →
+    (what : Change) (lead first count : ℕ) (old new : List WindowPage) (counts counts_new : List PartCounts) (parts : List Part) → keeps_mappings what ≡ true →
     Notes what lead first count true old new counts counts_new → SameMapped lead parts parts old new
 
 -- A table, and a number that is kept by differences: it is how many mappings the table has at first. Then pages or parts change in one range after
 -- another, or anything where the same stays mapped.
-pub data KeptBy (lead : ℕ) : List WindowPart → List WindowPage → ℕ → Type 0 where
-  counted : (parts : List WindowPart) (pages : List WindowPage) → KeptBy lead parts pages (mappings_of lead parts pages)
-  range_changes : (first count n : ℕ) (parts parts_new : List WindowPart) (old new : List WindowPage) → KeptBy lead parts old n
+pub data KeptBy (lead : ℕ) : List Part → List WindowPage → ℕ → Type 0 where
+  counted : (parts : List Part) (pages : List WindowPage) → KeptBy lead parts pages (mappings_of lead parts pages)
+  range_changes : (first count n : ℕ) (parts parts_new : List Part) (old new : List WindowPage) → KeptBy lead parts old n
       → StaysOutside lead first count parts parts_new old new → KeptBy lead parts_new new (n - mappings_at lead parts old first count + mappings_at lead parts_new new first count)
-  same_stays : (n : ℕ) (parts parts_new : List WindowPart) (old new : List WindowPage) → KeptBy lead parts old n → SameMapped lead parts parts_new old new → KeptBy lead parts_new new n
+  same_stays : (n : ℕ) (parts parts_new : List Part) (old new : List WindowPage) → KeptBy lead parts old n → SameMapped lead parts parts_new old new → KeptBy lead parts_new new n
 
 -- such a number is how many mappings the table has
 abbrev pub EachNumberIsRight : Type 0
-EachNumberIsRight = (lead : ℕ) (parts : List WindowPart) (pages : List WindowPage) (n : ℕ) → KeptBy lead parts pages n → n ≡ mappings_of lead parts pages
+EachNumberIsRight = (lead : ℕ) (parts : List Part) (pages : List WindowPage) (n : ℕ) → KeptBy lead parts pages n → n ≡ mappings_of lead parts pages

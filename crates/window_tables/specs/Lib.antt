@@ -2,5 +2,8 @@ pub mod Changes
 pub mod Facts
 pub mod Laws
 pub mod Mappings
+pub mod PinLaws
+pub mod Pins
 pub mod Ranges
 pub mod Tables
+pub mod Transfers

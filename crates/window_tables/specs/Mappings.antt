@@ -5,7 +5,7 @@ use Rattle.window_pages.specs.Bytes.{digit, known_of, notes_of}
 use Rattle.window_pages.specs.Runs.{same}
 use Rattle.window_pages.specs.declared.page.WindowPage.{WindowPage}
 use Rattle.window_tables.specs.Tables.{part_at}
-use Rattle.window_tables.specs.declared.parts.WindowPart.{WindowPart}
+use Rattle.page_looks.specs.declared.parts.part.Part.{Part}
 
 -- What is mapped at a page's place, as far as is known: a frame, whose lender may be gone, or memory of its own, which may have been moved there. And
 -- whether the page's part is whole.
@@ -44,15 +44,15 @@ abbrev pub is_one : Mapped → Mapped → Bool
 is_one x y = are_frames_on x y || are_memory_on x y
 
 -- the part of a page is whole; one that isn't there isn't
-abbrev pub is_whole : ℕ → List WindowPart → ℕ → Bool
+abbrev pub is_whole : ℕ → List Part → ℕ → Bool
 is_whole lead parts place = option_map_or (λ part. part.whole) (slice_get parts (part_at lead place)) false
 
 -- what is mapped at a place of a table, if there is a page
-abbrev pub mapped_at : ℕ → List WindowPart → List WindowPage → ℕ → Option Mapped
+abbrev pub mapped_at : ℕ → List Part → List WindowPage → ℕ → Option Mapped
 mapped_at lead parts pages place = option_map (mapped_as (is_whole lead parts place)) (slice_get pages place)
 
 -- and at the place before it, if there is one
-abbrev pub mapped_before : ℕ → List WindowPart → List WindowPage → ℕ → Option Mapped
+abbrev pub mapped_before : ℕ → List Part → List WindowPage → ℕ → Option Mapped
 mapped_before lead parts pages zero = None
 mapped_before lead parts pages (suc place) = mapped_at lead parts pages place
 
@@ -62,7 +62,7 @@ begins_after None y = true
 begins_after (Some x) y = not (is_one x y)
 
 -- a mapping begins at a place
-abbrev pub begins_at : ℕ → List WindowPart → List WindowPage → ℕ → Bool
+abbrev pub begins_at : ℕ → List Part → List WindowPage → ℕ → Bool
 begins_at lead parts pages place = option_map_or (begins_after (mapped_before lead parts pages place)) (mapped_at lead parts pages place) false
 
 -- the sum of so many numbers from one on
@@ -71,19 +71,19 @@ sum_from f first zero = 0
 sum_from f first (suc n) = sum_from f first n + f (first + n)
 
 -- how many mappings begin at so many places from one on
-abbrev pub mappings_from : ℕ → List WindowPart → List WindowPage → ℕ → ℕ → ℕ
+abbrev pub mappings_from : ℕ → List Part → List WindowPage → ℕ → ℕ → ℕ
 mappings_from lead parts pages first n = sum_from (λ place. digit (begins_at lead parts pages place)) first n
 
 -- how many begin at so many pages from one place on, or at the page behind them
-abbrev pub mappings_at : ℕ → List WindowPart → List WindowPage → ℕ → ℕ → ℕ
+abbrev pub mappings_at : ℕ → List Part → List WindowPage → ℕ → ℕ → ℕ
 mappings_at lead parts pages first count = mappings_from lead parts pages first (count + 1)
 
 -- how many a whole table has
-abbrev pub mappings_of : ℕ → List WindowPart → List WindowPage → ℕ
+abbrev pub mappings_of : ℕ → List Part → List WindowPage → ℕ
 mappings_of lead parts pages = mappings_from lead parts pages 0 (length pages)
 
 -- how many more may begin there, whatever becomes of these pages: one at each of them, and at the page behind them
-abbrev pub mappings_more : ℕ → List WindowPart → List WindowPage → ℕ → ℕ → ℕ
+abbrev pub mappings_more : ℕ → List Part → List WindowPage → ℕ → ℕ → ℕ
 mappings_more lead parts pages first count = min (count + 1) (length pages - first) - mappings_at lead parts pages first count
 
 -- the same, whether or not it begins what was moved
@@ -91,7 +91,7 @@ abbrev pub unmarked : Mapped → Mapped
 unmarked x = record x { begins = false }
 
 -- What is mapped outside a range stays. Only the page behind the range may begin, or not, what was moved.
-pub record StaysOutside (lead first count : ℕ) (parts parts_new : List WindowPart) (old new : List WindowPage) : Type 0 where
+pub record StaysOutside (lead first count : ℕ) (parts parts_new : List Part) (old new : List WindowPage) : Type 0 where
   pub length : length new ≡ length old
   pub before : (i : ℕ) → suc i ≤ first → mapped_at lead parts_new new i ≡ mapped_at lead parts old i
   pub behind : option_map unmarked (mapped_at lead parts_new new (first + count)) ≡ option_map unmarked (mapped_at lead parts old (first + count))

@@ -1,4 +1,5 @@
-//! What is so of a window's pages, and what becomes of many of them at once: decided over the tables that the caller keeps.
+//! What is so of a window's pages, which of them a device may hold, and what becomes of many at once: decided over the tables that the caller
+//! keeps.
 #![tactic(auto)]
 
 mod ask;
@@ -7,10 +8,11 @@ mod facts;
 mod laws;
 mod mappings;
 mod parts;
+pub mod pins;
 
 pub use ask::{are_movable, may_give_up, may_go_on};
 pub use changes::{Change, can_note, note};
 pub use facts::{TableFacts, facts_of};
 pub use laws::{mappings_law, table_law};
 pub use mappings::{mappings_at, mappings_more, mappings_new};
-pub use parts::{PART, WindowPart};
+pub use parts::PART;

@@ -5,7 +5,8 @@ ghost use Rattle.window_pages.specs.Laws.{new_page};
 ghost use Rattle.window_pages.specs.Runs.{same};
 ghost use Rattle.window_tables.specs.Mappings.{are_in_a_row, begins_at, is_one, is_whole, mapped_as, mappings_at, mappings_more, mappings_of};
 
-use crate::{PART, WindowPart};
+use crate::PART;
+use page_looks::parts::Part;
 use window_pages::WindowPage;
 
 // What a clue is below.
@@ -41,7 +42,7 @@ fn is_one(before: &WindowPage, was_whole: bool, page: &WindowPage, is_whole: boo
 }
 
 // Returns whether the part of a page is whole. One that isn't there isn't.
-fn is_whole(parts: &[WindowPart], lead: usize, place: usize) -> bool
+fn is_whole(parts: &[Part], lead: usize, place: usize) -> bool
     ensures { result ≡ is_whole lead parts.now place }
 {
     // (the sum of the two may not fit)
@@ -50,7 +51,7 @@ fn is_whole(parts: &[WindowPart], lead: usize, place: usize) -> bool
 }
 
 // Returns whether a mapping begins at a place.
-fn begins_at(pages: &[WindowPage], parts: &[WindowPart], lead: usize, place: usize) -> bool
+fn begins_at(pages: &[WindowPage], parts: &[Part], lead: usize, place: usize) -> bool
     ensures { result ≡ begins_at lead parts.now pages.now place }
 {
     if place >= pages.len() {
@@ -70,7 +71,7 @@ fn begins_at(pages: &[WindowPage], parts: &[WindowPart], lead: usize, place: usi
 }
 
 // Returns 1 if a mapping begins at a place, and 0 otherwise.
-fn count_at(pages: &[WindowPage], parts: &[WindowPart], lead: usize, place: usize) -> usize
+fn count_at(pages: &[WindowPage], parts: &[Part], lead: usize, place: usize) -> usize
     ensures value { result ≡ digit (begins_at lead parts.now pages.now place) }
     ensures most { result ≤ 1 }
 {
@@ -94,7 +95,7 @@ fn places(pages: &[WindowPage], first: usize, count: usize) -> usize
 /// that is how many mappings it has.
 pub fn mappings_at(
     pages: &[WindowPage],
-    parts: &[WindowPart],
+    parts: &[Part],
     lead: usize,
     first: usize,
     count: usize,
@@ -112,7 +113,7 @@ pub fn mappings_at(
 /// Returns how many more mappings may begin at `count` pages from `first` on, or at the page behind them, whatever becomes of these pages.
 pub fn mappings_more(
     pages: &[WindowPage],
-    parts: &[WindowPart],
+    parts: &[Part],
     lead: usize,
     first: usize,
     count: usize,
@@ -123,7 +124,7 @@ pub fn mappings_more(
 }
 
 // Returns 1 if one of the parts of a page and of the one before it is whole, and the other isn't, and 0 otherwise.
-fn part_differs(parts: &[WindowPart], lead: usize, place: usize) -> usize
+fn part_differs(parts: &[Part], lead: usize, place: usize) -> usize
     requires { 0 < place }
     ensures value { result ≡ digit (not (same (is_whole lead parts.now (place - 1)) (is_whole lead parts.now place))) }
     ensures most { result ≤ 1 }
@@ -137,7 +138,7 @@ fn part_differs(parts: &[WindowPart], lead: usize, place: usize) -> usize
 
 /// Returns how many mappings a table of so many pages has whose bytes are zeros: one, and one more at each part that is whole where the one before
 /// it is split, or the other way round.
-pub fn mappings_new(parts: &[WindowPart], lead: usize, count: usize) -> usize
+pub fn mappings_new(parts: &[Part], lead: usize, count: usize) -> usize
     ensures { result ≡ mappings_of lead parts.now (replicate count new_page) }
 {
     if count == 0 {

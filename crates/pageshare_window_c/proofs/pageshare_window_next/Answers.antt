@@ -1,6 +1,6 @@
 -- The order is the one that is due.
 use Rattle.std.proofs.Common.{subst}
-use Rattle.window_lender.specs.Calls.{IsOrdered}
+use Rattle.page_lender.specs.Calls.{IsOrdered}
 use Rattle.window_pages.specs.Bytes.{known_of}
 use Rattle.window_pages.specs.Changed.{Lends}
 use Rattle.window_pages.specs.Known.{bars_of}

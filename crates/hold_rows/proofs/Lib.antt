@@ -1,4 +1,0 @@
-mod Courses
-mod Ends
-mod Rows
-mod Runs

@@ -1,4 +1,0 @@
-pub mod Bytes
-pub mod Laws
-pub mod Orders
-pub mod Rows

@@ -1,9 +1,0 @@
-use Rattle.idle_pages.proofs.Turned.{each_has_its_turn}
-use Rattle.idle_pages.proofs.Went.{each_is_noted}
-use Rattle.idle_pages.proofs.laws.turn_law.Goals as goal
-
-pub returns-clause-turns : goal.returns-clause-turns
-returns-clause-turns c = each_has_its_turn
-
-pub returns-clause-noted : goal.returns-clause-noted
-returns-clause-noted c = each_is_noted

@@ -1,5 +1,0 @@
-pub mod Idle
-pub mod Rests
-pub mod Samples
-pub mod Turns
-pub mod Ways

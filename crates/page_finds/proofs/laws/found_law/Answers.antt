@@ -1,8 +1,0 @@
-use Rattle.page_finds.proofs.Found.{found_is_idle, later_found_is_idle}
-use Rattle.page_finds.proofs.laws.found_law.Goals as goal
-
-pub returns-clause-first : goal.returns-clause-first
-returns-clause-first c = found_is_idle
-
-pub returns-clause-later : goal.returns-clause-later
-returns-clause-later c = later_found_is_idle

@@ -1,0 +1,8 @@
+mod Alike
+mod Found
+mod Paused
+mod Rested
+mod Sampled
+mod Stayed
+mod Turned
+pub mod Went

@@ -1,0 +1,9 @@
+pub mod FindLaws
+pub mod Idle
+pub mod Notes
+pub mod Parts
+pub mod Rests
+pub mod Samples
+pub mod Steps
+pub mod Turns
+pub mod Ways

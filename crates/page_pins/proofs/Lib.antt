@@ -1,4 +1,0 @@
-mod Counts
-mod Places
-mod Paired
-mod Pinned

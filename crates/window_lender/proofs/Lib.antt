@@ -1,2 +1,0 @@
-mod Ordered
-mod Paused

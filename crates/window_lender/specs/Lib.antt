@@ -1,3 +1,0 @@
-pub mod Calls
-pub mod Huge
-pub mod Packing
