@@ -1,12 +1,12 @@
 #!/usr/bin/env python3
-"""Compares what C, the proved libraries and the wrapper in Rust share: the members of structs, and the numbers of statuses.
+"""Compares what C, the proved libraries and the wrapper in Rust share: the members of structs, and the numbers of statuses and states.
 
     checks/structs.py
 
 No proof says in what order a struct of the libraries has its members, and a header with two members of one type exchanged compiles. So
 each struct with #[repr(C)] in FOLDERS must have the members of the header's structs that STRUCTS names, one by one: their order, names
-and types. And each constant of STATUSES must be the number that a header has under the same name. Prints what fails, and last
-'N passed, M failed'.
+and types. Each constant of STATUSES must be the number that a header has under the same name, and so must each number that a function
+of NUMBERS returns. Prints what fails, and last 'N passed, M failed'.
 """
 from __future__ import annotations
 
@@ -26,6 +26,13 @@ FOLDERS = {
 STATUSES = "crates/c_surface/src/status.rt"
 PREFIXES = ("PAGESHARE_ERROR_", "PAGESHARE_", "PAGESHARE_HOST_ERROR_", "PAGESHARE_HOST_")
 NOT_OF_C = {"FAULT_ANSWER"}
+# Functions that return the numbers of an enum of C, and what the header writes before each name.
+NUMBERS = {
+    "crates/page_lender/src/packed.rt number_of": "PAGESHARE_WINDOW_", "crates/pageshare_window_c/src/order.rt number_of": "PAGESHARE_WINDOW_",
+    "crates/pageshare_window_c/src/holds.rt step_number": "PAGESHARE_WINDOW_HOLD_",
+    "crates/pageshare_window_c/src/finds.rt step_number": "PAGESHARE_WINDOW_FIND_",
+    "crates/pageshare_window_c/src/part.rt part_number": "PAGESHARE_WINDOW_",
+}
 # The structs of C for each of the others.
 STRUCTS = {
     "Answer": "pageshare_answer", "Totals": "pageshare_totals", "PageName": "pageshare_page_name", "Lending": "pageshare_lending",
@@ -49,6 +56,7 @@ TYPES = {"bool": "bool", "u8": "uint8_t", "u16": "uint16_t", "u32": "uint32_t", 
 STRUCT = re.compile(r"#\[repr\(C\)\]\n(?:[ #/][^\n]*\n)*(?:pub(?:\(crate\))? )?struct (\w+)[^{\n]*\{\n((?:[^}\n][^\n]*\n)*)\}")
 STATUS = re.compile(r"^pub const (\w+): u32 = (\d+);$", re.M)
 ENUMERATOR = re.compile(r"^\s*(PAGESHARE_\w+) = (\d+)\b", re.M)
+ARM = re.compile(r"^ +\w+::(\w+)(\([^)]*\))? => (\d+),$", re.M)
 MEMBER = re.compile(r"^\s*(?:pub(?:\(crate\))? )?(\w+): ([^\n]+?),$", re.M)
 
 
@@ -78,10 +86,24 @@ def compare_statuses(tally: Tally) -> None:
         tally.equal(f"{name} in {STATUSES}", found, set() if name in NOT_OF_C else {number})
 
 
+def compare_numbers(tally: Tally) -> None:
+    """Each number of NUMBERS is the one that the header has under its name."""
+    of_c = dict(pair for header in HEADERS for pair in ENUMERATOR.findall((TOP / header).read_text()))
+    for place, prefix in NUMBERS.items():
+        file, function = place.split()
+        body = re.search(rf"fn {function}\(.*?\n}}\n", (TOP / file).read_text(), re.S)
+        arms = ARM.findall(body[0]) if body else []
+        tally.case(place, [] if arms else ["it has no numbers"])
+        for name, inside, number in arms:
+            spelled = re.sub(r"(?<=[a-z])(?=[A-Z])", "_", name).upper().removeprefix("FIND_") + ("_IN_PLACE" if "true" in inside else "")
+            tally.equal(f"{name}{inside} in {file}", of_c.get(prefix + spelled), number)
+
+
 def main() -> int:
     argparse.ArgumentParser(description=__doc__.splitlines()[0]).parse_args()
     tally, due = Tally(), structs_of_c()
     compare_statuses(tally)
+    compare_numbers(tally)
     for folder, suffix in FOLDERS.items():
         for file in sorted((TOP / folder).rglob(f"*.{suffix}")):
             for name, inside in STRUCT.findall(file.read_text()):
