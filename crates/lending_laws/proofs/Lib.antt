@@ -6,5 +6,6 @@ pub mod Notes
 pub mod Outcomes
 pub mod Over
 pub mod Pages
+pub mod Processes
 pub mod Slots
 pub mod Wrong

@@ -51,7 +51,7 @@ abbrev pub Quiet : ℕ → List Event → Type 0
 Quiet p [] = Unit {0}
 Quiet p (e ∷ es) = (own_content p e ≡ None) × Quiet p es
 
-unstored : (w : Mappings) (e : Event) (p x : ℕ) → own_content p e ≡ None → stored_after w e p x ≡ x
+pub unstored : (w : Mappings) (e : Event) (p x : ℕ) → own_content p e ≡ None → stored_after w e p x ≡ x
 unstored w e p x n = ap (λ o. cond (is_some (step w e)) (unwrap_or o x) x) n ∙ pick (is_some (step w e)) where
   pick : (b : Bool) → cond b x x ≡ x
   pick true = refl
@@ -69,7 +69,7 @@ quiet_reads p x (e ∷ es) w q r = pick (λ next k. quiet_reads p x es next q.1 
 none_of : (q p y : ℕ) → nat_eq q p ≡ false → cond (nat_eq q p) (Some y) None ≡ None
 none_of q p y t = ap (λ b. cond b (Some y) None) t
 
-apart_own : (p : ℕ) (e : Event) → is_of p e ≡ false → own_content p e ≡ None
+pub apart_own : (p : ℕ) (e : Event) → is_of p e ≡ false → own_content p e ≡ None
 apart_own p (Write q y) t = none_of q p y t
 apart_own p (Discard q) t = none_of q p 0 t
 apart_own p (Guard q) t = refl

@@ -155,7 +155,7 @@ turned_ones k olds news slots next t (loses its was is s) h = subst (λ v. EachS
 one_turned : (k : ℕ) (x y : WindowPage) (olds news : List WindowPage) → OneChanges k x y olds news → Turned k olds news
 one_turned k x y olds news c = record { others = λ j ne. ap (λ o. option_and_then (λ page. account (belief_of page)) o) (c.others j ne) }
 
-slot_at : (pages : List WindowPage) (k : ℕ) (x : WindowPage) → slice_get pages k ≡ Some x → slot_of pages k ≡ account (belief_of x)
+pub slot_at : (pages : List WindowPage) (k : ℕ) (x : WindowPage) → slice_get pages k ≡ Some x → slot_of pages k ≡ account (belief_of x)
 slot_at pages k x e = ap (λ o. option_and_then (λ page. account (belief_of page)) o) e
 
 -- ---- calls leave the account
@@ -273,7 +273,7 @@ no_slot_is_lost first count m (next_comes old new h c) = next_ones first count o
 
 -- ---- a release
 
-releases_own : (b : Belief) (slot : ℕ) → Order.Release slot ≡ due b → b ≡ Leaving slot
+pub releases_own : (b : Belief) (slot : ℕ) → Order.Release slot ≡ due b → b ≡ Leaving slot
 releases_own Private slot e = cc
 releases_own Chosen slot e = cc
 releases_own Copied slot e = cc

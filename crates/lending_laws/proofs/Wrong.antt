@@ -9,11 +9,15 @@ use Rattle.window_events.specs.Windows.{Mappings}
 use Rattle.window_events.specs.declared.page.Page.{Page}
 use Rattle.window_events.specs.declared.page.View.TheVariants.{Own}
 use Rattle.lending_laws.specs.Histories.{CarriedOut, Given, IsTold}
+use Rattle.lending_laws.specs.Processes.{EachSlotIsOneWindows}
 use Rattle.lending_laws.specs.Slots.{EachSlotIsOnes, slot_of}
-use Rattle.lending_laws.specs.Wrong.{MapsAfterDiscard, one_forgotten, slot_7, two_given}
+use Rattle.lending_laws.specs.Wrong.{MapsAfterDiscard, given_to_each, one_forgotten, slot_7, two_given}
 
 pub gives_twice : EachSlotIsOnes two_given slot_7 → ⊥
 gives_twice h = let same : zero ≡ suc zero = h.apart zero (suc zero) 7 refl refl in cc
+
+pub gives_two_windows : EachSlotIsOneWindows given_to_each → ⊥
+gives_two_windows h = let same : zero ≡ suc zero = h.apart zero (suc zero) 7 refl refl in cc
 
 pub forgets_a_slot : EachSlotIsOnes one_forgotten slot_7 → ⊥
 forgets_a_slot h =

@@ -7,9 +7,10 @@ ghost use Rattle.lending_laws.specs.Histories.{CarriedOut, Given, IsTold};
 ghost use Rattle.lending_laws.specs.Holds.{EachComparisonIsTrue, EachHoldReadsTheSame, EachRowIsHeld, EachStepAgrees, EachTruthIsInBytes, EachZeroIsTrue};
 ghost use Rattle.lending_laws.specs.Looks.{EachStepReadsWhatItMay};
 ghost use Rattle.lending_laws.specs.Notes.{EachIsDetached, EachLookIsCalls, EachNoteIsACall, EachStepTells};
+ghost use Rattle.lending_laws.specs.Processes.{EachPageOfAllIsRead, EachSlotIsOneWindows, EachWindowIsAlone, NoSlotOfAllIsLost, NoneOfAllIsReleasedShown};
 ghost use Rattle.lending_laws.specs.Reading.{EachBeliefIsRight, EachEventKeepsReading, EachFrameIsNoted, EachOrderIsDue, EachOrderIsPossible, EachPageIsRead, StartBegins};
 ghost use Rattle.lending_laws.specs.Slots.{EachSlotIsOnes, NoSlotIsLost, NoneIsReleasedShown};
-ghost use Rattle.lending_laws.specs.Wrong.{MapsAfterDiscard, one_forgotten, slot_7, two_given};
+ghost use Rattle.lending_laws.specs.Wrong.{MapsAfterDiscard, given_to_each, one_forgotten, slot_7, two_given};
 ghost use Rattle.page_lender.specs.Events.{DoneByEvents, StaysRight};
 ghost use Rattle.page_lender.specs.declared.belief.Belief.TheVariants as Belief;
 ghost use Rattle.page_lender.specs.declared.order.Order.TheVariants as Order;
@@ -48,6 +49,17 @@ pub fn one_slot_law()
     ensures unshown { NoneIsReleasedShown }
 {}
 
+/// *All windows of a process*, which open and close while others lend: each is in a history of its own, with what the process has of it. So
+/// what the laws above say of a window holds of each, beside all others. Each page of each open window reads what its guest stored last. With
+/// a host that gives only slots that it hasn't given for any window, each slot that it gave and hasn't got back is one page's of one
+/// window, and none is released while a page of any window shows its frame.
+pub fn process_law()
+    ensures alone { EachWindowIsAlone }
+    ensures reads { EachPageOfAllIsRead }
+    ensures ones { NoSlotOfAllIsLost }
+    ensures unshown { NoneOfAllIsReleasedShown }
+{}
+
 /// A hold of a page, in bytes, and a history of its window say the same: whoever reads the page finds the bytes that the protocol shows.
 /// A comparison that says equal in bytes, of a page that is guarded, is true of its order, and the other way round.
 pub fn hold_reads_law()
@@ -71,10 +83,12 @@ pub fn touched_law()
     ensures { EachStepReadsWhatItMay }
 {}
 
-/// What the laws refuse: two pages with one slot; a slot that no page has; a stuck page, to which writes wait, that is forgotten; a page
-/// that is mapped after it was discarded; an outcome that is taken for another order's, or is told before the order was carried out.
+/// What the laws refuse: two pages with one slot, in one window or in two; a slot that no page has; a stuck page, to which writes wait, that
+/// is forgotten; a page that is mapped after it was discarded; an outcome that is taken for another order's, or is told before the order was
+/// carried out.
 pub fn wrong_windows()
     ensures gives_twice { EachSlotIsOnes two_given slot_7 → ⊥ }
+    ensures gives_two_windows { EachSlotIsOneWindows given_to_each → ⊥ }
     ensures forgets_a_slot { EachSlotIsOnes one_forgotten slot_7 → ⊥ }
     ensures forgets_a_stuck_page { StaysRight Belief.PuttingBack Belief.Private → ⊥ }
     ensures maps_after_discard { MapsAfterDiscard → ⊥ }

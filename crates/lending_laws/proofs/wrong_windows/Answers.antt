@@ -1,8 +1,11 @@
-use Rattle.lending_laws.proofs.Wrong.{forgets_a_slot, forgets_a_stuck_page, gives_twice, maps_after_discard, takes_for_another, tells_of_another, tells_too_early}
+use Rattle.lending_laws.proofs.Wrong.{forgets_a_slot, forgets_a_stuck_page, gives_twice, gives_two_windows, maps_after_discard, takes_for_another, tells_of_another, tells_too_early}
 use Rattle.lending_laws.proofs.wrong_windows.Goals as goal
 
 pub returns-clause-gives_twice : goal.returns-clause-gives_twice
 returns-clause-gives_twice c = gives_twice
+
+pub returns-clause-gives_two_windows : goal.returns-clause-gives_two_windows
+returns-clause-gives_two_windows c = gives_two_windows
 
 pub returns-clause-forgets_a_slot : goal.returns-clause-forgets_a_slot
 returns-clause-forgets_a_slot c = forgets_a_slot
