@@ -39,7 +39,7 @@ STRUCTS = {
     "Region": "pageshare_region", "DomainShape": "pageshare_domain_shape", "DomainLoan": "pageshare_loan",
     "DomainTotals": "pageshare_domain_totals pageshare_host_totals", "HostShape": "pageshare_host_shape",
     "KnownSession": "pageshare_host_session", "ReceivedPacket": "pageshare_host_received",
-    "ServedPacket": "pageshare_host_served", "PacketHead": "pageshare_host_packet", "WindowBudget": "pageshare_window_budget",
+    "ServedPacket": "pageshare_host_served", "PacketAllowance": "pageshare_host_allowance", "PacketHead": "pageshare_host_packet", "WindowBudget": "pageshare_window_budget",
     "KeptSession": "pageshare_window_session", "Lent": "pageshare_window_lent pageshare_host_lent",
     "WindowPage": "pageshare_window_page", "TableFacts": "pageshare_window_table_facts", "PartCounts": "pageshare_window_counts", "WindowFacts": "pageshare_window_facts",
     "Part": "pageshare_window_part", "PartConfig": "pageshare_window_part_config",

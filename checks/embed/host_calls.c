@@ -413,12 +413,25 @@ static void check_read(void) {
     CHECK(is_read(&lending, 8, 0, 0, 0) && is_read(&greeting, sizeof greeting, 0, 0, 0) && is_read(&ask, 7, 0, 0, 0));
 }
 
-/* Whether a packet of session 0, with two pages in the buffer, came to this. */
-static bool is_served(struct pageshare_host *host, const void *bytes, size_t length, struct pageshare_host_served due) {
+/* Whether a packet of session 0, with two pages in the buffer, came to this where so many may be lent. */
+static bool is_served_of(struct pageshare_host *host, const void *bytes, size_t length, uint32_t most, struct pageshare_host_served due) {
+    const struct pageshare_host_allowance may = {.most = most};
     memset(reply, 0xaa, sizeof reply);
     memset(freed, 0xbb, sizeof freed);
     struct pageshare_host_served served =
-        pageshare_host_serve(host, 0, bytes, length, (const uint8_t(*)[PAGE])pages, 2, reply, sizeof reply, freed, FREED);
+        pageshare_host_serve(host, 0, bytes, length, (const uint8_t(*)[PAGE])pages, 2, &may, reply, sizeof reply, freed, FREED);
+    return memcmp(&served, &due, sizeof due) == 0;
+}
+
+static bool is_served(struct pageshare_host *host, const void *bytes, size_t length, struct pageshare_host_served due) {
+    return is_served_of(host, bytes, length, UINT32_MAX, due);
+}
+
+/* Whether what session 0 last got in this frame was taken back, and it came to this. */
+static bool is_taken_back(struct pageshare_host *host, uint32_t frame, struct pageshare_host_served due) {
+    memset(reply, 0xaa, sizeof reply);
+    memset(freed, 0xbb, sizeof freed);
+    struct pageshare_host_served served = pageshare_host_take_back(host, 0, &frame, 1, reply, sizeof reply, freed, FREED);
     return memcmp(&served, &due, sizeof due) == 0;
 }
 
@@ -435,6 +448,7 @@ static void check_served(void *region) {
     CHECK(is_served(&host, greeting, 8, (struct pageshare_host_served){.status = PAGESHARE_HOST_ERROR_NO_HOST, .resumed = none}));
     CHECK(pageshare_host_make(&host, &small, region, FRAMES * PAGE) == PAGESHARE_HOST_OK);
     CHECK(is_served(&host, greeting, 8, (struct pageshare_host_served){.status = PAGESHARE_HOST_ERROR_NO_SESSION, .resumed = none}));
+    CHECK(is_taken_back(&host, 0, (struct pageshare_host_served){.status = PAGESHARE_HOST_ERROR_NO_SESSION, .resumed = none}));
     CHECK(pageshare_host_connect(&host, names[0], &number) == PAGESHARE_HOST_OK && number == 0);
     CHECK(is_served(&host, greeting, 8, (struct pageshare_host_served){0, 40, 0, none, PAGESHARE_HOST_WELCOME, 0, 0}));
     CHECK(is_served(&host, &ask, 8 + 2 * 16, (struct pageshare_host_served){0, 10, 0, none, PAGESHARE_HOST_SEEN, 2, 0}));
@@ -443,12 +457,23 @@ static void check_served(void *region) {
     CHECK(is_served(&host, &lending, 8, (struct pageshare_host_served){0, 40, 0, none, PAGESHARE_HOST_LOANS, 0, 2}));
     uint32_t frame = freed[0];
     CHECK(frame < FRAMES && frame == loan(0).frame && freed[1] == none && loan(1).frame == none && freed[2] == 0xbbbbbbbb);
+    const struct pageshare_host_served two = {0, 40, 0, none, PAGESHARE_HOST_LOANS, 0, 2};
+    CHECK(is_taken_back(&host, FRAMES, two) && freed[0] == frame && loan(0).frame == frame);
+    CHECK(is_taken_back(&host, frame, two) && freed[0] == none && loan(0).frame == none && loan(0).sharers == 0 && loan(0).slot == 0);
+    lending.count = 3;
+    CHECK(is_served_of(&host, &lending, 8, 0, (struct pageshare_host_served){0, 56, 0, none, PAGESHARE_HOST_LOANS, 0, 3}));
+    CHECK(freed[0] == none && freed[2] == none && loan(2).frame == none && loan(2).slot == 0 && freed[3] == 0xbbbbbbbb);
+    CHECK(is_served_of(&host, &lending, 8, 1, (struct pageshare_host_served){0, 56, 0, none, PAGESHARE_HOST_LOANS, 0, 3}));
+    CHECK(freed[0] == loan(0).frame && freed[0] < FRAMES && freed[1] == none && freed[2] == none);
+    frame = freed[0];
     releasing.slots[0] = loan(0).slot;
     releasing.slots[1] = 99;
     CHECK(is_served(&host, &releasing, 24, (struct pageshare_host_served){0, 0, 2, none, 0, 0, 0}));
     CHECK(freed[0] == frame && freed[1] == none && freed[2] == 0xbbbbbbbb && reply[0] == 0xaa);
     CHECK(is_served(&host, greeting, 8, (struct pageshare_host_served){.status = PAGESHARE_HOST_FAULT_AGAIN, .resumed = none}));
-    struct pageshare_host_served tight = pageshare_host_serve(&host, 0, (const uint8_t *)greeting, 8, (const uint8_t(*)[PAGE])pages, 2, reply, sizeof reply, freed, FREED - 1);
+    struct pageshare_host_served tight = pageshare_host_serve(&host, 0, (const uint8_t *)greeting, 8, (const uint8_t(*)[PAGE])pages, 2, &(const struct pageshare_host_allowance){2, 1}, reply, sizeof reply, freed, FREED - 1);
+    CHECK(tight.status == PAGESHARE_HOST_ERROR_SHORT && tight.kind == 0);
+    tight = pageshare_host_take_back(&host, 0, &none, 1, reply, sizeof reply - 1, freed, FREED);
     CHECK(tight.status == PAGESHARE_HOST_ERROR_SHORT && tight.kind == 0);
     CHECK(pageshare_host_free(&host) == PAGESHARE_HOST_OK);
 }

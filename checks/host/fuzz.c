@@ -130,21 +130,32 @@ static void note_resumed(uint32_t before, uint32_t session, const uint8_t *packe
     memcpy(names[session], names[before], sizeof names[session]);
 }
 
-static void receive(struct pageshare_host *host, uint32_t session, const uint8_t *packet, size_t length, uint32_t buffer) {
+/* What one page of a lend got is taken back, with what others of it got in the same frame. */
+static void take_back(struct pageshare_host *host, uint32_t session, uint32_t count, uint8_t *reply, uint32_t *frames) {
+    const uint32_t missing = frames[0];
+    struct pageshare_host_served got = pageshare_host_take_back(host, session, &missing, 1, reply, PAGESHARE_HOST_MAX_MESSAGE, frames, PAGESHARE_HOST_MAX_PAGES);
+    must(got.status == PAGESHARE_HOST_OK && got.loans == count, "what was lent can't be taken back");
+    for (uint32_t i = 0; i < count; i++) must(frames[i] != missing || missing == PAGESHARE_HOST_NO_FRAME, "a frame that was taken back");
+}
+
+static void receive(struct pageshare_host *host, uint32_t session, const uint8_t *packet, size_t length, uint32_t buffer,
+                    struct pageshare_host_allowance may, bool takes_back) {
     static uint8_t reply[PAGESHARE_HOST_MAX_MESSAGE];
     static uint32_t freed[PAGESHARE_HOST_MAX_PAGES];
     uint32_t head[2] = {0, 0};
     uint8_t name[PAGESHARE_HOST_NAME_BYTES];
     struct pageshare_host_packet says = pageshare_host_read(packet, length, name);
-    struct pageshare_host_served got = pageshare_host_serve(host, session, packet, length, (const uint8_t(*)[PAGE])pages, buffer, reply,
-                                                            sizeof reply, freed, PAGESHARE_HOST_MAX_PAGES);
+    struct pageshare_host_served got = pageshare_host_serve(host, session, packet, length, (const uint8_t(*)[PAGE])pages, buffer, &may,
+                                                            reply, sizeof reply, freed, PAGESHARE_HOST_MAX_PAGES);
     if (got.status != PAGESHARE_HOST_OK) return;
     must(length >= 8 && got.reply_bytes <= sizeof reply && got.freed <= PAGESHARE_HOST_MAX_PAGES, "an answer out of range");
     memcpy(head, packet, sizeof head);
     must(says.kind == head[0] && (head[0] == PAGESHARE_HOST_HELLO || says.count == head[1]), "a packet that is read as another");
     must(got.loans == (head[0] == PAGESHARE_HOST_LEND ? head[1] : 0), "loans of other pages than those that were lent");
     for (uint32_t i = 0; i < got.loans; i++)
-        must(freed[i] == PAGESHARE_HOST_NO_FRAME || freed[i] < MACHINES * FRAMES, "a loan's frame that isn't there");
+        must(freed[i] == PAGESHARE_HOST_NO_FRAME || (freed[i] < MACHINES * FRAMES && i < may.most), "a loan's frame that isn't there, or more than may be");
+    must(may.takes_up || got.resumed == PAGESHARE_HOST_NO_FRAME, "a session that may not be taken up");
+    if (got.loans > 0 && takes_back) take_back(host, session, got.loans, reply, freed);
     if (head[0] == PAGESHARE_HOST_HELLO && got.resumed == PAGESHARE_HOST_NO_FRAME) replies[session] = 0;
     if (got.resumed != PAGESHARE_HOST_NO_FRAME) note_resumed(got.resumed, session, packet);
     if (head[0] == PAGESHARE_HOST_RELEASE) note_releases(session, packet, head[1]);
@@ -179,7 +190,8 @@ static void step(struct pageshare_host *host, const uint8_t **data, size_t *left
     default: {
         if (*left < 2) return;
         size_t length = make_packet(packet, data, left);
-        receive(host, session, packet, length, what & 8 ? BUFFER : more % (BUFFER + 1));
+        const uint32_t buffer = what & 8 ? BUFFER : more % (BUFFER + 1);
+        receive(host, session, packet, length, buffer, (struct pageshare_host_allowance){what & 16 ? UINT32_MAX : more / 2, what & 32}, what >= 192);
     }
     }
 }

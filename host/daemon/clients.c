@@ -338,16 +338,6 @@ static uint32_t within_quota(struct domain *domain, const struct client *client,
     return count < left ? count : (uint32_t)left;
 }
 
-/* Makes the reply to a lend of the first pages one to a lend of `count` pages: the others aren't lent. Returns its length. */
-static size_t extend_loans(struct domain *domain, struct pageshare_host_served got, uint32_t count) {
-    const struct pageshare_host_lent none = {.frame = PAGESHARE_HOST_NO_FRAME};
-    uint8_t *end = domain->serving->answer + got.reply_bytes;
-    memcpy(domain->serving->answer + offsetof(struct pageshare_host_loans, count), &count, sizeof count);
-    for (uint32_t i = got.loans; i < count; i++, end += sizeof none) memcpy(end, &none, sizeof none);
-    domain->refused += count - got.loans;
-    return (size_t)(end - domain->serving->answer);
-}
-
 /* A client of another version learns which one this host has by the beginning of WELCOME, which all versions have. */
 static void refuse_version(const struct client *client) {
     const uint32_t head[2] = {PAGESHARE_HOST_WELCOME, PAGESHARE_HOST_VERSION};
@@ -376,52 +366,33 @@ static bool read_pages(struct domain *domain, const struct client *client, uint3
     return true;
 }
 
-/*
- * Takes back what was lent in frames for which the system had no memory (bus.h): these pages of the reply aren't lent. No client has heard
- * of a slot of theirs, so the host releases it for this one. Returns false if that fails.
- */
-static bool take_back(struct domain *domain, const struct client *client, uint32_t loans) {
+/* Takes back what was lent in frames for which the system had no memory (bus.h): no client has heard of it. */
+static struct pageshare_host_served take_back(struct domain *domain, const struct client *client) {
     struct serving *with = domain->serving;
-    struct pageshare_host_release release = {.kind = PAGESHARE_HOST_RELEASE};
-    const struct pageshare_host_lent none = {.frame = PAGESHARE_HOST_NO_FRAME};
-    for (uint32_t i = 0; i < loans; i++) {
-        uint8_t *at = with->answer + offsetof(struct pageshare_host_loans, loans) + i * sizeof none;
-        if (!bus_has(&domain->frames.bus, with->frames[i])) continue;
-        memcpy(&release.slots[release.count++], at + offsetof(struct pageshare_host_lent, slot), sizeof *release.slots);
-        memcpy(at, &none, sizeof none);
-        with->frames[i] = PAGESHARE_HOST_NO_FRAME;
-    }
+    struct pageshare_host_served got =
+        pageshare_host_take_back(&domain->host, client->session, domain->frames.bus.frames, domain->frames.bus.used, with->answer,
+                                 sizeof with->answer, with->frames, PAGESHARE_HOST_MAX_PAGES);
     errno = ENOMEM;
     seldom_trouble(&domain->no_memory, "memory for a frame; pages that need one aren't lent");
-    size_t length = offsetof(struct pageshare_host_release, slots) + release.count * sizeof *release.slots;
-    struct pageshare_host_served got = pageshare_host_serve(&domain->host, client->session, (const uint8_t *)&release, length,
-                                                            (const uint8_t(*)[PAGE])with->pages, 0, with->no_answer,
-                                                            sizeof with->no_answer, with->freed, PAGESHARE_HOST_MAX_PAGES);
     frames_map_again(&domain->frames); /* (if the system refuses, the next lend tries again) */
-    return got.status == PAGESHARE_HOST_OK;
+    return got;
 }
 
-/*
- * Serves one packet of a client, which lends `count` pages, of which the first `most` may get frames, or does something else.
- * Returns false if the connection is to end.
- */
-static bool serve_packet(struct domain *domain, struct client *client, uint8_t *bytes, size_t length, uint32_t count,
-                         uint32_t most) {
+/* Serves one packet of a client within what it is allowed. Returns false if the connection is to end. */
+static bool serve_packet(struct domain *domain, struct client *client, const uint8_t *bytes, size_t length,
+                         struct pageshare_host_allowance may) {
     struct serving *with = domain->serving;
-    uint32_t served = most ? within_quota(domain, client, most) : 0;
-    if (!read_pages(domain, client, served)) served = 0;
-    if (served < count) memcpy(bytes + offsetof(struct pageshare_host_lend, count), &served, sizeof served);
+    if (!read_pages(domain, client, may.most)) may.most = 0;
     struct pageshare_host_served got =
-        pageshare_host_serve(&domain->host, client->session, bytes, length, (const uint8_t(*)[PAGE])with->pages, served,
+        pageshare_host_serve(&domain->host, client->session, bytes, length, (const uint8_t(*)[PAGE])with->pages, may.most, &may,
                              with->answer, sizeof with->answer, with->frames, PAGESHARE_HOST_MAX_PAGES);
     domain->messages++;
+    if (got.loans > 0 && domain->frames.bus.used > 0) got = take_back(domain, client);
     if (is_fault(domain, client, got.status)) return false;
     if (got.resumed != PAGESHARE_HOST_NO_FRAME) take_up(domain, client, got.resumed);
-    if (got.loans > 0 && domain->frames.bus.used > 0 && !take_back(domain, client, got.loans)) return false;
     count_served(domain, client, got, with->frames);
     if (got.kind == PAGESHARE_HOST_WELCOME) return reply_welcome(domain, client, with->answer, got.reply_bytes);
-    size_t replied = served < count ? extend_loans(domain, got, count) : got.reply_bytes;
-    return replied == 0 || reply(client, with->answer, replied, NULL, 0);
+    return got.reply_bytes == 0 || reply(client, with->answer, got.reply_bytes, NULL, 0);
 }
 
 /* Reads what a client sends, or nothing. Where the system refuses, it is tried again at the next tick or event. */
@@ -434,24 +405,24 @@ static void listen_to(struct domain *domain, struct client *client, bool to_it) 
 /*
  * Takes one packet of a client. Returns false if the connection is to end. A lend may take any frame that is free, so it waits
  * while memory of free frames is given back (frames.h). Then nothing more is read of this client, and others are served. Where
- * the system refuses to give it back then, no page is lent. A hello whose session the client may not take up is cut short: it
- * asks for a new one.
+ * the system refuses to give it back then, no page may be lent.
  */
-static bool take_packet(struct domain *domain, struct client *client, uint8_t *bytes, size_t length) {
+static bool take_packet(struct domain *domain, struct client *client, const uint8_t *bytes, size_t length) {
     uint8_t name[PAGESHARE_HOST_NAME_BYTES];
     struct pageshare_host_packet packet = pageshare_host_read(bytes, length, name);
-    if (packet.names && !may_take_up(domain, client, name)) length = offsetof(struct pageshare_host_hello, name);
+    struct pageshare_host_allowance may = {.takes_up = packet.names && may_take_up(domain, client, name)};
     uint32_t count = client->buffer >= 0 && packet.kind == PAGESHARE_HOST_LEND ? packet.count : 0;
-    if (count == 0) return serve_packet(domain, client, bytes, length, 0, 0);
+    if (count == 0) return serve_packet(domain, client, bytes, length, may);
     client->waiting_pages = 0;
-    enum frames_lend may = domain->is_lend_waiting ? LEND_WAITS : frames_begin_lend(&domain->frames);
-    if (may == LEND_WAITS) {
+    enum frames_lend lend = domain->is_lend_waiting ? LEND_WAITS : frames_begin_lend(&domain->frames);
+    if (lend == LEND_WAITS) {
         domain->is_lend_waiting = true; /* (and no other lend tries for the lock meanwhile: that takes time) */
         client->waiting_pages = count;
         listen_to(domain, client, false);
         return true;
     }
-    bool good = serve_packet(domain, client, bytes, length, count, may == LEND_ANY ? count : 0);
+    if (lend == LEND_ANY) may.most = within_quota(domain, client, count);
+    bool good = serve_packet(domain, client, bytes, length, may);
     frames_end_lend(&domain->frames);
     return good;
 }

@@ -45,8 +45,6 @@ struct serving {
     uint8_t pages[PAGESHARE_HOST_MAX_PAGES][PAGE]; /* copies of those that it lends */
     uint8_t answer[PAGESHARE_HOST_MAX_MESSAGE];
     uint32_t frames[PAGESHARE_HOST_MAX_PAGES]; /* that are free since, or those of its pages */
-    uint8_t no_answer[PAGESHARE_HOST_MAX_MESSAGE];
-    uint32_t freed[PAGESHARE_HOST_MAX_PAGES]; /* by slots that were taken back at once */
 };
 
 /* How often somebody connected in this second: a user or a process. */

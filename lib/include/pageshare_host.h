@@ -28,6 +28,7 @@
  * - The region is the library's until the host is freed: nobody else writes to it. But the memory of free frames may be given back
  *   to the system, also while a call runs, unless it is pageshare_host_receive or pageshare_host_serve with a LEND. Only a lend takes
  *   a frame that is free. The other calls touch no frames but those that slots have.
+ * - pageshare_host_take_back is called before the LOANS is sent of which it takes loans back: its client has heard of none.
  * - A name is drawn at random for each connection, and given to nobody else.
  * - pageshare_host_end is called only when nothing shows the session's frames any more: its process has ended, and no other process
  *   has its mappings.
@@ -267,6 +268,12 @@ struct pageshare_host_packet {
  */
 struct pageshare_host_packet pageshare_host_read(const uint8_t *bytes, size_t length, uint8_t name[PAGESHARE_HOST_NAME_BYTES]);
 
+/* What a packet may do, by what the caller knows of memory and processes. */
+struct pageshare_host_allowance {
+    uint32_t most;     /* how many pages of a LEND may be lent now: the first ones */
+    uint32_t takes_up; /* 0: a HELLO that names a session doesn't take it up, and a new one begins */
+};
+
 struct pageshare_host_served {
     uint32_t status;      /* these four as in struct pageshare_host_received */
     uint32_t reply_bytes;
@@ -278,13 +285,25 @@ struct pageshare_host_served {
 };
 
 /*
- * Receives one packet as pageshare_host_receive does, and returns what the reply says, too. Where `loans` is above 0, frames[i] is the
- * frame that page i has now, or PAGESHARE_HOST_NO_FRAME if it isn't lent. Otherwise `frames` is what `freed` is there: at most one of
- * the two numbers isn't 0.
+ * Receives one packet as pageshare_host_receive does, but within what `may` allows, and returns what the reply says, too. A LEND needs
+ * no more pages than may->most; of each page after those LOANS says that it isn't lent, and nothing else comes of it. Where `loans` is
+ * above 0, frames[i] is the frame that page i has now, or PAGESHARE_HOST_NO_FRAME if it isn't lent. Otherwise `frames` is what `freed`
+ * is there: at most one of the two numbers isn't 0.
  */
 struct pageshare_host_served pageshare_host_serve(struct pageshare_host *host, uint32_t session, const uint8_t *bytes, size_t length,
-                                                  const uint8_t (*pages)[4096], size_t page_count, uint8_t *reply, size_t reply_room,
+                                                  const uint8_t (*pages)[4096], size_t page_count,
+                                                  const struct pageshare_host_allowance *may, uint8_t *reply, size_t reply_room,
                                                   uint32_t *frames, size_t frames_room);
+
+/*
+ * Takes back those loans of a session's last LOANS that are in one of these `count` frames: the caller has no memory for them. Their slots
+ * are released, and `reply` is LOANS again, in which their pages aren't lent. frames[i] is then the frame of page i, as above. The status
+ * is PAGESHARE_HOST_OK, or the first cause that holds in this order: _NO_HOST, _SHORT, _NO_SESSION (it hasn't begun), and nothing has
+ * changed then.
+ */
+struct pageshare_host_served pageshare_host_take_back(struct pageshare_host *host, uint32_t session, const uint32_t *missing,
+                                                      size_t count, uint8_t *reply, size_t reply_room, uint32_t *frames,
+                                                      size_t frames_room);
 
 /*
  * A session's connection has ended. A session that has slots, or may have some, keeps its number and its slots until

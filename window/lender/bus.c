@@ -87,12 +87,6 @@ void bus_free(struct bus *bus) {
     bus->aside = NO_FILE;
 }
 
-bool bus_has(const struct bus *bus, uint32_t frame) {
-    for (size_t i = 0; i < bus->used; i++)
-        if (bus->frames[i] == frame) return true;
-    return false;
-}
-
 bool bus_map_again(struct bus *bus, int file, bool (*say)(void *at, size_t bytes)) {
     const int rights = PROT_READ | PROT_WRITE, kind = MAP_SHARED | MAP_FIXED | MAP_NORESERVE;
     for (; bus->used > 0; bus->used--) {

@@ -32,8 +32,6 @@ struct bus {
 int bus_catch(struct bus *bus, void *at, size_t count, const _Atomic uint64_t *in_use);
 void bus_free(struct bus *bus);
 
-/* Whether a frame has other memory now. */
-bool bus_has(const struct bus *bus, uint32_t frame);
 /* Maps the file again where frames have other memory, and calls `say` for each page, if it isn't NULL. Returns false if either fails. */
 bool bus_map_again(struct bus *bus, int file, bool (*say)(void *at, size_t bytes));
 

@@ -1,5 +1,5 @@
 -- What releases leave of a client's slots.
-use Rattle.std.proofs.Common.{◌≡◌, ◌∙◌, ℕ, ◌+◌, ◌*◌, ◌⊎◌, inl, inr, Bool, true, false, cond, ◌&&◌, ◌||◌, List, [], ◌∷◌, Option, Some, None, refl, ap, sym}
+use Rattle.std.proofs.Common.{◌≡◌, ◌∙◌, ℕ, ◌+◌, ◌*◌, ◌⊎◌, inl, inr, Bool, true, false, cond, ◌&&◌, ◌||◌, List, [], ◌∷◌, map, Option, Some, None, refl, ap, sym}
 use Rattle.std.specs.Prelude.{nat_eq}
 use Rattle.std.proofs.Math.Nat.{div-add-mod}
 use Rattle.std.proofs.lemmas.Bool.{cases_Bool, eqb-true, eqb-false}
@@ -13,10 +13,11 @@ use Rattle.share_domain.specs.Numbers.{slot_by}
 use Rattle.host_halves.proofs.Freed.{other_held, own_held}
 use Rattle.host_sessions.specs.declared.session.Begun.{Begun}
 use Rattle.host_sessions.specs.Table.{lost_of}
-use Rattle.host_sessions.specs.Turns.{after_releases, is_lent, slots_in}
+use Rattle.host_sessions.specs.Turns.{after_releases, is_lent, slots_in, back_by, kept_of, back_of}
 use Rattle.session_laws.specs.World.{HostSide, has, given_to, or_else, unless, next_loans, lost_by}
-use Rattle.host_halves.specs.Halves.{frame_if, frame_for, BeginsHalf, ReleasesHalf, ResumesHalf, LendsHalf}
-use Rattle.host_halves.proofs.Lent.{LentAll, lent_all}
+use Rattle.host_halves.specs.Halves.{frame_if, frame_for, BeginsHalf, ReleasesHalf, ResumesHalf, LendsHalf, TakesBackHalf}
+use Rattle.host_halves.proofs.Back.{back_again, kept_free}
+use Rattle.host_halves.proofs.Lent.{LentAll, lent_some}
 
 -- ---- one release
 
@@ -81,7 +82,7 @@ pub releases_half : ReleasesHalf
 releases_half b last slots d h half = record {
   name = half.name;
   loans = half.loans;
-  last = half.last;
+  last-is = half.last-is;
   held = λ s. ap (λ (o : Option ℕ). cond (has slots s) None o) (half.held s) ∙ sym (all_released b.client slots d s);
 }
 
@@ -99,49 +100,59 @@ unfolding slots_in
 taken_back [] s o = refl
 taken_back (l ∷ ls) s o = one_back (is_lent l) l.slot s l.frame (slots_in ls) (given_to ls s) o (nat_eq l.slot s) refl (taken_back ls s o)
 
-slots_of_either : (c : Bool) (ls : List Lent) → slots_in (cond c [] ls) ≡ cond c [] (slots_in ls)
-unfolding slots_in
-slots_of_either true ls = refl
-slots_of_either false ls = refl
-
-slots_of_none : slots_in [] ≡ []
-unfolding slots_in
-slots_of_none = refl
-
-lost_slots : (b : Begun) (loans : ℕ) (last : List ℕ) (h : HostSide) → h.loans ≡ b.loans → slots_in h.last ≡ last → slots_in (lost_by loans h) ≡ lost_of b loans last
-lost_slots b loans last h e f =
-    slots_of_either (nat_eq loans h.loans) h.last
-    ∙ ap (λ (n : ℕ). cond (nat_eq loans n) [] (slots_in h.last)) e
-    ∙ ap (λ (xs : List ℕ). cond (nat_eq loans b.loans) [] xs) f
+lost_same : (b : Begun) (loans : ℕ) (last : List Lent) (h : HostSide) → h.loans ≡ b.loans → h.last ≡ last → lost_by loans h ≡ lost_of b loans last
+lost_same b loans last h e f =
+    ap (λ (n : ℕ). cond (nat_eq loans n) [] h.last) e
+    ∙ ap (λ (xs : List Lent). cond (nat_eq loans b.loans) [] xs) f
 
 pub resumes_half : ResumesHalf
 resumes_half b loans last d h half = record {
   name = half.name;
   loans = refl;
-  last = slots_of_none;
+  last-is = refl;
   held = λ s.
       taken_back (lost_by loans h) s (h.held s)
-      ∙ ap (λ (xs : List ℕ). cond (has xs s) None (h.held s)) (lost_slots b loans last h half.loans half.last)
-      ∙ ap (λ (o : Option ℕ). cond (has (lost_of b loans last) s) None o) (half.held s)
-      ∙ sym (all_released b.client (lost_of b loans last) d s);
+      ∙ ap (λ (xs : List Lent). cond (has (slots_in xs) s) None (h.held s)) (lost_same b loans last h half.loans half.last-is)
+      ∙ ap (λ (o : Option ℕ). cond (has (slots_in (lost_of b loans last)) s) None o) (half.held s)
+      ∙ sym (all_released b.client (slots_in (lost_of b loans last)) d s);
 }
 
 -- ---- pages are lent
 
 pub lends_half : LendsHalf
-lends_half salt quota b last pages loans old new h numbers half turns = (
+lends_half salt quota others b last pages loans old new h numbers half turns = (
   record {
     name = half.name;
     loans = ap (λ (n : ℕ). next_loans n) half.loans;
-    last = refl;
+    last-is = refl;
     held = λ s. ap (λ (o : Option ℕ). or_else (given_to loans s) o) (half.held s) ∙ sym (all.held s);
   },
   λ s f e. half.held s ∙ all.free s f e,
 ) where
   all : LentAll b.client loans old new
-  all = lent_all salt b.client quota pages loans old new numbers turns
+  all = lent_some salt b.client quota others pages loans old new numbers turns
+
+-- ---- loans are taken back
+
+pub takes_back_half : TakesBackHalf
+takes_back_half salt quota others b last pages loans frames old mid h numbers half turns = (
+  record {
+    name = half.name;
+    loans = ap (λ (n : ℕ). next_loans n) half.loans;
+    last-is = refl;
+    held = λ s.
+        ap (λ (o : Option ℕ). or_else (given_to (kept_of frames loans) s) o) (half.held s)
+        ∙ sym (back_again frames loans s (frame_for b.client old s) all.apart (λ f e. all.free s f e))
+        ∙ taken_back (map (back_by frames) loans) s (or_else (given_to loans s) (frame_for b.client old s))
+        ∙ ap (λ (o : Option ℕ). cond (has (back_of frames loans) s) None o) (sym (all.held s))
+        ∙ sym (all_released b.client (back_of frames loans) mid s);
+  },
+  λ s f e. half.held s ∙ kept_free frames loans s (frame_for b.client old s) all.apart (λ g x. all.free s g x) f e,
+) where
+  all : LentAll b.client loans old mid
+  all = lent_some salt b.client quota others pages loans old mid numbers turns
 
 -- ---- a session begins
 
 pub begins_half : BeginsHalf
-begins_half name client d none = record { name = refl; loans = refl; last = slots_of_none; held = λ s. sym (none s) }
+begins_half name client d none = record { name = refl; loans = refl; last-is = refl; held = λ s. sym (none s) }

@@ -1,9 +1,9 @@
 -- What lends leave of a client's slots.
-use Rattle.std.proofs.Common.{◌≡◌, ◌∙◌, ℕ, ◌+◌, ◌*◌, ◌/◌, ◌%◌, ◌<◌, ◌≤◌, ◌⊎◌, inl, inr, Bool, true, false, cond, not, ◌&&◌, List, [], ◌∷◌, length, Option, Some, None, Result, Ok, Err, refl, ap, sym, subst, arith}
+use Rattle.std.proofs.Common.{◌≡◌, ◌∙◌, ℕ, ◌+◌, ◌*◌, ◌/◌, ◌%◌, ◌<◌, ◌≤◌, ◌⊎◌, inl, inr, Bool, true, false, cond, not, ◌&&◌, List, [], ◌∷◌, ◌++◌, replicate, length, zero, suc, Option, Some, None, Result, Ok, Err, refl, ap, sym, subst, arith}
 use Rattle.std.specs.Prelude.{nat_eq}
 use Rattle.std.proofs.Math.Nat.{div-add-mod}
 use Rattle.std.proofs.lemmas.Nat.{div-mul-add, mod-mul-add}
-use Rattle.std.proofs.lemmas.Bool.{cases_Bool, cases_eq, cases_lt, eqb-true, eqb-false, eq-eqb}
+use Rattle.std.proofs.lemmas.Bool.{cases_Bool, cases_eq, cases_lt, eqb-true, eqb-false, eq-eqb, false≢true}
 use Rattle.std.proofs.lemmas.List.{length-set}
 use Rattle.host_messages.specs.declared.item.Lent.{Lent}
 use Rattle.lent_slots.specs.declared.holding.Holding.{Holding}
@@ -16,7 +16,7 @@ use Rattle.share_domain.specs.Domains.{DomainView, machine_at, held_in, region_f
 use Rattle.share_domain.specs.Numbers.{slot_by, slot_number}
 use Rattle.share_domain.specs.Totals.{slots_of}
 use Rattle.host_sessions.proofs.Spared.{machine_other}
-use Rattle.host_sessions.specs.Turns.{Answers, Lends, LendsOne, LendsInTurn, lent_by, not_lent}
+use Rattle.host_sessions.specs.Turns.{Answers, Lends, LendsOne, LendsInTurn, LendsSome, lent_by, not_lent}
 use Rattle.session_laws.specs.World.{is_loan_of, given_to, or_else, AreFree}
 use Rattle.host_halves.specs.Halves.{frame_if, frame_for, HasNumbers}
 
@@ -184,14 +184,24 @@ lent_one salt client quota page l old mid numbers one = pick (cases_lt (slots_of
 
 -- ---- several pages
 
+-- no slot is given twice
+abbrev pub AreApart : List Lent → Type 0
+AreApart [] = Unit {0}
+AreApart (l ∷ ls) = ((s f : ℕ) → is_loan_of s l ≡ true → given_to ls s ≡ Some f → ⊥) × AreApart ls
+
 pub record LentAll (client : ℕ) (loans : List Lent) (old new : DomainView) : Type 0 where
   pub held : (s : ℕ) → frame_for client new s ≡ or_else (given_to loans s) (frame_for client old s)
   pub free : AreFree loans (frame_for client old)
+  pub apart : AreApart loans
 
 and_one : (client : ℕ) (l : Lent) (loans : List Lent) (old mid new : DomainView) → LentOne client l old mid → LentAll client loans mid new → LentAll client (l ∷ loans) old new
-and_one client l loans old mid new one rest = record { held = λ s. held s (is_loan_of s l) refl; free = λ s f e. free s f (is_loan_of s l) refl e } where
+and_one client l loans old mid new one rest = record { held = λ s. held s (is_loan_of s l) refl; free = λ s f e. free s f (is_loan_of s l) refl e; apart = (λ s f mine given. neither (frame_for client mid s) l.frame (rest.free s f given) (mine_now s mine), rest.apart) } where
   neither : (o : Option ℕ) (g : ℕ) → o ≡ None → o ≡ Some g → ⊥
   neither o g a b = cc
+
+  -- the first one's slot after it
+  mine_now : (s : ℕ) → is_loan_of s l ≡ true → frame_for client mid s ≡ Some l.frame
+  mine_now s e = one.held s ∙ ap (λ (o : Option ℕ). or_else o (frame_for client old s)) (ap (λ (b : Bool). cond b (Some l.frame) None) e)
 
   -- what one of the others gives isn't held after the first
   first : (o p : Option ℕ) (f : ℕ) → ((g : ℕ) → o ≡ Some g → p ≡ None) → p ≡ Some f → or_else o p ≡ Some f
@@ -200,9 +210,7 @@ and_one client l loans old mid new one rest = record { held = λ s. held s (is_l
 
   held : (s : ℕ) (b : Bool) → is_loan_of s l ≡ b → frame_for client new s ≡ or_else (cond (is_loan_of s l) (Some l.frame) (given_to loans s)) (frame_for client old s)
   held s true e =
-      let mine : given_to (l ∷ []) s ≡ Some l.frame = ap (λ (b : Bool). cond b (Some l.frame) None) e in
-      let now : frame_for client mid s ≡ Some l.frame = one.held s ∙ ap (λ (o : Option ℕ). or_else o (frame_for client old s)) mine in
-      rest.held s ∙ first (given_to loans s) (frame_for client mid s) l.frame (λ g x. rest.free s g x) now
+      rest.held s ∙ first (given_to loans s) (frame_for client mid s) l.frame (λ g x. rest.free s g x) (mine_now s e)
       ∙ sym (ap (λ (b : Bool). or_else (cond b (Some l.frame) (given_to loans s)) (frame_for client old s)) e)
   held s false e =
       let mine : given_to (l ∷ []) s ≡ None = ap (λ (b : Bool). cond b (Some l.frame) None) e in
@@ -219,9 +227,37 @@ and_one client l loans old mid new one rest = record { held = λ s. held s (is_l
 
 pub lent_all : (salt client quota : ℕ) (pages : List (List ℕ)) (loans : List Lent) (old new : DomainView) → HasNumbers old → LendsInTurn salt client quota pages loans old new → LentAll client loans old new
 unfolding LendsInTurn
-lent_all salt client quota [] [] old new numbers e = record { held = λ s. ap (λ (d : DomainView). frame_for client d s) e; free = λ s f x. cc }
+lent_all salt client quota [] [] old new numbers e = record { held = λ s. ap (λ (d : DomainView). frame_for client d s) e; free = λ s f x. cc; apart = tt }
 lent_all salt client quota (page ∷ pages) [] old new numbers e = absurd e
 lent_all salt client quota [] (l ∷ loans) old new numbers e = absurd e
 lent_all salt client quota (page ∷ pages) (l ∷ loans) old new numbers e =
     let one : LentOne client l old e.0 = lent_one salt client quota page l old e.0 numbers e.1 in
     and_one client l loans old e.0 new one (lent_all salt client quota pages loans e.0 new one.numbers e.2)
+
+-- ---- pages that may not be lent
+
+pub nothing_given : (ls : List Lent) (s : ℕ) → given_to (not_lent ∷ ls) s ≡ given_to ls s
+nothing_given ls s = ap (λ (b : Bool). cond (not b && nat_eq 0 s) (Some NO_FRAME) (given_to ls s)) (eq-eqb NO_FRAME NO_FRAME refl)
+
+not_given : (s : ℕ) → is_loan_of s not_lent ≡ false
+not_given s = ap (λ (b : Bool). not b && nat_eq 0 s) (eq-eqb NO_FRAME NO_FRAME refl)
+
+others_give : (front : List Lent) (n s : ℕ) → given_to (front ++ replicate n not_lent) s ≡ given_to front s
+others_give [] zero s = refl
+others_give [] (suc n) s = nothing_given (replicate n not_lent) s ∙ others_give [] n s
+others_give (l ∷ ls) n s = ap (λ (o : Option ℕ). cond (is_loan_of s l) (Some l.frame) o) (others_give ls n s)
+
+others_apart : (front : List Lent) (n : ℕ) → AreApart front → AreApart (front ++ replicate n not_lent)
+others_apart [] zero apart = tt
+others_apart [] (suc n) apart = (λ s f mine given. false≢true (sym (not_given s) ∙ mine), others_apart [] n apart)
+others_apart (l ∷ ls) n apart = (λ s f mine given. apart.0 s f mine (sym (others_give ls n s) ∙ given), others_apart ls n apart.1)
+
+pub lent_some : (salt client quota others : ℕ) (pages : List (List ℕ)) (loans : List Lent) (old new : DomainView) → HasNumbers old → LendsSome salt client quota pages others loans old new → LentAll client loans old new
+lent_some salt client quota others pages loans old new numbers some =
+    let all : LentAll client some.lent old new = lent_all salt client quota pages some.lent old new numbers some.lends in
+    let whole : LentAll client (some.lent ++ replicate others not_lent) old new = record {
+      held = λ s. all.held s ∙ ap (λ (o : Option ℕ). or_else o (frame_for client old s)) (sym (others_give some.lent others s));
+      free = λ s f e. all.free s f (sym (others_give some.lent others s) ∙ e);
+      apart = others_apart some.lent others all.apart;
+    } in
+    subst (λ (ls : List Lent). LentAll client ls old new) (sym some.loans-is) whole

@@ -9,14 +9,15 @@ use Rattle.host_messages.specs.declared.item.Lent.{Lent}
 use Rattle.host_sessions.specs.Table.{heard, heard_with, lost_of, new_session}
 use Rattle.host_sessions.specs.Table as table
 use Rattle.host_sessions.specs.Table.{session_at, last_at}
+use Rattle.host_sessions.specs.declared.allowance.Allowance.{Allowance}
 use Rattle.host_sessions.specs.declared.answer.Received.{Received}
 use Rattle.host_sessions.specs.declared.answer.Received.TheVariants as got
 use Rattle.host_sessions.specs.declared.session.Session.{Session}
 use Rattle.host_sessions.specs.declared.session.Session.TheVariants as session
 use Rattle.host_sessions.specs.Ends.{Ends}
 use Rattle.host_sessions.specs.Own.{HasOwn}
-use Rattle.host_sessions.specs.Steps.{HostView, Receives}
-use Rattle.host_sessions.specs.Turns.{after_releases, slots_in, LendsInTurn}
+use Rattle.host_sessions.specs.Steps.{HostView, Receives, TakesBackAt}
+use Rattle.host_sessions.specs.Turns.{after_releases, slots_in, LendsSome, kept_of, back_of}
 use Rattle.session_laws.specs.World.{HostSide, fresh, released, resumed, lent, AreFree}
 
 -- the number of the frame that a slot of a machine has, if it is the client's
@@ -27,35 +28,42 @@ frame_if client frames machine (Some h) = if h.client == client then Some (regio
 abbrev pub frame_for : ℕ → DomainView → ℕ → Option ℕ
 frame_for client d number = frame_if client d.frames (slot_by number).machine (held_in d.machines (slot_by number))
 
--- a session that has begun, with these slots of its last reply to Lend, over a domain: this is the host's half
-pub record IsHalf (b : Begun) (slots : List ℕ) (d : DomainView) (h : HostSide) : Type 0 where
+-- a session that has begun, with this last reply to Lend, over a domain: this is the host's half
+pub record IsHalf (b : Begun) (last : List Lent) (d : DomainView) (h : HostSide) : Type 0 where
   pub name : h.name ≡ Some b.name
   pub loans : h.loans ≡ b.loans
-  pub last : slots_in h.last ≡ slots
+  pub last-is : h.last ≡ last
   pub held : (number : ℕ) → h.held number ≡ frame_for b.client d number
 
 -- a release that the host hears does what it does to the half
 abbrev pub ReleasesHalf : Type 0
 ReleasesHalf =
-    (b : Begun) (last slots : List ℕ) (d : DomainView) (h : HostSide) → IsHalf b last d h →
+    (b : Begun) (last : List Lent) (slots : List ℕ) (d : DomainView) (h : HostSide) → IsHalf b last d h →
     IsHalf (heard b) last (after_releases b.client slots d) (released slots h)
 
 -- and so does taking the session up
 abbrev pub ResumesHalf : Type 0
 ResumesHalf =
-    (b : Begun) (loans : ℕ) (last : List ℕ) (d : DomainView) (h : HostSide) → IsHalf b last d h →
-    IsHalf (heard_with b loans) [] (after_releases b.client (lost_of b loans last) d) (resumed loans h)
+    (b : Begun) (loans : ℕ) (last : List Lent) (d : DomainView) (h : HostSide) → IsHalf b last d h →
+    IsHalf (heard_with b loans) [] (after_releases b.client (slots_in (lost_of b loans last)) d) (resumed loans h)
 
 -- A domain's slots have their numbers, and no frame has the number that stands for none.
 pub record HasNumbers (d : DomainView) : Type 0 where
   pub slots : (m : ℕ) → length (machine_at d.machines m).slots ≤ SLOTS_APART
   pub frames : (m mpn : ℕ) → mpn < length (machine_at d.machines m).frames → nat_eq (region_frame d.frames m mpn) NO_FRAME ≡ false
 
--- and so does a lend, by slots that were free
+-- and so does a lend, by slots that were free, however many of its pages the caller lets be lent
 abbrev pub LendsHalf : Type 0
 LendsHalf =
-    (salt quota : ℕ) (b : Begun) (last : List ℕ) (pages : List (List ℕ)) (loans : List Lent) (old new : DomainView) (h : HostSide) → HasNumbers old → IsHalf b last old h →
-    LendsInTurn salt b.client quota pages loans old new → IsHalf (table.lent b) (slots_in loans) new (lent loans h) × AreFree loans h.held
+    (salt quota others : ℕ) (b : Begun) (last : List Lent) (pages : List (List ℕ)) (loans : List Lent) (old new : DomainView) (h : HostSide) → HasNumbers old → IsHalf b last old h →
+    LendsSome salt b.client quota pages others loans old new → IsHalf (table.lent b) loans new (lent loans h) × AreFree loans h.held
+
+-- A lend some of whose loans are taken back does what a lend does that never lent their pages: it is the reply then that the half knows of.
+abbrev pub TakesBackHalf : Type 0
+TakesBackHalf =
+    (salt quota others : ℕ) (b : Begun) (last : List Lent) (pages : List (List ℕ)) (loans : List Lent) (frames : List ℕ) (old mid : DomainView) (h : HostSide) → HasNumbers old → IsHalf b last old h →
+    LendsSome salt b.client quota pages others loans old mid →
+    IsHalf (table.lent b) (kept_of frames loans) (after_releases b.client (back_of frames loans) mid) (lent (kept_of frames loans) h) × AreFree (kept_of frames loans) h.held
 
 -- A session that begins with a client that has no slots is the half of one that has just begun.
 abbrev pub BeginsHalf : Type 0
@@ -83,8 +91,14 @@ takes_up k (got.Released freed) = false
 -- A packet of another connection leaves a session's half as it is, unless it takes the session up.
 abbrev pub OthersKeepHalf : Type 0
 OthersKeepHalf =
-    (n k : ℕ) (bytes : List ℕ) (pages : List (List ℕ)) (received : Received) (old new : HostView) (b : Begun) (h : HostSide) →
-    HasOwn old → (k ≡ n → ⊥) → takes_up k received ≡ false → Receives n bytes pages received old new → HasHalf k b old h → HasHalf k b new h
+    (n k : ℕ) (bytes : List ℕ) (pages : List (List ℕ)) (may : Allowance) (received : Received) (old new : HostView) (b : Begun) (h : HostSide) →
+    HasOwn old → (k ≡ n → ⊥) → takes_up k received ≡ false → Receives n bytes pages may received old new → HasHalf k b old h → HasHalf k b new h
+
+-- What is taken back of another session leaves it as it is, too.
+abbrev pub BacksKeepHalf : Type 0
+BacksKeepHalf =
+    (n k : ℕ) (frames : List ℕ) (received : Received) (old new : HostView) (b : Begun) (h : HostSide) →
+    HasOwn old → (k ≡ n → ⊥) → TakesBackAt n (session_at old.sessions n) frames received old new → HasHalf k b old h → HasHalf k b new h
 
 -- ---- the end of a process
 

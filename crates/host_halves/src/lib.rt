@@ -3,7 +3,7 @@
 //! The laws hold for every domain and session. The functions' bodies are empty: the contract is all there is.
 #![tactic(auto)]
 
-ghost use Rattle.host_halves.specs.Halves.{BeginsHalf, EndsHalf, EndsKeepHalf, LendsHalf, OthersKeepHalf, ReleasesHalf, ResumesHalf};
+ghost use Rattle.host_halves.specs.Halves.{BacksKeepHalf, BeginsHalf, EndsHalf, EndsKeepHalf, LendsHalf, OthersKeepHalf, ReleasesHalf, ResumesHalf, TakesBackHalf};
 
 /// What a session's `Release` does to the domain is what it does to the half.
 pub fn release_law()
@@ -15,10 +15,15 @@ pub fn resume_law()
     ensures { ResumesHalf }
 {}
 
-/// What a session's `Lend` does is what it does to the half, by slots that were free. The premise is that slots and frames have numbers
-/// of their own.
+/// What a session's `Lend` does is what it does to the half, by slots that were free, however many of its pages may be lent. The premise
+/// is that slots and frames have numbers of their own.
 pub fn lend_law()
     ensures { LendsHalf }
+{}
+
+/// A lend some of whose loans are taken back does to the half what its reply says then. The premise is that of `lend_law`.
+pub fn take_back_law()
+    ensures { TakesBackHalf }
 {}
 
 /// A session that begins is the half of one that has just begun. The premise is that its client has no slots.
@@ -26,10 +31,11 @@ pub fn begin_law()
     ensures { BeginsHalf }
 {}
 
-/// Packets and ends of other sessions leave a session's half as it is, unless a packet takes the session up. The premise is that each
+/// Packets and ends of other sessions, and what is taken back of them, leave a session's half as it is, unless a packet takes the session up. The premise is that each
 /// session's client is its own, as `clients_law` of `host_sessions` has it.
 pub fn others_law()
     ensures packets { OthersKeepHalf }
+    ensures backs { BacksKeepHalf }
     ensures ends { EndsKeepHalf }
 {}
 

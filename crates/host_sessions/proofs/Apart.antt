@@ -16,16 +16,17 @@ use Rattle.share_domain.specs.Domains.{DomainView, next_client, held_in, with_ma
 use Rattle.share_domain.specs.Numbers.{slot_by}
 use Rattle.share_domain.specs.Totals.{slots_of}
 use Rattle.lent_slots.specs.Slots.{MachineView}
+use Rattle.host_sessions.specs.declared.allowance.Allowance.{Allowance}
 use Rattle.host_sessions.specs.declared.answer.Received.{Received}
 use Rattle.host_sessions.specs.declared.session.SessionFault.{SessionFault}
 use Rattle.host_sessions.specs.declared.session.SessionFault.TheVariants as fault
 use Rattle.host_sessions.specs.declared.session.Begun.{Begun}
 use Rattle.host_sessions.specs.declared.session.Session.{Session}
 use Rattle.host_sessions.specs.declared.session.Session.TheVariants as session
-use Rattle.host_sessions.specs.Table.{takes, session_at, wanted_in, loans_of, begun_of, heard, heard_with, lent, lost_of, last_at}
+use Rattle.host_sessions.specs.Table.{takes, session_at, wanted_in, wanted_if, loans_of, begun_of, heard, heard_with, lent, lost_of, last_at}
 use Rattle.host_messages.specs.declared.item.Lent.{Lent}
-use Rattle.host_sessions.specs.Turns.{after_releases, Answers, LendsOne, LendsInTurn}
-use Rattle.host_sessions.specs.Steps.{HostView, Breaks, Greets, Begins, Resumes, TakesUp, Opens, Talks, Steps, LendsFirst, Releases, Hears, Receives}
+use Rattle.host_sessions.specs.Turns.{after_releases, Answers, LendsOne, LendsInTurn, slots_in, offered, back_of}
+use Rattle.host_sessions.specs.Steps.{HostView, Breaks, Greets, Begins, Resumes, TakesUp, Opens, Talks, Steps, LendsFirst, Releases, Hears, Receives, TakesBackAt}
 use Rattle.host_sessions.specs.Others.{Spares, Stays, SparesOthers}
 use Rattle.host_sessions.proofs.Spared.{releases_spare, lends_spare}
 use Rattle.host_sessions.proofs.Gained.{releases_gain, lends_gain}
@@ -97,13 +98,13 @@ released_in b s ss old new e now =
     subst (λ (d : DomainView). SparesOthers s old d) (sym now)
     (spares_begun b s old (after_releases b.client ss old) e (releases_frames b.client ss old) (releases_spare b.client ss old) (releases_gain b.client ss old))
 
-resumes : (n before : ℕ) (b : Begun) (loans : ℕ) (lost : List ℕ) (received : Received) (old new : HostView) → n < length old.sessions
+resumes : (n before : ℕ) (b : Begun) (loans : ℕ) (lost : List Lent) (received : Received) (old new : HostView) → n < length old.sessions
     → Resumes n before b loans lost received old new → SparesOthers (session_at new.sessions n) old.domain new.domain
 resumes n before b loans lost received old new lt r =
     let sessions = slice_set old.sessions before session.Free in
     let now : Begun = heard_with b loans in
     let there : session_at new.sessions n ≡ session.Begun now = ap (λ (h : HostView). session_at h.sessions n) r.now ∙ put_there sessions n (session.Begun now) (omega (arith, lt, length-set old.sessions before session.Free)) in
-    released_in now (session_at new.sessions n) lost old.domain new.domain there (ap (λ (h : HostView). h.domain) r.now)
+    released_in now (session_at new.sessions n) (slots_in lost) old.domain new.domain there (ap (λ (h : HostView). h.domain) r.now)
 
 takes_up : (n before : ℕ) (o : Option Begun) (loans : ℕ) (received : Received) (old new : HostView) → n < length old.sessions
     → TakesUp n before o loans received old new → SparesOthers (session_at new.sessions n) old.domain new.domain
@@ -119,17 +120,17 @@ greets : (n : ℕ) (name : List ℕ) (o : Option ℕ) (loans : ℕ) (received : 
 greets n name None loans received old new lt g = begins (session_at new.sessions n) n name (next_client old.domain) received old new g
 greets n name (Some before) loans received old new lt g = takes_up n before (begun_of (session_at old.sessions before)) loans received old new lt g
 
-opens : (n : ℕ) (name : List ℕ) (m : ClientMessage) (received : Received) (old new : HostView) → n < length old.sessions
-    → Opens n name m received old new → SparesOthers (session_at new.sessions n) old.domain new.domain
-opens n name (client.Hello wanted) received old new lt o = greets n name (wanted_in old.sessions wanted) (loans_of wanted) received old new lt o
-opens n name (client.Ask questions) received old new lt o = breaks (session_at new.sessions n) n (session.Silent name) fault.Early received old new o
-opens n name (client.Lend count) received old new lt o = breaks (session_at new.sessions n) n (session.Silent name) fault.Early received old new o
-opens n name (client.Release slots) received old new lt o = breaks (session_at new.sessions n) n (session.Silent name) fault.Early received old new o
+opens : (n : ℕ) (may : Bool) (name : List ℕ) (m : ClientMessage) (received : Received) (old new : HostView) → n < length old.sessions
+    → Opens n may name m received old new → SparesOthers (session_at new.sessions n) old.domain new.domain
+opens n may name (client.Hello wanted) received old new lt o = greets n name (wanted_in old.sessions (wanted_if may wanted)) (loans_of wanted) received old new lt o
+opens n may name (client.Ask questions) received old new lt o = breaks (session_at new.sessions n) n (session.Silent name) fault.Early received old new o
+opens n may name (client.Lend count) received old new lt o = breaks (session_at new.sessions n) n (session.Silent name) fault.Early received old new o
+opens n may name (client.Release slots) received old new lt o = breaks (session_at new.sessions n) n (session.Silent name) fault.Early received old new o
 
-lends_first : (n : ℕ) (b : Begun) (count : ℕ) (pages : List (List ℕ)) (received : Received) (old new : HostView) → n < length old.sessions
-    → LendsFirst n b count pages received old new → SparesOthers (session_at new.sessions n) old.domain new.domain
-lends_first n b count pages received old new lt l =
-    elim (cases_lt (length pages) count) [
+lends_first : (n : ℕ) (b : Begun) (count most : ℕ) (pages : List (List ℕ)) (received : Received) (old new : HostView) → n < length old.sessions
+    → LendsFirst n b count most pages received old new → SparesOthers (session_at new.sessions n) old.domain new.domain
+lends_first n b count most pages received old new lt l =
+    elim (cases_lt (length pages) (offered count most)) [
       | inl short ↦ breaks (session_at new.sessions n) n (session.Begun b) fault.Pages received old new (l.short short)
       | inr le ↦ elim (cases_lt MAX_IN_MESSAGE count) [
         | inl over ↦ breaks (session_at new.sessions n) n (session.Begun b) fault.Pages received old new (l.many over)
@@ -137,8 +138,10 @@ lends_first n b count pages received old new lt l =
             let w = l.enough few le in
             let now : Begun = lent b in
             let there : session_at new.sessions n ≡ session.Begun now = ap (λ (h : HostView). session_at h.sessions n) w.now ∙ put_there old.sessions n (session.Begun now) lt in
-            let turns = w.lends in
-            spares_begun now (session_at new.sessions n) old.domain new.domain there (lends_frames old.salt b.client old.quota (take count pages) w.loans old.domain new.domain turns) (lends_spare old.salt b.client old.quota (take count pages) w.loans old.domain new.domain turns) (lends_gain old.salt b.client old.quota (take count pages) w.loans old.domain new.domain turns)
+            let first : List (List ℕ) = take (offered count most) pages in
+            let loans = w.lends.lent in
+            let turns = w.lends.lends in
+            spares_begun now (session_at new.sessions n) old.domain new.domain there (lends_frames old.salt b.client old.quota first loans old.domain new.domain turns) (lends_spare old.salt b.client old.quota first loans old.domain new.domain turns) (lends_gain old.salt b.client old.quota first loans old.domain new.domain turns)
       ]
     ]
 
@@ -149,24 +152,24 @@ releases n b slots received old new lt t =
     let there : session_at new.sessions n ≡ session.Begun now = ap (λ (h : HostView). session_at h.sessions n) t.now ∙ put_there old.sessions n (session.Begun now) lt in
     released_in now (session_at new.sessions n) slots old.domain new.domain there (ap (λ (h : HostView). h.domain) t.now)
 
-talks : (n : ℕ) (pages : List (List ℕ)) (b : Begun) (m : ClientMessage) (received : Received) (old new : HostView) → n < length old.sessions
-    → Talks n pages b m received old new → SparesOthers (session_at new.sessions n) old.domain new.domain
-talks n pages b (client.Hello wanted) received old new lt t = breaks (session_at new.sessions n) n (session.Begun b) fault.Again received old new t
-talks n pages b (client.Ask questions) received old new lt t = same_domain (session_at new.sessions n) old.domain new.domain (ap (λ (h : HostView). h.domain) t.now)
-talks n pages b (client.Lend count) received old new lt t = lends_first n b count pages received old new lt t
-talks n pages b (client.Release slots) received old new lt t = releases n b slots.items received old new lt t
+talks : (n most : ℕ) (pages : List (List ℕ)) (b : Begun) (m : ClientMessage) (received : Received) (old new : HostView) → n < length old.sessions
+    → Talks n most pages b m received old new → SparesOthers (session_at new.sessions n) old.domain new.domain
+talks n most pages b (client.Hello wanted) received old new lt t = breaks (session_at new.sessions n) n (session.Begun b) fault.Again received old new t
+talks n most pages b (client.Ask questions) received old new lt t = same_domain (session_at new.sessions n) old.domain new.domain (ap (λ (h : HostView). h.domain) t.now)
+talks n most pages b (client.Lend count) received old new lt t = lends_first n b count most pages received old new lt t
+talks n most pages b (client.Release slots) received old new lt t = releases n b slots.items received old new lt t
 
-steps : (n : ℕ) (pages : List (List ℕ)) (s : Session) (m : ClientMessage) (received : Received) (old new : HostView) → n < length old.sessions
-    → Steps n pages s m received old new → SparesOthers (session_at new.sessions n) old.domain new.domain
-steps n pages session.Free m received old new lt p = same_domain (session_at new.sessions n) old.domain new.domain (ap (λ (h : HostView). h.domain) p.1)
-steps n pages (session.Refused first) m received old new lt p = same_domain (session_at new.sessions n) old.domain new.domain (ap (λ (h : HostView). h.domain) p.1)
-steps n pages (session.Silent name) m received old new lt p = opens n name m received old new lt p
-steps n pages (session.Begun b) m received old new lt p = talks n pages b m received old new lt p
+steps : (n : ℕ) (may : Allowance) (pages : List (List ℕ)) (s : Session) (m : ClientMessage) (received : Received) (old new : HostView) → n < length old.sessions
+    → Steps n may pages s m received old new → SparesOthers (session_at new.sessions n) old.domain new.domain
+steps n may pages session.Free m received old new lt p = same_domain (session_at new.sessions n) old.domain new.domain (ap (λ (h : HostView). h.domain) p.1)
+steps n may pages (session.Refused first) m received old new lt p = same_domain (session_at new.sessions n) old.domain new.domain (ap (λ (h : HostView). h.domain) p.1)
+steps n may pages (session.Silent name) m received old new lt p = opens n may.takes_up name m received old new lt p
+steps n may pages (session.Begun b) m received old new lt p = talks n may.most pages b m received old new lt p
 
-hears : (n : ℕ) (pages : List (List ℕ)) (s : Session) (r : Result ClientMessage MessageFault) (received : Received) (old new : HostView) → n < length old.sessions
-    → Hears n pages s r received old new → SparesOthers (session_at new.sessions n) old.domain new.domain
-hears n pages s (Ok m) received old new lt p = steps n pages s m received old new lt p
-hears n pages s (Err f) received old new lt p = breaks (session_at new.sessions n) n s (fault.Message f) received old new p
+hears : (n : ℕ) (may : Allowance) (pages : List (List ℕ)) (s : Session) (r : Result ClientMessage MessageFault) (received : Received) (old new : HostView) → n < length old.sessions
+    → Hears n may pages s r received old new → SparesOthers (session_at new.sessions n) old.domain new.domain
+hears n may pages s (Ok m) received old new lt p = steps n may pages s m received old new lt p
+hears n may pages s (Err f) received old new lt p = breaks (session_at new.sessions n) n s (fault.Message f) received old new p
 
 -- a session that takes messages is there
 is_there : (sessions : List Session) (n : ℕ) → takes (session_at sessions n) ≡ true → n < length sessions
@@ -179,10 +182,21 @@ is_there sessions n e =
     free_takes : (s : Session) → s ≡ session.Free → takes s ≡ true → ⊥
     free_takes s f t = false≢true (subst (λ (x : Session). takes x ≡ true) f t)
 
-pub receives_spare : (n : ℕ) (bytes : List ℕ) (pages : List (List ℕ)) (received : Received) (old new : HostView)
-    → Receives n bytes pages received old new → SparesOthers (session_at new.sessions n) old.domain new.domain
-receives_spare n bytes pages received old new p =
+pub receives_spare : (n : ℕ) (bytes : List ℕ) (pages : List (List ℕ)) (may : Allowance) (received : Received) (old new : HostView)
+    → Receives n bytes pages may received old new → SparesOthers (session_at new.sessions n) old.domain new.domain
+receives_spare n bytes pages may received old new p =
     elim (cases_Bool (takes (session_at old.sessions n))) [
-      | inl took ↦ hears n pages (session_at old.sessions n) (client_at bytes) received old new (is_there old.sessions n took) (p.heard-if took)
+      | inl took ↦ hears n may pages (session_at old.sessions n) (client_at bytes) received old new (is_there old.sessions n took) (p.heard-if took)
       | inr idle ↦ same_domain (session_at new.sessions n) old.domain new.domain (ap (λ (h : HostView). h.domain) (p.idle-if idle).1)
     ]
+
+pub take_back_spares : (n : ℕ) (frames : List ℕ) (received : Received) (old new : HostView)
+    → TakesBackAt n (session_at old.sessions n) frames received old new → SparesOthers (session_at new.sessions n) old.domain new.domain
+take_back_spares n frames received old new = taken (session_at old.sessions n) refl where
+  taken : (s : Session) → session_at old.sessions n ≡ s → TakesBackAt n s frames received old new → SparesOthers (session_at new.sessions n) old.domain new.domain
+  taken session.Free was t = same_domain (session_at new.sessions n) old.domain new.domain (ap (λ (h : HostView). h.domain) t.1)
+  taken (session.Silent name) was t = same_domain (session_at new.sessions n) old.domain new.domain (ap (λ (h : HostView). h.domain) t.1)
+  taken (session.Refused fault) was t = same_domain (session_at new.sessions n) old.domain new.domain (ap (λ (h : HostView). h.domain) t.1)
+  taken (session.Begun b) was t =
+      released_in b (session_at new.sessions n) (back_of frames (last_at old.last n)) old.domain new.domain
+      (ap (λ (h : HostView). session_at h.sessions n) t.now ∙ was) (ap (λ (h : HostView). h.domain) t.now)

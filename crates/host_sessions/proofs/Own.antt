@@ -20,6 +20,7 @@ use Rattle.share_domain.specs.Leaving.{Leaves, StaysOut, presence_of, first_slot
 use Rattle.share_domain.specs.Numbers.{slot_by}
 use Rattle.share_domain.specs.Totals.{slots_of, is_present}
 use Rattle.lent_slots.specs.Slots.{is_of}
+use Rattle.host_sessions.specs.declared.allowance.Allowance.{Allowance}
 use Rattle.host_sessions.specs.declared.answer.Received.{Received}
 use Rattle.host_sessions.specs.declared.config.HostConfig.{HostConfig}
 use Rattle.host_sessions.specs.declared.session.SessionFault.{SessionFault}
@@ -31,9 +32,9 @@ use Rattle.host_sessions.specs.declared.session.Session.TheVariants as session
 use Rattle.host_sessions.specs.Ends.{Ends, EndsBegun, ended, count_of}
 use Rattle.host_sessions.specs.Made.{empty_host}
 use Rattle.host_sessions.specs.Own.{AreOwn, HasOwn}
-use Rattle.host_sessions.specs.Table.{takes, session_at, wanted_in, loans_of, begun_of, lost_of, last_at, heard, heard_with, lent, new_session, faulted, gone, connected, next_number}
-use Rattle.host_sessions.specs.Turns.{Answers, LendsOne, LendsInTurn, after_releases}
-use Rattle.host_sessions.specs.Steps.{HostView, Breaks, Greets, Begins, Resumes, TakesUp, Opens, Talks, Steps, LendsFirst, Hears, Receives}
+use Rattle.host_sessions.specs.Table.{takes, session_at, wanted_in, wanted_if, loans_of, begun_of, lost_of, last_at, heard, heard_with, lent, new_session, faulted, gone, connected, next_number}
+use Rattle.host_sessions.specs.Turns.{Answers, LendsOne, LendsInTurn, after_releases, slots_in, offered, back_of}
+use Rattle.host_sessions.specs.Steps.{HostView, Breaks, Greets, Begins, Resumes, TakesUp, Opens, Talks, Steps, LendsFirst, Hears, Receives, TakesBackAt}
 
 -- ---- one session is put in the place of another
 
@@ -217,7 +218,7 @@ takes_up : (n before : ℕ) (o : Option Begun) (loans : ℕ) (received : Receive
     → TakesUp n before o loans received old new → HasOwn new
 takes_up n before None loans received old new was own t = stays old new t.1 own
 takes_up n before (Some b) loans received old new was own t =
-    let lost = lost_of b loans (last_at old.last before) in
+    let lost : List ℕ = slots_in (lost_of b loans (last_at old.last before)) in
     becomes new (slice_set (slice_set old.sessions before session.Free) n (session.Begun (heard_with b loans))) old.domain.clients
     (ap (λ (h : HostView). h.sessions) t.now) (ap (λ (h : HostView). h.domain.clients) t.now ∙ releases_clients b.client lost old.domain)
     (moved old.sessions old.domain.clients n before b (heard_with b loans) (begun_was (session_at old.sessions before) b was) refl own)
@@ -227,58 +228,66 @@ greets : (n : ℕ) (name : List ℕ) (o : Option ℕ) (loans : ℕ) (received : 
 greets n name None loans received old new was own g = begins n name (next_client old.domain) received old new was refl own g
 greets n name (Some before) loans received old new was own g = takes_up n before (begun_of (session_at old.sessions before)) loans received old new refl own g
 
-opens : (n : ℕ) (name : List ℕ) (m : ClientMessage) (received : Received) (old new : HostView) → session_at old.sessions n ≡ session.Silent name → HasOwn old
-    → Opens n name m received old new → HasOwn new
-opens n name (client.Hello wanted) received old new was own o = greets n name (wanted_in old.sessions wanted) (loans_of wanted) received old new was own o
-opens n name (client.Ask questions) received old new was own o = breaks n (session.Silent name) fault.Early received old new was own o
-opens n name (client.Lend count) received old new was own o = breaks n (session.Silent name) fault.Early received old new was own o
-opens n name (client.Release slots) received old new was own o = breaks n (session.Silent name) fault.Early received old new was own o
+opens : (n : ℕ) (may : Bool) (name : List ℕ) (m : ClientMessage) (received : Received) (old new : HostView) → session_at old.sessions n ≡ session.Silent name → HasOwn old
+    → Opens n may name m received old new → HasOwn new
+opens n may name (client.Hello wanted) received old new was own o = greets n name (wanted_in old.sessions (wanted_if may wanted)) (loans_of wanted) received old new was own o
+opens n may name (client.Ask questions) received old new was own o = breaks n (session.Silent name) fault.Early received old new was own o
+opens n may name (client.Lend count) received old new was own o = breaks n (session.Silent name) fault.Early received old new was own o
+opens n may name (client.Release slots) received old new was own o = breaks n (session.Silent name) fault.Early received old new was own o
 
 -- a session goes on, and no client enters or leaves
 goes_on : (n : ℕ) (b now : Begun) (old new : HostView) → session_at old.sessions n ≡ session.Begun b → now.client ≡ b.client → HasOwn old
     → new.sessions ≡ slice_set old.sessions n (session.Begun now) → new.domain.clients ≡ old.domain.clients → HasOwn new
 goes_on n b now old new was whose own e f = becomes new (slice_set old.sessions n (session.Begun now)) old.domain.clients e f (same_put old.sessions old.domain.clients n b now was whose own)
 
-lends_first : (n : ℕ) (b : Begun) (count : ℕ) (pages : List (List ℕ)) (received : Received) (old new : HostView) → session_at old.sessions n ≡ session.Begun b → HasOwn old
-    → LendsFirst n b count pages received old new → HasOwn new
-lends_first n b count pages received old new was own l =
-    elim (cases_lt (length pages) count) [
+lends_first : (n : ℕ) (b : Begun) (count most : ℕ) (pages : List (List ℕ)) (received : Received) (old new : HostView) → session_at old.sessions n ≡ session.Begun b → HasOwn old
+    → LendsFirst n b count most pages received old new → HasOwn new
+lends_first n b count most pages received old new was own l =
+    elim (cases_lt (length pages) (offered count most)) [
       | inl short ↦ breaks n (session.Begun b) fault.Pages received old new was own (l.short short)
       | inr le ↦ elim (cases_lt MAX_IN_MESSAGE count) [
         | inl over ↦ breaks n (session.Begun b) fault.Pages received old new was own (l.many over)
         | inr few ↦
             let w = l.enough few le in
             goes_on n b (lent b) old new was refl own (ap (λ (h : HostView). h.sessions) w.now)
-            (lends_clients old.salt b.client old.quota (take count pages) w.loans old.domain new.domain w.lends)
+            (lends_clients old.salt b.client old.quota (take (offered count most) pages) w.lends.lent old.domain new.domain w.lends.lends)
       ]
     ]
 
-talks : (n : ℕ) (pages : List (List ℕ)) (b : Begun) (m : ClientMessage) (received : Received) (old new : HostView) → session_at old.sessions n ≡ session.Begun b → HasOwn old
-    → Talks n pages b m received old new → HasOwn new
-talks n pages b (client.Hello wanted) received old new was own t = breaks n (session.Begun b) fault.Again received old new was own t
-talks n pages b (client.Ask questions) received old new was own t = goes_on n b (heard b) old new was refl own (ap (λ (h : HostView). h.sessions) t.now) (ap (λ (h : HostView). h.domain.clients) t.now)
-talks n pages b (client.Lend count) received old new was own t = lends_first n b count pages received old new was own t
-talks n pages b (client.Release slots) received old new was own t =
+talks : (n most : ℕ) (pages : List (List ℕ)) (b : Begun) (m : ClientMessage) (received : Received) (old new : HostView) → session_at old.sessions n ≡ session.Begun b → HasOwn old
+    → Talks n most pages b m received old new → HasOwn new
+talks n most pages b (client.Hello wanted) received old new was own t = breaks n (session.Begun b) fault.Again received old new was own t
+talks n most pages b (client.Ask questions) received old new was own t = goes_on n b (heard b) old new was refl own (ap (λ (h : HostView). h.sessions) t.now) (ap (λ (h : HostView). h.domain.clients) t.now)
+talks n most pages b (client.Lend count) received old new was own t = lends_first n b count most pages received old new was own t
+talks n most pages b (client.Release slots) received old new was own t =
     goes_on n b (heard b) old new was refl own (ap (λ (h : HostView). h.sessions) t.now) (ap (λ (h : HostView). h.domain.clients) t.now ∙ releases_clients b.client slots.items old.domain)
 
-steps : (n : ℕ) (pages : List (List ℕ)) (s : Session) (m : ClientMessage) (received : Received) (old new : HostView) → session_at old.sessions n ≡ s → HasOwn old
-    → Steps n pages s m received old new → HasOwn new
-steps n pages session.Free m received old new was own p = stays old new p.1 own
-steps n pages (session.Refused first) m received old new was own p = stays old new p.1 own
-steps n pages (session.Silent name) m received old new was own p = opens n name m received old new was own p
-steps n pages (session.Begun b) m received old new was own p = talks n pages b m received old new was own p
+steps : (n : ℕ) (may : Allowance) (pages : List (List ℕ)) (s : Session) (m : ClientMessage) (received : Received) (old new : HostView) → session_at old.sessions n ≡ s → HasOwn old
+    → Steps n may pages s m received old new → HasOwn new
+steps n may pages session.Free m received old new was own p = stays old new p.1 own
+steps n may pages (session.Refused first) m received old new was own p = stays old new p.1 own
+steps n may pages (session.Silent name) m received old new was own p = opens n may.takes_up name m received old new was own p
+steps n may pages (session.Begun b) m received old new was own p = talks n may.most pages b m received old new was own p
 
-hears : (n : ℕ) (pages : List (List ℕ)) (s : Session) (r : Result ClientMessage MessageFault) (received : Received) (old new : HostView) → session_at old.sessions n ≡ s → HasOwn old
-    → Hears n pages s r received old new → HasOwn new
-hears n pages s (Ok m) received old new was own p = steps n pages s m received old new was own p
-hears n pages s (Err f) received old new was own p = breaks n s (fault.Message f) received old new was own p
+hears : (n : ℕ) (may : Allowance) (pages : List (List ℕ)) (s : Session) (r : Result ClientMessage MessageFault) (received : Received) (old new : HostView) → session_at old.sessions n ≡ s → HasOwn old
+    → Hears n may pages s r received old new → HasOwn new
+hears n may pages s (Ok m) received old new was own p = steps n may pages s m received old new was own p
+hears n may pages s (Err f) received old new was own p = breaks n s (fault.Message f) received old new was own p
 
-pub receive_keeps : (n : ℕ) (bytes : List ℕ) (pages : List (List ℕ)) (received : Received) (old new : HostView) → HasOwn old → Receives n bytes pages received old new → HasOwn new
-receive_keeps n bytes pages received old new own p =
+pub receive_keeps : (n : ℕ) (bytes : List ℕ) (pages : List (List ℕ)) (may : Allowance) (received : Received) (old new : HostView) → HasOwn old → Receives n bytes pages may received old new → HasOwn new
+receive_keeps n bytes pages may received old new own p =
     elim (cases_Bool (takes (session_at old.sessions n))) [
-      | inl took ↦ hears n pages (session_at old.sessions n) (client_at bytes) received old new refl own (p.heard-if took)
+      | inl took ↦ hears n may pages (session_at old.sessions n) (client_at bytes) received old new refl own (p.heard-if took)
       | inr idle ↦ stays old new (p.idle-if idle).1 own
     ]
+
+pub take_back_keeps : (n : ℕ) (s : Session) (frames : List ℕ) (received : Received) (old new : HostView) → HasOwn old → TakesBackAt n s frames received old new → HasOwn new
+take_back_keeps n session.Free frames received old new own t = stays old new t.1 own
+take_back_keeps n (session.Silent name) frames received old new own t = stays old new t.1 own
+take_back_keeps n (session.Refused fault) frames received old new own t = stays old new t.1 own
+take_back_keeps n (session.Begun b) frames received old new own t =
+    becomes new old.sessions old.domain.clients (ap (λ (h : HostView). h.sessions) t.now)
+    (ap (λ (h : HostView). h.domain.clients) t.now ∙ releases_clients b.client (back_of frames (last_at old.last n)) old.domain) own
 
 -- ---- connections
 

@@ -23,6 +23,7 @@ use Rattle.share_domain.specs.Leaving.{Leaves, StaysOut}
 use Rattle.share_domain.specs.Numbers.{slot_by}
 use Rattle.share_domain.specs.Totals.{slots_of}
 use Rattle.share_domain.proofs.Bytes.{bytes_by_release, bytes_by_leave}
+use Rattle.host_sessions.specs.declared.allowance.Allowance.{Allowance}
 use Rattle.host_sessions.specs.declared.answer.Received.{Received}
 use Rattle.host_sessions.specs.declared.session.SessionFault.{SessionFault}
 use Rattle.host_sessions.specs.declared.session.SessionFault.TheVariants as fault
@@ -31,9 +32,9 @@ use Rattle.host_sessions.specs.declared.session.Session.{Session}
 use Rattle.host_sessions.specs.declared.session.Session.TheVariants as session
 use Rattle.host_sessions.specs.Ends.{Ends, EndsBegun}
 use Rattle.host_sessions.specs.Others.{SparesOthers}
-use Rattle.host_sessions.specs.Table.{takes, session_at, wanted_in, loans_of, begun_of, lost_of, last_at}
-use Rattle.host_sessions.specs.Turns.{Answers, LendsOne, after_releases}
-use Rattle.host_sessions.specs.Steps.{HostView, Breaks, Greets, Begins, Resumes, TakesUp, Opens, Talks, Steps, LendsFirst, Hears, Receives}
+use Rattle.host_sessions.specs.Table.{takes, session_at, wanted_in, wanted_if, loans_of, begun_of, lost_of, last_at}
+use Rattle.host_sessions.specs.Turns.{Answers, LendsOne, after_releases, slots_in, offered, back_of}
+use Rattle.host_sessions.specs.Steps.{HostView, Breaks, Greets, Begins, Resumes, TakesUp, Opens, Talks, Steps, LendsFirst, Hears, Receives, TakesBackAt}
 use Rattle.host_sessions.proofs.Apart.{same_domain, spares_begun}
 use Rattle.host_sessions.proofs.Gained.{leave_gains}
 use Rattle.host_sessions.proofs.Spared.{machine_other, free_held, leave_spares}
@@ -148,21 +149,21 @@ begins n name (Some c) received old new b = same_host old new (ap (λ (h : HostV
 
 takes_up : (n before : ℕ) (o : Option Begun) (loans : ℕ) (received : Received) (old new : HostView) → TakesUp n before o loans received old new → BytesStay old.domain new.domain
 takes_up n before None loans received old new t = same_host old new (ap (λ (h : HostView). h.domain.machines) t.1)
-takes_up n before (Some b) loans received old new t = released_host b.client (lost_of b loans (last_at old.last before)) old new (ap (λ (h : HostView). h.domain) t.now)
+takes_up n before (Some b) loans received old new t = released_host b.client (slots_in (lost_of b loans (last_at old.last before))) old new (ap (λ (h : HostView). h.domain) t.now)
 
 greets : (n : ℕ) (name : List ℕ) (o : Option ℕ) (loans : ℕ) (received : Received) (old new : HostView) → Greets n name o loans received old new → BytesStay old.domain new.domain
 greets n name None loans received old new g = begins n name (next_client old.domain) received old new g
 greets n name (Some before) loans received old new g = takes_up n before (begun_of (session_at old.sessions before)) loans received old new g
 
-opens : (n : ℕ) (name : List ℕ) (m : ClientMessage) (received : Received) (old new : HostView) → Opens n name m received old new → BytesStay old.domain new.domain
-opens n name (client.Hello wanted) received old new o = greets n name (wanted_in old.sessions wanted) (loans_of wanted) received old new o
-opens n name (client.Ask questions) received old new o = breaks n (session.Silent name) fault.Early received old new o
-opens n name (client.Lend count) received old new o = breaks n (session.Silent name) fault.Early received old new o
-opens n name (client.Release slots) received old new o = breaks n (session.Silent name) fault.Early received old new o
+opens : (n : ℕ) (may : Bool) (name : List ℕ) (m : ClientMessage) (received : Received) (old new : HostView) → Opens n may name m received old new → BytesStay old.domain new.domain
+opens n may name (client.Hello wanted) received old new o = greets n name (wanted_in old.sessions (wanted_if may wanted)) (loans_of wanted) received old new o
+opens n may name (client.Ask questions) received old new o = breaks n (session.Silent name) fault.Early received old new o
+opens n may name (client.Lend count) received old new o = breaks n (session.Silent name) fault.Early received old new o
+opens n may name (client.Release slots) received old new o = breaks n (session.Silent name) fault.Early received old new o
 
-lends_first : (n : ℕ) (b : Begun) (count : ℕ) (pages : List (List ℕ)) (received : Received) (old new : HostView) → LendsFirst n b count pages received old new → BytesStay old.domain new.domain
-lends_first n b count pages received old new l =
-    elim (cases_lt (length pages) count) [
+lends_first : (n : ℕ) (b : Begun) (count most : ℕ) (pages : List (List ℕ)) (received : Received) (old new : HostView) → LendsFirst n b count most pages received old new → BytesStay old.domain new.domain
+lends_first n b count most pages received old new l =
+    elim (cases_lt (length pages) (offered count most)) [
       | inl short ↦ breaks n (session.Begun b) fault.Pages received old new (l.short short)
       | inr le ↦ elim (cases_lt MAX_IN_MESSAGE count) [
         | inl over ↦ breaks n (session.Begun b) fault.Pages received old new (l.many over)
@@ -170,28 +171,34 @@ lends_first n b count pages received old new l =
       ]
     ]
 
-talks : (n : ℕ) (pages : List (List ℕ)) (b : Begun) (m : ClientMessage) (received : Received) (old new : HostView) → Talks n pages b m received old new → BytesStay old.domain new.domain
-talks n pages b (client.Hello wanted) received old new t = breaks n (session.Begun b) fault.Again received old new t
-talks n pages b (client.Ask questions) received old new t = same_host old new (ap (λ (h : HostView). h.domain.machines) t.now)
-talks n pages b (client.Lend count) received old new t = lends_first n b count pages received old new t
-talks n pages b (client.Release slots) received old new t = released_host b.client slots.items old new (ap (λ (h : HostView). h.domain) t.now)
+talks : (n most : ℕ) (pages : List (List ℕ)) (b : Begun) (m : ClientMessage) (received : Received) (old new : HostView) → Talks n most pages b m received old new → BytesStay old.domain new.domain
+talks n most pages b (client.Hello wanted) received old new t = breaks n (session.Begun b) fault.Again received old new t
+talks n most pages b (client.Ask questions) received old new t = same_host old new (ap (λ (h : HostView). h.domain.machines) t.now)
+talks n most pages b (client.Lend count) received old new t = lends_first n b count most pages received old new t
+talks n most pages b (client.Release slots) received old new t = released_host b.client slots.items old new (ap (λ (h : HostView). h.domain) t.now)
 
-steps : (n : ℕ) (pages : List (List ℕ)) (s : Session) (m : ClientMessage) (received : Received) (old new : HostView) → Steps n pages s m received old new → BytesStay old.domain new.domain
-steps n pages session.Free m received old new p = same_host old new (ap (λ (h : HostView). h.domain.machines) p.1)
-steps n pages (session.Refused first) m received old new p = same_host old new (ap (λ (h : HostView). h.domain.machines) p.1)
-steps n pages (session.Silent name) m received old new p = opens n name m received old new p
-steps n pages (session.Begun b) m received old new p = talks n pages b m received old new p
+steps : (n : ℕ) (may : Allowance) (pages : List (List ℕ)) (s : Session) (m : ClientMessage) (received : Received) (old new : HostView) → Steps n may pages s m received old new → BytesStay old.domain new.domain
+steps n may pages session.Free m received old new p = same_host old new (ap (λ (h : HostView). h.domain.machines) p.1)
+steps n may pages (session.Refused first) m received old new p = same_host old new (ap (λ (h : HostView). h.domain.machines) p.1)
+steps n may pages (session.Silent name) m received old new p = opens n may.takes_up name m received old new p
+steps n may pages (session.Begun b) m received old new p = talks n may.most pages b m received old new p
 
-hears : (n : ℕ) (pages : List (List ℕ)) (s : Session) (r : Result ClientMessage MessageFault) (received : Received) (old new : HostView) → Hears n pages s r received old new → BytesStay old.domain new.domain
-hears n pages s (Ok m) received old new p = steps n pages s m received old new p
-hears n pages s (Err f) received old new p = breaks n s (fault.Message f) received old new p
+hears : (n : ℕ) (may : Allowance) (pages : List (List ℕ)) (s : Session) (r : Result ClientMessage MessageFault) (received : Received) (old new : HostView) → Hears n may pages s r received old new → BytesStay old.domain new.domain
+hears n may pages s (Ok m) received old new p = steps n may pages s m received old new p
+hears n may pages s (Err f) received old new p = breaks n s (fault.Message f) received old new p
 
-pub receives_bytes : (n : ℕ) (bytes : List ℕ) (pages : List (List ℕ)) (received : Received) (old new : HostView) → Receives n bytes pages received old new → BytesStay old.domain new.domain
-receives_bytes n bytes pages received old new p =
+pub receives_bytes : (n : ℕ) (bytes : List ℕ) (pages : List (List ℕ)) (may : Allowance) (received : Received) (old new : HostView) → Receives n bytes pages may received old new → BytesStay old.domain new.domain
+receives_bytes n bytes pages may received old new p =
     elim (cases_Bool (takes (session_at old.sessions n))) [
-      | inl took ↦ hears n pages (session_at old.sessions n) (client_at bytes) received old new (p.heard-if took)
+      | inl took ↦ hears n may pages (session_at old.sessions n) (client_at bytes) received old new (p.heard-if took)
       | inr idle ↦ same_host old new (ap (λ (h : HostView). h.domain.machines) (p.idle-if idle).1)
     ]
+
+pub take_back_bytes : (n : ℕ) (s : Session) (frames : List ℕ) (received : Received) (old new : HostView) → TakesBackAt n s frames received old new → BytesStay old.domain new.domain
+take_back_bytes n session.Free frames received old new t = same_host old new (ap (λ (h : HostView). h.domain.machines) t.1)
+take_back_bytes n (session.Silent name) frames received old new t = same_host old new (ap (λ (h : HostView). h.domain.machines) t.1)
+take_back_bytes n (session.Refused fault) frames received old new t = same_host old new (ap (λ (h : HostView). h.domain.machines) t.1)
+take_back_bytes n (session.Begun b) frames received old new t = released_host b.client (back_of frames (last_at old.last n)) old new (ap (λ (h : HostView). h.domain) t.now)
 
 -- ---- the end of a process
 

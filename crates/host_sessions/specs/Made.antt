@@ -5,7 +5,7 @@ use Rattle.recent_fingerprints.specs.Notes.{nothing_noted}
 use Rattle.share_domain.specs.Made.{AreLimits, empty_domain}
 use Rattle.host_sessions.specs.declared.config.HostConfig.{HostConfig}
 use Rattle.host_sessions.specs.declared.session.Session.TheVariants as session
-use Rattle.host_sessions.specs.Table.{no_slots}
+use Rattle.host_sessions.specs.Table.{no_loans}
 use Rattle.host_sessions.specs.Steps.{HostView}
 
 abbrev pub ArePlaces : ℕ → Type 0
@@ -26,5 +26,5 @@ empty_host config = record {
   domain = empty_domain config.domain;
   recent = nothing_noted config.recent config.domain.clients config.seed;
   sessions = replicate config.domain.clients session.Free;
-  last = replicate config.domain.clients no_slots;
+  last = replicate config.domain.clients no_loans;
 }

@@ -3,6 +3,7 @@ use Rattle.std.specs.Prelude.{◌≡◌, ℕ, true, List, Option, slice_index_or
 use Rattle.share_domain.specs.declared.client.Presence.{Presence}
 use Rattle.share_domain.specs.declared.client.Presence.TheVariants.{Out}
 use Rattle.share_domain.specs.Totals.{is_present}
+use Rattle.host_sessions.specs.declared.allowance.Allowance.{Allowance}
 use Rattle.host_sessions.specs.declared.answer.Received.{Received}
 use Rattle.host_sessions.specs.declared.config.HostConfig.{HostConfig}
 use Rattle.host_sessions.specs.declared.session.Begun.{Begun}
@@ -10,7 +11,7 @@ use Rattle.host_sessions.specs.declared.session.Session.{Session}
 use Rattle.host_sessions.specs.declared.session.Session.TheVariants as session
 use Rattle.host_sessions.specs.Ends.{Ends}
 use Rattle.host_sessions.specs.Made.{empty_host}
-use Rattle.host_sessions.specs.Steps.{HostView, Receives, with_sessions, with_session}
+use Rattle.host_sessions.specs.Steps.{HostView, Receives, TakesBackAt, with_sessions, with_session}
 use Rattle.host_sessions.specs.Table.{session_at, connected, next_number, gone}
 
 -- each session that has begun has a client that has entered and isn't out, and no two sessions have the same
@@ -29,8 +30,11 @@ abbrev pub ConnectKeepsOwn : Type 0
 ConnectKeepsOwn = (name : List ℕ) (h : HostView) → HasOwn h → HasOwn (with_sessions h (connected name (next_number h.sessions) h.sessions))
 
 abbrev pub ReceiveKeepsOwn : Type 0
-ReceiveKeepsOwn = (n : ℕ) (bytes : List ℕ) (pages : List (List ℕ)) (received : Received) (old new : HostView)
-    → HasOwn old → Receives n bytes pages received old new → HasOwn new
+ReceiveKeepsOwn = (n : ℕ) (bytes : List ℕ) (pages : List (List ℕ)) (may : Allowance) (received : Received) (old new : HostView)
+    → HasOwn old → Receives n bytes pages may received old new → HasOwn new
+
+abbrev pub TakeBackKeepsOwn : Type 0
+TakeBackKeepsOwn = (n : ℕ) (frames : List ℕ) (received : Received) (old new : HostView) → HasOwn old → TakesBackAt n (session_at old.sessions n) frames received old new → HasOwn new
 
 abbrev pub DisconnectKeepsOwn : Type 0
 DisconnectKeepsOwn = (n : ℕ) (h : HostView) → HasOwn h → HasOwn (with_session h n (gone (session_at h.sessions n)))

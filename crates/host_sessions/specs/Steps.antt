@@ -1,5 +1,5 @@
 -- What a packet of a session does.
-use Rattle.std.specs.Prelude.{◌≡◌, ℕ, true, false, ◌<◌, ◌≤◌, List, [], length, take, Option, Some, None, Result, Ok, Err, slice_set}
+use Rattle.std.specs.Prelude.{◌≡◌, ℕ, Bool, true, false, ◌<◌, ◌≤◌, List, [], length, take, Option, Some, None, Result, Ok, Err, slice_set}
 use Rattle.host_messages.specs.declared.client.ClientMessage.{ClientMessage}
 use Rattle.host_messages.specs.declared.client.ClientMessage.TheVariants as client
 use Rattle.host_messages.specs.declared.fault.MessageFault.{MessageFault}
@@ -14,16 +14,17 @@ use Rattle.share_domain.specs.Bytes.{BytesStay}
 use Rattle.share_domain.specs.Domains.{DomainView, next_client, entered}
 use Rattle.host_sessions.specs.declared.answer.Received.{Received}
 use Rattle.host_sessions.specs.declared.answer.Received.TheVariants as got
+use Rattle.host_sessions.specs.declared.allowance.Allowance.{Allowance}
 use Rattle.host_sessions.specs.declared.session.SessionFault.{SessionFault}
 use Rattle.host_sessions.specs.declared.session.SessionFault.TheVariants as fault
 use Rattle.host_sessions.specs.declared.session.Begun.{Begun}
 use Rattle.host_sessions.specs.declared.session.Session.{Session}
 use Rattle.host_sessions.specs.declared.session.Session.TheVariants as session
-use Rattle.host_sessions.specs.Table.{heard, heard_with, lent, new_session, takes, faulted, session_at, wanted_in, loans_of, begun_of, Slots, last_at, lost_of}
-use Rattle.host_sessions.specs.Turns.{answers_to, asked, freed_by, after_releases, slots_in, LendsInTurn}
+use Rattle.host_sessions.specs.Table.{heard, heard_with, lent, new_session, takes, faulted, session_at, wanted_in, wanted_if, loans_of, begun_of, Loans, last_at, lost_of}
+use Rattle.host_sessions.specs.Turns.{answers_to, asked, freed_by, after_releases, slots_in, offered, held_back, LendsSome, kept_of, back_of}
 
 -- the frames of all machines, the salt of fingerprints, the most slots of a session, the percentage of a processor that
--- clients learn, the domain, the last questions, the sessions by their numbers, and the slots of the last reply to Lend of each
+-- clients learn, the domain, the last questions, the sessions by their numbers, and the last reply to Lend of each
 pub record HostView : Type 0 where
   pub frames : ℕ
   pub salt : ℕ
@@ -32,9 +33,9 @@ pub record HostView : Type 0 where
   pub domain : DomainView
   pub recent : Recent
   pub sessions : List Session
-  pub last : List Slots
+  pub last : List Loans
 
--- the host with other sessions, another session, other last questions, another domain, and other slots of a session's last reply
+-- the host with other sessions, another session, other last questions, another domain, and another last reply of a session
 abbrev pub with_sessions : HostView → List Session → HostView
 with_sessions h sessions = record { frames = h.frames; salt = h.salt; quota = h.quota; client_cpu = h.client_cpu; domain = h.domain; recent = h.recent; sessions = sessions; last = h.last }
 
@@ -47,8 +48,8 @@ with_recent h recent = record { frames = h.frames; salt = h.salt; quota = h.quot
 abbrev pub with_domain : HostView → DomainView → HostView
 with_domain h domain = record { frames = h.frames; salt = h.salt; quota = h.quota; client_cpu = h.client_cpu; domain = domain; recent = h.recent; sessions = h.sessions; last = h.last }
 
-abbrev pub with_last : HostView → ℕ → List ℕ → HostView
-with_last h n slots = record { frames = h.frames; salt = h.salt; quota = h.quota; client_cpu = h.client_cpu; domain = h.domain; recent = h.recent; sessions = h.sessions; last = slice_set h.last n (record { items = slots }) }
+abbrev pub with_last : HostView → ℕ → List Lent → HostView
+with_last h n loans = record { frames = h.frames; salt = h.salt; quota = h.quota; client_cpu = h.client_cpu; domain = h.domain; recent = h.recent; sessions = h.sessions; last = slice_set h.last n (record { items = loans }) }
 
 -- ---- faults
 
@@ -61,11 +62,11 @@ Breaks n s f received old new = (received ≡ got.Fault f) × (new ≡ with_sess
 abbrev pub welcome_to : HostView → List ℕ → Welcome
 welcome_to h name = record { name = name; frames = h.frames; salt = h.salt; most = MAX_IN_MESSAGE; client_cpu = h.client_cpu }
 
--- A session is taken up: the connection's number is its number now, and the old one is free. These slots are lost to its client, which
--- has got so many replies to Lend: they are released.
-pub record Resumes (n before : ℕ) (b : Begun) (loans : ℕ) (lost : List ℕ) (received : Received) (old new : HostView) : Type 0 where
-  pub reply : received ≡ got.Resumed (welcome_to old b.name) before (record { items = freed_by b.client lost old.domain })
-  pub now : new ≡ with_last (with_session (with_session (with_domain old (after_releases b.client lost old.domain)) before session.Free) n
+-- A session is taken up: the connection's number is its number now, and the old one is free. These loans are lost to its client, which
+-- has got so many replies to Lend: their slots are released.
+pub record Resumes (n before : ℕ) (b : Begun) (loans : ℕ) (lost : List Lent) (received : Received) (old new : HostView) : Type 0 where
+  pub reply : received ≡ got.Resumed (welcome_to old b.name) before (record { items = freed_by b.client (slots_in lost) old.domain })
+  pub now : new ≡ with_last (with_session (with_session (with_domain old (after_releases b.client (slots_in lost) old.domain)) before session.Free) n
       (session.Begun (heard_with b loans))) n []
 
 -- (One that can be taken up has begun)
@@ -95,47 +96,62 @@ pub record Releases (n : ℕ) (b : Begun) (slots : List ℕ) (received : Receive
   pub now : new ≡ with_session (with_domain old (after_releases b.client slots old.domain)) n (session.Begun (heard b))
 
 -- (each slot that stays reads the same bytes after as before)
-pub record LendsPages (n : ℕ) (b : Begun) (pages : List (List ℕ)) (received : Received) (old new : HostView) : Type 0 where
+pub record LendsPages (n : ℕ) (b : Begun) (pages : List (List ℕ)) (others : ℕ) (received : Received) (old new : HostView) : Type 0 where
   pub loans : List Lent
-  pub lends : LendsInTurn old.salt b.client old.quota pages loans old.domain new.domain
+  pub lends : LendsSome old.salt b.client old.quota pages others loans old.domain new.domain
   pub bytes : BytesStay old.domain new.domain
   pub reply : received ≡ got.Loans (record { items = loans })
-  pub now : new ≡ with_last (with_session (with_domain old new.domain) n (session.Begun (lent b))) n (slots_in loans)
+  pub now : new ≡ with_last (with_session (with_domain old new.domain) n (session.Begun (lent b))) n loans
 
--- so many pages of the buffer are lent, if it has as many. (No message that was read names more than 128)
-pub record LendsFirst (n : ℕ) (b : Begun) (count : ℕ) (pages : List (List ℕ)) (received : Received) (old new : HostView) : Type 0 where
-  pub enough : count ≤ MAX_IN_MESSAGE → count ≤ length pages → LendsPages n b (take count pages) received old new
-  pub short : length pages < count → Breaks n (session.Begun b) fault.Pages received old new
+-- So many pages of the buffer are lent, but no more than `most`, if it has as many. (No message that was read names more than 128)
+pub record LendsFirst (n : ℕ) (b : Begun) (count most : ℕ) (pages : List (List ℕ)) (received : Received) (old new : HostView) : Type 0 where
+  pub enough : count ≤ MAX_IN_MESSAGE → offered count most ≤ length pages → LendsPages n b (take (offered count most) pages) (held_back count most) received old new
+  pub short : length pages < offered count most → Breaks n (session.Begun b) fault.Pages received old new
   pub many : MAX_IN_MESSAGE < count → Breaks n (session.Begun b) fault.Pages received old new
 
 -- ---- a session's step, by its state and the message
 
 -- the first message
-abbrev pub Opens : ℕ → List ℕ → ClientMessage → Received → HostView → HostView → Type 0
-Opens n name (client.Hello wanted) received old new = Greets n name (wanted_in old.sessions wanted) (loans_of wanted) received old new
-Opens n name (client.Ask questions) received old new = Breaks n (session.Silent name) fault.Early received old new
-Opens n name (client.Lend count) received old new = Breaks n (session.Silent name) fault.Early received old new
-Opens n name (client.Release slots) received old new = Breaks n (session.Silent name) fault.Early received old new
+abbrev pub Opens : ℕ → Bool → List ℕ → ClientMessage → Received → HostView → HostView → Type 0
+Opens n may name (client.Hello wanted) received old new = Greets n name (wanted_in old.sessions (wanted_if may wanted)) (loans_of wanted) received old new
+Opens n may name (client.Ask questions) received old new = Breaks n (session.Silent name) fault.Early received old new
+Opens n may name (client.Lend count) received old new = Breaks n (session.Silent name) fault.Early received old new
+Opens n may name (client.Release slots) received old new = Breaks n (session.Silent name) fault.Early received old new
 
 -- a later message
-abbrev pub Talks : ℕ → List (List ℕ) → Begun → ClientMessage → Received → HostView → HostView → Type 0
-Talks n pages b (client.Hello wanted) received old new = Breaks n (session.Begun b) fault.Again received old new
-Talks n pages b (client.Ask questions) received old new = Asks n b questions.items received old new
-Talks n pages b (client.Lend count) received old new = LendsFirst n b count pages received old new
-Talks n pages b (client.Release slots) received old new = Releases n b slots.items received old new
+abbrev pub Talks : ℕ → ℕ → List (List ℕ) → Begun → ClientMessage → Received → HostView → HostView → Type 0
+Talks n most pages b (client.Hello wanted) received old new = Breaks n (session.Begun b) fault.Again received old new
+Talks n most pages b (client.Ask questions) received old new = Asks n b questions.items received old new
+Talks n most pages b (client.Lend count) received old new = LendsFirst n b count most pages received old new
+Talks n most pages b (client.Release slots) received old new = Releases n b slots.items received old new
 
-abbrev pub Steps : ℕ → List (List ℕ) → Session → ClientMessage → Received → HostView → HostView → Type 0
-Steps n pages session.Free message received old new = (received ≡ got.NoSession) × (new ≡ old)
-Steps n pages (session.Refused first) message received old new = (received ≡ got.NoSession) × (new ≡ old)
-Steps n pages (session.Silent name) message received old new = Opens n name message received old new
-Steps n pages (session.Begun b) message received old new = Talks n pages b message received old new
+abbrev pub Steps : ℕ → Allowance → List (List ℕ) → Session → ClientMessage → Received → HostView → HostView → Type 0
+Steps n may pages session.Free message received old new = (received ≡ got.NoSession) × (new ≡ old)
+Steps n may pages (session.Refused first) message received old new = (received ≡ got.NoSession) × (new ≡ old)
+Steps n may pages (session.Silent name) message received old new = Opens n may.takes_up name message received old new
+Steps n may pages (session.Begun b) message received old new = Talks n may.most pages b message received old new
 
 -- a packet of a session that takes messages
-abbrev pub Hears : ℕ → List (List ℕ) → Session → Result ClientMessage MessageFault → Received → HostView → HostView → Type 0
-Hears n pages s (Ok message) received old new = Steps n pages s message received old new
-Hears n pages s (Err f) received old new = Breaks n s (fault.Message f) received old new
+abbrev pub Hears : ℕ → Allowance → List (List ℕ) → Session → Result ClientMessage MessageFault → Received → HostView → HostView → Type 0
+Hears n may pages s (Ok message) received old new = Steps n may pages s message received old new
+Hears n may pages s (Err f) received old new = Breaks n s (fault.Message f) received old new
 
 -- a packet of a session: nothing changes where it takes no messages
-pub record Receives (n : ℕ) (bytes : List ℕ) (pages : List (List ℕ)) (received : Received) (old new : HostView) : Type 0 where
-  pub heard-if : takes (session_at old.sessions n) ≡ true → Hears n pages (session_at old.sessions n) (client_at bytes) received old new
+pub record Receives (n : ℕ) (bytes : List ℕ) (pages : List (List ℕ)) (may : Allowance) (received : Received) (old new : HostView) : Type 0 where
+  pub heard-if : takes (session_at old.sessions n) ≡ true → Hears n may pages (session_at old.sessions n) (client_at bytes) received old new
   pub idle-if : takes (session_at old.sessions n) ≡ false → (received ≡ got.NoSession) × (new ≡ old)
+
+-- ---- loans that are taken back
+
+-- Those loans of a session's last reply to Lend that are in these frames are taken back: their slots are released, and of their pages the
+-- reply says that they aren't lent.
+pub record TakesBack (n : ℕ) (b : Begun) (frames : List ℕ) (loans : List Lent) (received : Received) (old new : HostView) : Type 0 where
+  pub reply : received ≡ got.Loans (record { items = kept_of frames loans })
+  pub now : new ≡ with_last (with_domain old (after_releases b.client (back_of frames loans) old.domain)) n (kept_of frames loans)
+
+-- nothing changes where the session hasn't begun
+abbrev pub TakesBackAt : ℕ → Session → List ℕ → Received → HostView → HostView → Type 0
+TakesBackAt n session.Free frames received old new = (received ≡ got.NoSession) × (new ≡ old)
+TakesBackAt n (session.Silent name) frames received old new = (received ≡ got.NoSession) × (new ≡ old)
+TakesBackAt n (session.Refused fault) frames received old new = (received ≡ got.NoSession) × (new ≡ old)
+TakesBackAt n (session.Begun b) frames received old new = TakesBack n b frames (last_at old.last n) received old new

@@ -3,6 +3,7 @@ use Rattle.std.specs.Prelude.{ℕ, ◌+◌, ◌%◌, ◌^◌, Bool, true, false,
 use Rattle.std.specs.Str.{bytes_eq}
 use Rattle.arrayvec.specs.ArrayVec.{ArrayVec}
 use Rattle.host_messages.specs.declared.client.Wanted.{Wanted}
+use Rattle.host_messages.specs.declared.item.Lent.{Lent}
 use Rattle.lent_slots.specs.Slots.{MachineView}
 use Rattle.share_domain.specs.Totals.{slots_of}
 use Rattle.host_sessions.specs.declared.session.SessionFault.{SessionFault}
@@ -105,24 +106,29 @@ abbrev pub wanted_in : List Session → Option Wanted → Option ℕ
 wanted_in sessions None = None
 wanted_in sessions (Some wanted) = position (is_gone_as wanted.name) sessions
 
+-- the session that a client wants to take up, if one may be taken up
+abbrev pub wanted_if : Bool → Option Wanted → Option Wanted
+wanted_if true wanted = wanted
+wanted_if false wanted = None
+
 -- how many replies to Lend a client has got in it
 abbrev pub loans_of : Option Wanted → ℕ
 loans_of None = 0
 loans_of (Some wanted) = wanted.loans
 
--- ---- the slots of the last reply to Lend of each session
+-- ---- the last reply to Lend of each session
 
-abbrev pub Slots : Type 0
-Slots = ArrayVec ℕ
+abbrev pub Loans : Type 0
+Loans = ArrayVec Lent
 
-abbrev pub no_slots : Slots
-no_slots = record { items = [] }
+abbrev pub no_loans : Loans
+no_loans = record { items = [] }
 
-abbrev pub last_at : List Slots → ℕ → List ℕ
-last_at last n = (slice_index_or last n no_slots).items
+abbrev pub last_at : List Loans → ℕ → List Lent
+last_at last n = (slice_index_or last n no_loans).items
 
 -- those that a client doesn't know of: all of them, unless it has got as many replies as were sent
-abbrev pub lost_of : Begun → ℕ → List ℕ → List ℕ
+abbrev pub lost_of : Begun → ℕ → List Lent → List Lent
 lost_of b loans last = if loans == b.loans then [] else last
 
 -- what has begun, if anything has

@@ -1,5 +1,6 @@
 -- What the pages, questions and slots of one message do, one after the other.
-use Rattle.std.specs.Prelude.{◌≡◌, ℕ, Bool, ◌||◌, ◌==◌, not, if◌then◌else◌, ◌<◌, ◌≤◌, List, [], ◌∷◌, Option, Result, Ok, Err, MatchResult}
+use Rattle.std.specs.Prelude.{◌≡◌, ℕ, Bool, ◌||◌, ◌&&◌, ◌==◌, not, nat_eq, nat_lt, if◌then◌else◌, ◌-◌, ◌<◌, ◌≤◌, List, [], ◌∷◌, ◌++◌, map, replicate, Option, Result, Ok, Err, MatchResult}
+use Rattle.std.specs.List.{list_any}
 use Rattle.host_messages.specs.declared.item.Question.{Question}
 use Rattle.host_messages.specs.declared.item.Lent.{Lent}
 use Rattle.share_domain.specs.declared.number.TheConstants.{NO_FRAME}
@@ -100,3 +101,36 @@ LendsInTurn salt client quota (page ∷ pages) [] old new = ⊥
 LendsInTurn salt client quota [] (lent ∷ loans) old new = ⊥
 LendsInTurn salt client quota (page ∷ pages) (lent ∷ loans) old new =
     (mid : DomainView) × LendsOne salt client quota page lent old mid × LendsInTurn salt client quota pages loans mid new
+
+-- how many of a message's pages may be lent, and how many may not
+abbrev pub offered : ℕ → ℕ → ℕ
+offered count most = if nat_lt most count then most else count
+
+abbrev pub held_back : ℕ → ℕ → ℕ
+held_back count most = count - offered count most
+
+-- The pages that may be lent, one after the other. For each of the others the reply has an item, too: it isn't lent. They change nothing.
+pub record LendsSome (salt client quota : ℕ) (pages : List (List ℕ)) (others : ℕ) (loans : List Lent) (old new : DomainView) : Type 0 where
+  pub lent : List Lent
+  pub lends : LendsInTurn salt client quota pages lent old new
+  pub loans-is : loans ≡ lent ++ replicate others not_lent
+
+-- ---- loans that are taken back
+
+-- a page was lent, in one of these frames
+abbrev pub is_among : List ℕ → Lent → Bool
+is_among frames lent = is_lent lent && list_any (λ f. nat_eq f lent.frame) frames
+
+-- what becomes of a loan when those in these frames are taken back, and what is taken back
+abbrev pub kept_by : List ℕ → Lent → Lent
+kept_by frames lent = if is_among frames lent then not_lent else lent
+
+abbrev pub back_by : List ℕ → Lent → Lent
+back_by frames lent = if is_among frames lent then lent else not_lent
+
+-- the reply then, and the slots that are released
+abbrev pub kept_of : List ℕ → List Lent → List Lent
+kept_of frames loans = map (kept_by frames) loans
+
+abbrev pub back_of : List ℕ → List Lent → List ℕ
+back_of frames loans = slots_in (map (back_by frames) loans)

@@ -1,6 +1,6 @@
 //! Sessions by what they are.
 ghost use Rattle.std.specs.Prelude.{◌≡◌, ◌≤◌, ◌<◌, length, position, IfSome};
-ghost use Rattle.host_sessions.specs.Table.{is_free, is_gone_as, next_number, wanted_in};
+ghost use Rattle.host_sessions.specs.Table.{is_free, is_gone_as, next_number, wanted_if, wanted_in};
 ghost use Rattle.share_domain.specs.declared.config.TheConstants.{MAX_CLIENTS};
 
 use crate::session::Session;
@@ -42,8 +42,20 @@ fn find_gone(sessions: &[Session], name: &Name) -> Option<u32>
     }
 }
 
+/// Returns the number of the session that a client asks to resume, if there is one and it may.
+pub(crate) fn find_wanted(sessions: &[Session], may: bool, wanted: &Option<Wanted>) -> Option<u32>
+    requires { length sessions.now ≤ MAX_CLIENTS }
+    ensures number { result ≡ wanted_in sessions.now (wanted_if may wanted.now) }
+    ensures within { IfSome result (λ n. n < length sessions.now) }
+{
+    if may {
+        return find_named(sessions, wanted);
+    }
+    None
+}
+
 /// Returns the number of the session that a client asks to resume, if there is one.
-pub(crate) fn find_wanted(sessions: &[Session], wanted: &Option<Wanted>) -> Option<u32>
+fn find_named(sessions: &[Session], wanted: &Option<Wanted>) -> Option<u32>
     requires { length sessions.now ≤ MAX_CLIENTS }
     ensures number { result ≡ wanted_in sessions.now wanted.now }
     ensures within { IfSome result (λ n. n < length sessions.now) }

@@ -1,8 +1,8 @@
 //! The host.
-ghost use Rattle.std.specs.Prelude.{◌≡◌, ◌≤◌, ◌<◌, true, false, ◌*◌, length, not, replicate, IfOk};
-ghost use Rattle.host_sessions.specs.Table.{session_at, next_number, connected, takes, gone, is_free, wanted_in, loans_of, begun_of, new_session, no_slots, last_at, lost_of, session_slots};
-ghost use Rattle.host_sessions.specs.Steps.{with_sessions, with_session, with_last, with_domain, welcome_to, Breaks, Greets, Begins, Resumes, TakesUp, Asks, Releases, LendsFirst, LendsPages, Opens, Talks, Steps, Hears, Receives};
-ghost use Rattle.host_sessions.specs.Turns.{freed_by, after_releases};
+ghost use Rattle.std.specs.Prelude.{◌≡◌, ◌≤◌, ◌<◌, true, false, ◌+◌, ◌*◌, length, not, replicate, IfOk};
+ghost use Rattle.host_sessions.specs.Table.{session_at, next_number, connected, takes, gone, is_free, wanted_in, loans_of, begun_of, new_session, no_loans, last_at, lost_of, session_slots, wanted_if};
+ghost use Rattle.host_sessions.specs.Steps.{with_sessions, with_session, with_last, with_domain, welcome_to, Breaks, Greets, Begins, Resumes, TakesUp, Asks, Releases, LendsFirst, LendsPages, Opens, Talks, Steps, Hears, Receives, TakesBack, TakesBackAt};
+ghost use Rattle.host_sessions.specs.Turns.{freed_by, after_releases, slots_in, offered};
 ghost use Rattle.host_sessions.specs.Others.{SparesOthers};
 ghost use Rattle.host_sessions.specs.Ends.{Ends, EndsBegun, ended, count_of};
 ghost use Rattle.host_messages.specs.Reading.{client_at};
@@ -14,16 +14,20 @@ ghost use Rattle.share_domain.specs.declared.config.TheConstants.{MAX_MACHINES};
 ghost use Rattle.page_model.specs.declared.limits.TheConstants.{MAX_FRAMES};
 ghost use Rattle.host_messages.specs.declared.limits.TheConstants.{MAX_IN_MESSAGE};
 
+use crate::allowance::Allowance;
 use crate::answer::Received;
 use crate::ask::ask_each;
+use crate::back::{back_in, kept_in};
 use crate::config::HostConfig;
 use crate::find::{find_free, find_wanted};
-use crate::lend::{lend_each, slots_in};
+use crate::lend::{copy_of, lend_some, offered, slots_in};
 use crate::release::release_each;
 use crate::session::{Begun, Link, Session, SessionFault};
 use arrayvec::ArrayVec;
 use fingerprint_domain::FingerprintDomain;
-use host_messages::{ClientMessage, MAX_IN_MESSAGE, MessageFault, Name, Question, Wanted, Welcome};
+use host_messages::{
+    ClientMessage, Lent, MAX_IN_MESSAGE, MessageFault, Name, Question, Wanted, Welcome,
+};
 use machine_frames::Frames;
 use page_digest::PageHash;
 use page_model::Page;
@@ -41,11 +45,11 @@ pub struct Host<H: PageHash, A: Allocator = Global> {
     domain: FingerprintDomain<H, A>,
     recent: RecentFingerprints<A>,
     sessions: Vec<Session, A>,
-    last: Vec<Slots, A>,
+    last: Vec<Loans, A>,
 }
 
-/// The slots of a reply to `Lend`.
-type Slots = ArrayVec<u64, MAX_IN_MESSAGE>;
+/// What a reply to `Lend` says.
+type Loans = ArrayVec<Lent, MAX_IN_MESSAGE>;
 
 impl<H: PageHash, A: Allocator> Model for Host<H, A> {
     ghost use Rattle.std.specs.Prelude.{◌≡◌, ◌≤◌, length};
@@ -122,9 +126,9 @@ fn new_sessions<A: Allocator>(alloc: A, count: u32) -> Result<Vec<Session, A>, A
     Ok(sessions)
 }
 
-/// Returns `count` empty lists of slots, one for the last reply of each session.
-fn new_last<A: Allocator>(alloc: A, count: u32) -> Result<Vec<Slots, A>, AllocError>
-    ensures { IfOk result (λ last. last.items ≡ replicate count no_slots) }
+/// Returns `count` empty lists of loans, one for the last reply of each session.
+fn new_last<A: Allocator>(alloc: A, count: u32) -> Result<Vec<Loans, A>, AllocError>
+    ensures { IfOk result (λ last. last.items ≡ replicate count no_loans) }
 {
     let mut last = Vec::with_capacity(alloc, count as usize)?;
     for _ in 0..count {
@@ -149,34 +153,34 @@ impl<H: PageHash, A: Allocator> Host<H, A> {
         }
     }
 
-    /// Receives a packet of a session. `pages` are the pages of the buffer that lies beside it. Whatever the bytes are, every client
-    /// but the one that has the session afterwards has the same slots before and after, with the same frames.
-    pub fn receive(&mut self, number: u32, bytes: &[u8], pages: &[Page]) -> Received
-        ensures receives { Receives number bytes.now pages.now result self.old self.new }
+    /// Receives a packet of a session. `pages` are the pages of the buffer that lies beside it: `may.most` of them are enough. Whatever
+    /// the bytes are, every client but the one that has the session afterwards has the same slots before and after, with the same frames.
+    pub fn receive(&mut self, number: u32, bytes: &[u8], pages: &[Page], may: Allowance) -> Received
+        ensures receives { Receives number bytes.now pages.now may result self.old self.new }
         ensures others { SparesOthers (session_at self.new.sessions number) self.old.domain self.new.domain }
         ensures bytes { BytesStay self.old.domain self.new.domain }
     {
-        self.hear(number, bytes, pages)
+        self.hear(number, bytes, pages, may)
     }
 
     /// Receives a packet of a session.
-    fn hear(&mut self, number: u32, bytes: &[u8], pages: &[Page]) -> Received
-        ensures { Receives number bytes.now pages.now result self.old self.new }
+    fn hear(&mut self, number: u32, bytes: &[u8], pages: &[Page], may: Allowance) -> Received
+        ensures { Receives number bytes.now pages.now may result self.old self.new }
     {
         if self.takes(number) {
-            return self.hear_bytes(number, bytes, pages);
+            return self.hear_bytes(number, bytes, pages, may);
         }
         Received::NoSession
     }
 
     /// Receives a packet of a session that takes messages.
-    fn hear_bytes(&mut self, number: u32, bytes: &[u8], pages: &[Page]) -> Received
+    fn hear_bytes(&mut self, number: u32, bytes: &[u8], pages: &[Page], may: Allowance) -> Received
         requires { number < length self.old.sessions }
-        ensures { Hears number pages.now (session_at self.old.sessions number) (client_at bytes.now) result self.old self.new }
+        ensures { Hears number may pages.now (session_at self.old.sessions number) (client_at bytes.now) result self.old self.new }
     {
         let session = self.session(number);
         let read = ClientMessage::from_bytes(bytes);
-        self.hear_read(number, session, read, pages)
+        self.hear_read(number, session, read, pages, may)
     }
 
     /// Receives what a packet was read as.
@@ -186,13 +190,14 @@ impl<H: PageHash, A: Allocator> Host<H, A> {
         session: Session,
         read: Result<ClientMessage, MessageFault>,
         pages: &[Page],
+        may: Allowance,
     ) -> Received
         requires { number < length self.old.sessions }
-        ensures { Hears number pages.now session read result self.old self.new }
+        ensures { Hears number may pages.now session read result self.old self.new }
     {
         match read {
             Err(fault) => self.break_off(number, session, SessionFault::Message(fault)),
-            Ok(message) => self.step(number, session, message, pages),
+            Ok(message) => self.step(number, session, message, pages, may),
         }
     }
 
@@ -270,12 +275,12 @@ impl<H: PageHash, A: Allocator> Host<H, A> {
         self.sessions[number as usize] = session;
     }
 
-    /// Notes the slots of a session's last reply to `Lend`.
-    fn put_last(&mut self, number: u32, slots: Slots)
+    /// Notes a session's last reply to `Lend`.
+    fn put_last(&mut self, number: u32, loans: Loans)
         requires { number < length self.old.sessions }
-        ensures { self.new ≡ with_last self.old number slots.items }
+        ensures { self.new ≡ with_last self.old number loans.items }
     {
-        self.last[number as usize] = slots;
+        self.last[number as usize] = loans;
     }
 
     /// Notes that a packet was at fault.
@@ -294,25 +299,26 @@ impl<H: PageHash, A: Allocator> Host<H, A> {
         session: Session,
         message: ClientMessage,
         pages: &[Page],
+        may: Allowance,
     ) -> Received
         requires { number < length self.old.sessions }
-        ensures { Steps number pages.now session message result self.old self.new }
+        ensures { Steps number may pages.now session message result self.old self.new }
     {
         match session {
             Session::Free => Received::NoSession,
             Session::Refused(_) => Received::NoSession,
-            Session::Silent(name) => self.open(number, name, message),
-            Session::Begun(begun) => self.talk(number, begun, message, pages),
+            Session::Silent(name) => self.open(number, name, message, may.takes_up),
+            Session::Begun(begun) => self.talk(number, begun, message, pages, may.most),
         }
     }
 
     /// Does what a session's first message says.
-    fn open(&mut self, number: u32, name: Name, message: ClientMessage) -> Received
+    fn open(&mut self, number: u32, name: Name, message: ClientMessage, takes_up: bool) -> Received
         requires { number < length self.old.sessions }
-        ensures { Opens number name message result self.old self.new }
+        ensures { Opens number takes_up name message result self.old self.new }
     {
         match message {
-            ClientMessage::Hello(wanted) => self.greet(number, name, wanted),
+            ClientMessage::Hello(wanted) => self.greet(number, name, wanted, takes_up),
             ClientMessage::Ask(_) => {
                 self.break_off(number, Session::Silent(name), SessionFault::Early)
             }
@@ -325,12 +331,12 @@ impl<H: PageHash, A: Allocator> Host<H, A> {
         }
     }
 
-    /// Takes up the session that the client wants, or begins one.
-    fn greet(&mut self, number: u32, name: Name, wanted: Option<Wanted>) -> Received
+    /// Takes up the session that the client wants, if it may, or begins one.
+    fn greet(&mut self, number: u32, name: Name, wanted: Option<Wanted>, takes_up: bool) -> Received
         requires { number < length self.old.sessions }
-        ensures { Greets number name (wanted_in self.old.sessions wanted) (loans_of wanted) result self.old self.new }
+        ensures { Greets number name (wanted_in self.old.sessions (wanted_if takes_up wanted)) (loans_of wanted) result self.old self.new }
     {
-        match find_wanted(&self.sessions, &wanted) {
+        match find_wanted(&self.sessions, takes_up, &wanted) {
             None => self.begin(number, name),
             Some(before) => self.take_up(number, before, loans_of(&wanted)),
         }
@@ -378,7 +384,7 @@ impl<H: PageHash, A: Allocator> Host<H, A> {
     }
 
     /// Releases the slots of a session's last reply to `Lend`, if its client didn't get that.
-    #[tactic(auto, unfolding(crate::specs::Turns::freed_by, crate::specs::Turns::after_releases))]
+    #[tactic(auto, unfolding(crate::specs::Turns::freed_by, crate::specs::Turns::after_releases, crate::specs::Turns::slots_in))]
     fn release_lost(
         &mut self,
         before: u32,
@@ -386,17 +392,14 @@ impl<H: PageHash, A: Allocator> Host<H, A> {
         loans: u64,
     ) -> ArrayVec<u32, MAX_IN_MESSAGE>
         requires { before < length self.old.sessions }
-        ensures freed { result.items ≡ freed_by begun.client (lost_of begun loans (last_at self.old.last before)) self.old.domain }
-        ensures now { self.new ≡ with_domain self.old (after_releases begun.client (lost_of begun loans (last_at self.old.last before)) self.old.domain) }
+        ensures freed { result.items ≡ freed_by begun.client (slots_in (lost_of begun loans (last_at self.old.last before))) self.old.domain }
+        ensures now { self.new ≡ with_domain self.old (after_releases begun.client (slots_in (lost_of begun loans (last_at self.old.last before))) self.old.domain) }
     {
         if loans == begun.loans {
             return ArrayVec::new();
         }
-        release_each(
-            &mut self.domain,
-            begun.client,
-            self.last[before as usize].as_slice(),
-        )
+        let slots = slots_in(self.last[before as usize].as_slice());
+        release_each(&mut self.domain, begun.client, slots.as_slice())
     }
 
     /// Returns a session if it has begun.
@@ -431,16 +434,17 @@ impl<H: PageHash, A: Allocator> Host<H, A> {
         begun: Begun,
         message: ClientMessage,
         pages: &[Page],
+        most: u32,
     ) -> Received
         requires { number < length self.old.sessions }
-        ensures { Talks number pages.now begun message result self.old self.new }
+        ensures { Talks number most pages.now begun message result self.old self.new }
     {
         match message {
             ClientMessage::Hello(_) => {
                 self.break_off(number, Session::Begun(begun), SessionFault::Again)
             }
             ClientMessage::Ask(questions) => self.ask(number, begun, questions.as_slice()),
-            ClientMessage::Lend(count) => self.lend_first(number, begun, count, pages),
+            ClientMessage::Lend(count) => self.lend_first(number, begun, count, most, pages),
             ClientMessage::Release(slots) => self.release(number, begun, slots.as_slice()),
         }
     }
@@ -467,30 +471,88 @@ impl<H: PageHash, A: Allocator> Host<H, A> {
         Received::Released(freed)
     }
 
-    /// Lends the first `count` pages of a buffer. If it has fewer, or a message can't list as many, the session breaks off.
-    fn lend_first(&mut self, number: u32, begun: Begun, count: u32, pages: &[Page]) -> Received
+    /// Lends the first `count` pages of a buffer, but no more than `most`. If it has fewer, or a message can't list as many, the session
+    /// breaks off.
+    fn lend_first(
+        &mut self,
+        number: u32,
+        begun: Begun,
+        count: u32,
+        most: u32,
+        pages: &[Page],
+    ) -> Received
         requires { number < length self.old.sessions }
-        ensures { LendsFirst number begun count pages.now result self.old self.new }
+        ensures { LendsFirst number begun count most pages.now result self.old self.new }
     {
-        if pages.len() < count as usize {
+        let first = offered(count, most);
+        if pages.len() < first as usize {
             return self.break_off(number, Session::Begun(begun), SessionFault::Pages);
         }
         if count as usize > MAX_IN_MESSAGE {
             return self.break_off(number, Session::Begun(begun), SessionFault::Pages);
         }
-        self.lend(number, begun, &pages[..count as usize])
+        self.lend(
+            number,
+            begun,
+            &pages[..first as usize],
+            (count - first) as usize,
+        )
     }
 
-    /// Lends pages.
-    fn lend(&mut self, number: u32, begun: Begun, pages: &[Page]) -> Received
+    /// Lends pages. `others` pages after them aren't lent.
+    fn lend(&mut self, number: u32, begun: Begun, pages: &[Page], others: usize) -> Received
         requires number { number < length self.old.sessions }
-        requires few { length pages.now ≤ MAX_IN_MESSAGE }
-        ensures { LendsPages number begun pages.now result self.old self.new }
+        requires few { length pages.now + others ≤ MAX_IN_MESSAGE }
+        ensures { LendsPages number begun pages.now others result self.old self.new }
     {
-        let loans = lend_each(&mut self.domain, begun.client, self.quota, pages);
+        let loans = lend_some(&mut self.domain, begun.client, self.quota, pages, others);
         self.put(number, Session::Begun(begun.lent()));
-        self.put_last(number, slots_in(loans.as_slice()));
+        self.put_last(number, copy_of(loans.as_slice()));
         Received::Loans(loans)
+    }
+
+    /// Takes back those loans of a session's last reply to `Lend` that are in these frames, and returns what the reply says then. Call it
+    /// before the reply is sent: its client knows of none of them.
+    pub fn take_back(&mut self, number: u32, frames: &[u32]) -> Received
+        ensures takes_back { TakesBackAt number (session_at self.old.sessions number) frames.now result self.old self.new }
+        ensures others { SparesOthers (session_at self.new.sessions number) self.old.domain self.new.domain }
+        ensures bytes { BytesStay self.old.domain self.new.domain }
+    {
+        self.take_back_in(number, frames)
+    }
+
+    /// Takes back loans of a session.
+    fn take_back_in(&mut self, number: u32, frames: &[u32]) -> Received
+        ensures { TakesBackAt number (session_at self.old.sessions number) frames.now result self.old self.new }
+    {
+        let session = self.session(number);
+        self.take_back_as(number, session, frames)
+    }
+
+    /// Takes back loans, if the session has begun.
+    fn take_back_as(&mut self, number: u32, session: Session, frames: &[u32]) -> Received
+        requires { is_free session ≡ false → number < length self.old.sessions }
+        ensures { TakesBackAt number session frames.now result self.old self.new }
+    {
+        match session {
+            Session::Free => Received::NoSession,
+            Session::Silent(_) => Received::NoSession,
+            Session::Refused(_) => Received::NoSession,
+            Session::Begun(begun) => self.take_back_of(number, begun, frames),
+        }
+    }
+
+    /// Takes back loans of a session that has begun.
+    fn take_back_of(&mut self, number: u32, begun: Begun, frames: &[u32]) -> Received
+        requires { number < length self.old.sessions }
+        ensures { TakesBack number begun frames.now (last_at self.old.last number) result self.old self.new }
+    {
+        let back = back_in(frames, self.last[number as usize].as_slice());
+        let kept = kept_in(frames, self.last[number as usize].as_slice());
+        let slots = slots_in(back.as_slice());
+        release_each(&mut self.domain, begun.client, slots.as_slice());
+        self.put_last(number, copy_of(kept.as_slice()));
+        Received::Loans(kept)
     }
 
     /// Ends the session with a number.

@@ -1,8 +1,8 @@
 //! Pages that are lent one after the other.
-ghost use Rattle.std.specs.Prelude.{◌≡◌, ◌≤◌, ◌+◌, ◌++◌, ◌∷◌, [], length};
+ghost use Rattle.std.specs.Prelude.{◌≡◌, ◌≤◌, ◌+◌, ◌++◌, ◌∷◌, [], length, replicate};
 ghost use Rattle.arrayvec.specs.ArrayVec.{array_vec_len};
 ghost use Rattle.share_domain.specs.Bytes.{BytesStay};
-ghost use Rattle.host_sessions.specs.Turns.{LendsInTurn, LendsOne, Lends, lent_by, slots_in, not_lent};
+ghost use Rattle.host_sessions.specs.Turns.{LendsInTurn, LendsOne, LendsSome, Lends, lent_by, slots_in, not_lent, offered};
 ghost use Rattle.host_messages.specs.declared.limits.TheConstants.{MAX_IN_MESSAGE};
 
 use arrayvec::ArrayVec;
@@ -13,8 +13,60 @@ use page_model::Page;
 use share_domain::{LendFault, Loan, NO_FRAME, slot_number};
 use std::alloc::Allocator;
 
+/// Lends pages of a client, one after the other. `others` pages after them aren't lent.
+pub(crate) fn lend_some<H: PageHash, A: Allocator>(
+    domain: &mut FingerprintDomain<H, A>,
+    client: u32,
+    quota: u32,
+    pages: &[Page],
+    others: usize,
+) -> ArrayVec<Lent, MAX_IN_MESSAGE>
+    requires { length pages.now + others ≤ MAX_IN_MESSAGE }
+    ensures lends { LendsSome domain.old.salt client quota pages.now others result.items domain.old.domain domain.new.domain }
+    ensures salt { domain.new.salt ≡ domain.old.salt }
+    ensures bytes { BytesStay domain.old.domain domain.new.domain }
+{
+    let lent = lend_each(domain, client, quota, pages);
+    with_refused(lent.as_slice(), others)
+}
+
+/// Returns these loans, and behind them so many pages that aren't lent.
+fn with_refused(loans: &[Lent], others: usize) -> ArrayVec<Lent, MAX_IN_MESSAGE>
+    requires { length loans.now + others ≤ MAX_IN_MESSAGE }
+    ensures { result.items ≡ loans.now ++ replicate others not_lent }
+{
+    let mut all = copy_of(loans);
+    let refused = refused(others);
+    let _appended = all.try_extend_from_slice(refused.as_slice());
+    all
+}
+
+/// Returns so many pages that aren't lent.
+fn refused(count: usize) -> ArrayVec<Lent, MAX_IN_MESSAGE>
+    requires { count ≤ MAX_IN_MESSAGE }
+    ensures items { result.items ≡ replicate count not_lent }
+    ensures len { array_vec_len result ≡ count }
+{
+    let mut pages = ArrayVec::new();
+    for _ in 0..count {
+        pages.push(not_lent());
+    }
+    pages
+}
+
+/// Returns how many pages of a message may be lent.
+pub(crate) fn offered(count: u32, most: u32) -> u32
+    ensures offered { result ≡ offered count most }
+    ensures within { result ≤ count }
+{
+    if most < count {
+        return most;
+    }
+    count
+}
+
 /// Lends pages of a client, one after the other.
-pub(crate) fn lend_each<H: PageHash, A: Allocator>(
+fn lend_each<H: PageHash, A: Allocator>(
     domain: &mut FingerprintDomain<H, A>,
     client: u32,
     quota: u32,
@@ -22,7 +74,7 @@ pub(crate) fn lend_each<H: PageHash, A: Allocator>(
 ) -> ArrayVec<Lent, MAX_IN_MESSAGE>
     requires { length pages.now ≤ MAX_IN_MESSAGE }
     ensures lends { LendsInTurn domain.old.salt client quota pages.now result.items domain.old.domain domain.new.domain }
-    ensures len { length result.items ≤ MAX_IN_MESSAGE }
+    ensures len { array_vec_len result ≡ length pages.now }
     ensures salt { domain.new.salt ≡ domain.old.salt }
     ensures bytes { BytesStay domain.old.domain domain.new.domain }
 {
@@ -78,6 +130,17 @@ fn lent_by(answer: &Result<Loan, LendFault>) -> Lent
     }
 }
 
+/// Returns these loans once more.
+pub(crate) fn copy_of(loans: &[Lent]) -> ArrayVec<Lent, MAX_IN_MESSAGE>
+    requires { length loans.now ≤ MAX_IN_MESSAGE }
+    ensures items { result.items ≡ loans.now }
+    ensures len { array_vec_len result ≡ length loans.now }
+{
+    let mut copy = ArrayVec::new();
+    let _appended = copy.try_extend_from_slice(loans);
+    copy
+}
+
 /// Returns the slots of the pages that were lent.
 pub(crate) fn slots_in(loans: &[Lent]) -> ArrayVec<u64, MAX_IN_MESSAGE>
     requires { length loans.now ≤ MAX_IN_MESSAGE }
@@ -103,7 +166,7 @@ fn push_lent(slots: &mut ArrayVec<u64, MAX_IN_MESSAGE>, lent: &Lent)
 }
 
 /// Returns what a client learns of a page that isn't lent.
-fn not_lent() -> Lent
+pub(crate) fn not_lent() -> Lent
     ensures { result ≡ not_lent }
 {
     Lent {

@@ -4,8 +4,10 @@
 //! session whose connection has ended keeps its slots until its process has ended, or another connection takes it up by its name.
 #![tactic(auto)]
 
+mod allowance;
 mod answer;
 mod ask;
+mod back;
 mod config;
 mod find;
 mod host;
@@ -14,6 +16,7 @@ mod lend;
 mod release;
 mod session;
 
+pub use allowance::Allowance;
 pub use answer::Received;
 pub use config::HostConfig;
 pub use host::Host;

@@ -1,19 +1,21 @@
 -- What C gets of a packet, with what the reply to it says.
-use Rattle.std.specs.Prelude.{◌≡◌, ℕ, ◌||◌, nat_lt, MatchBool, List, [], ◌∷◌, length, Option}
+use Rattle.std.specs.Prelude.{◌≡◌, ℕ, ◌||◌, nat_lt, MatchBool, not, nat_eq, List, [], ◌∷◌, length, Option}
 use Rattle.c_surface.specs.declared.status.TheConstants as status
 use Rattle.host_messages.specs.declared.item.Lent.{Lent}
 use Rattle.host_messages.specs.declared.limits.TheConstants.{MAX_IN_MESSAGE, MAX_MESSAGE_BYTES, WELCOME, SEEN, LOANS}
+use Rattle.host_sessions.specs.declared.allowance.Allowance.{Allowance}
 use Rattle.host_sessions.specs.declared.answer.Received.{Received}
 use Rattle.host_sessions.specs.declared.answer.Received.TheVariants as got
 use Rattle.share_domain.specs.Bytes.{BytesStay}
 use Rattle.share_domain.specs.declared.number.TheConstants.{NO_FRAME}
 use Rattle.host_sessions.specs.Others.{SparesOthers}
-use Rattle.host_sessions.specs.Steps.{HostView, Receives}
+use Rattle.host_sessions.specs.Steps.{HostView, Receives, TakesBackAt}
 use Rattle.host_sessions.specs.Table.{session_at}
 use Rattle.pageshare_host_c.specs.Hosts.{AtHost}
 use Rattle.pageshare_host_c.specs.Packets.{Gives, put_front}
 use Rattle.pageshare_host_c.specs.declared.hosted.Hosted.{Hosted}
 use Rattle.pageshare_host_c.specs.declared.receive.ReceivedPacket.{ReceivedPacket}
+use Rattle.pageshare_host_c.specs.declared.serve.PacketAllowance.{PacketAllowance}
 use Rattle.pageshare_host_c.specs.declared.serve.ServedPacket.{ServedPacket}
 
 -- the reply's kind; 0: there is none
@@ -79,21 +81,43 @@ pub record IsUnserved (why : ℕ) (served : ServedPacket) (reply reply' frames f
   pub reply-is : reply' ≡ reply
   pub frames-is : frames' ≡ frames
 
+-- what C allows a packet
+abbrev pub allowance_of : PacketAllowance → Allowance
+allowance_of may = record { most = may.most; takes_up = not (nat_eq may.takes_up 0) }
+
 -- A packet that a host received, as `Packets` has it, with what the reply says
-pub record ServesPacket (session : ℕ) (bytes : List ℕ) (pages : List (List ℕ)) (served : ServedPacket) (reply reply' frames frames' : List ℕ) (old new : HostView) : Type 0 where
+pub record ServesPacket (session : ℕ) (bytes : List ℕ) (pages : List (List ℕ)) (may : PacketAllowance) (served : ServedPacket) (reply reply' frames frames' : List ℕ) (old new : HostView) : Type 0 where
   pub received : Received
-  pub receives : Receives session bytes pages received old new
+  pub receives : Receives session bytes pages (allowance_of may) received old new
   pub others : SparesOthers (session_at new.sessions session) old.domain new.domain
   pub stay : BytesStay old.domain new.domain
   pub shows : Shows received served reply reply' frames frames'
 
 -- a packet for which there are buffers
-abbrev pub ServesWith : ℕ → List ℕ → List (List ℕ) → ServedPacket → List ℕ → List ℕ → List ℕ → List ℕ → HostView → HostView → Type 0
-ServesWith session bytes pages served reply reply' frames frames' old new =
+abbrev pub ServesWith : ℕ → List ℕ → List (List ℕ) → PacketAllowance → ServedPacket → List ℕ → List ℕ → List ℕ → List ℕ → HostView → HostView → Type 0
+ServesWith session bytes pages may served reply reply' frames frames' old new =
     MatchBool (nat_lt (length reply) MAX_MESSAGE_BYTES || nat_lt (length frames) MAX_IN_MESSAGE)
     (IsUnserved status.SHORT served reply reply' frames frames' × (new ≡ old))
-    (ServesPacket session bytes pages served reply reply' frames frames' old new)
+    (ServesPacket session bytes pages may served reply reply' frames frames' old new)
 
-abbrev pub ServesAt : ℕ → List ℕ → List (List ℕ) → ServedPacket → List ℕ → List ℕ → List ℕ → List ℕ → Option Hosted → Option Hosted → Type 0
-ServesAt session bytes pages served reply reply' frames frames' old new =
-    AtHost (IsUnserved status.NO_MACHINE served reply reply' frames frames') (λ h n. ServesWith session bytes pages served reply reply' frames frames' h n) old new
+abbrev pub ServesAt : ℕ → List ℕ → List (List ℕ) → PacketAllowance → ServedPacket → List ℕ → List ℕ → List ℕ → List ℕ → Option Hosted → Option Hosted → Type 0
+ServesAt session bytes pages may served reply reply' frames frames' old new =
+    AtHost (IsUnserved status.NO_MACHINE served reply reply' frames frames') (λ h n. ServesWith session bytes pages may served reply reply' frames frames' h n) old new
+
+-- Loans of a session's last reply that are in these frames, taken back. The reply and the frames are those of its pages afterwards.
+pub record WithdrawsLoans (session : ℕ) (missing : List ℕ) (served : ServedPacket) (reply reply' frames frames' : List ℕ) (old new : HostView) : Type 0 where
+  pub received : Received
+  pub takes_back : TakesBackAt session (session_at old.sessions session) missing received old new
+  pub others : SparesOthers (session_at new.sessions session) old.domain new.domain
+  pub stay : BytesStay old.domain new.domain
+  pub shows : Shows received served reply reply' frames frames'
+
+abbrev pub WithdrawsWith : ℕ → List ℕ → ServedPacket → List ℕ → List ℕ → List ℕ → List ℕ → HostView → HostView → Type 0
+WithdrawsWith session missing served reply reply' frames frames' old new =
+    MatchBool (nat_lt (length reply) MAX_MESSAGE_BYTES || nat_lt (length frames) MAX_IN_MESSAGE)
+    (IsUnserved status.SHORT served reply reply' frames frames' × (new ≡ old))
+    (WithdrawsLoans session missing served reply reply' frames frames' old new)
+
+abbrev pub WithdrawsAt : ℕ → List ℕ → ServedPacket → List ℕ → List ℕ → List ℕ → List ℕ → Option Hosted → Option Hosted → Type 0
+WithdrawsAt session missing served reply reply' frames frames' old new =
+    AtHost (IsUnserved status.NO_MACHINE served reply reply' frames frames') (λ h n. WithdrawsWith session missing served reply reply' frames frames' h n) old new

@@ -12,7 +12,7 @@ ghost use Rattle.page_digest.specs.Hashes.{fold_hash};
 ghost use Rattle.pageshare_host_c.specs.Calls.{ConnectsAt, DisconnectsAt, EndsAt, session_status, session_after, totals_after};
 ghost use Rattle.pageshare_host_c.specs.Hosts.{made_status, AddsFrames, BeginsHost};
 ghost use Rattle.pageshare_host_c.specs.Packets.{ReceivesAt};
-ghost use Rattle.pageshare_host_c.specs.Serving.{ServesAt};
+ghost use Rattle.pageshare_host_c.specs.Serving.{ServesAt, WithdrawsAt};
 ghost use Rattle.pageshare_host_c.specs.Heads.{head_of, name_after};
 ghost use Rattle.host_messages.specs.Reading.{client_at};
 
@@ -42,8 +42,8 @@ pub use read::PacketHead;
 use read::read;
 pub use receive::ReceivedPacket;
 use receive::{receive, refused};
-pub use serve::ServedPacket;
-use serve::{serve, unserved};
+use serve::{serve, take_back, unserved};
+pub use serve::{PacketAllowance, ServedPacket};
 pub use shape::HostShape;
 pub use slot::HostSlot;
 use std::alloc::Global;
@@ -133,8 +133,8 @@ pub extern "C" fn pageshare_host_receive(
     }
 }
 
-/// Receives a packet of a session, as [`pageshare_host_receive`] does, and returns what the reply says, too. `frames` then begins with the
-/// frames that are free since, or after a lend with those of its pages.
+/// Receives a packet of a session, as [`pageshare_host_receive`] does, but within what `may` allows, and returns what the reply says, too.
+/// `frames` then begins with the frames that are free since, or after a lend with those of its pages.
 ///
 /// The status is that of [`pageshare_host_receive`].
 #[unsafe(no_mangle)]
@@ -144,15 +144,41 @@ pub extern "C" fn pageshare_host_serve(
     session: u32,
     bytes: &[u8],
     pages: &[[u8; 4096]],
+    may: &PacketAllowance,
     reply: &mut [u8],
     frames: &mut [u32],
 ) -> ServedPacket
-    ensures { ServesAt session bytes.now pages.now result reply.old reply.new frames.old frames.new host.old.slot.host host.new.slot.host }
+    ensures { ServesAt session bytes.now pages.now may.now result reply.old reply.new frames.old frames.new host.old.slot.host host.new.slot.host }
 {
     match host.take(alloc) {
         None => unserved(status::NO_MACHINE),
         Some(mut hosted) => {
-            let served = serve(&mut hosted, session, bytes, pages, reply, frames);
+            let served = serve(&mut hosted, session, bytes, pages, may, reply, frames);
+            host.put(hosted);
+            served
+        }
+    }
+}
+
+/// Takes back those loans of a session's last reply to a lend that are in the frames of `missing`, before the reply is sent. The reply then
+/// says that their pages aren't lent, and `frames` begins with the frames of all its pages.
+///
+/// The status is `NO_MACHINE` without a host, `SHORT` if a buffer is too short, and `NO_SESSION` if the session hasn't begun.
+#[unsafe(no_mangle)]
+pub extern "C" fn pageshare_host_take_back(
+    alloc: Global,
+    host: &mut HostHandle,
+    session: u32,
+    missing: &[u32],
+    reply: &mut [u8],
+    frames: &mut [u32],
+) -> ServedPacket
+    ensures { WithdrawsAt session missing.now result reply.old reply.new frames.old frames.new host.old.slot.host host.new.slot.host }
+{
+    match host.take(alloc) {
+        None => unserved(status::NO_MACHINE),
+        Some(mut hosted) => {
+            let served = take_back(&mut hosted, session, missing, reply, frames);
             host.put(hosted);
             served
         }

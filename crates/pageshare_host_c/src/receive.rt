@@ -6,7 +6,7 @@ ghost use Rattle.pageshare_host_c.specs.Packets.{ReceivesAt, Gives, status_of, f
 use crate::hosted::Hosted;
 use c_surface::status;
 use host_messages::{MAX_IN_MESSAGE, MAX_MESSAGE_BYTES, MessageFault};
-use host_sessions::{Received, SessionFault};
+use host_sessions::{Allowance, Received, SessionFault};
 use page_model::Page;
 use share_domain::NO_FRAME;
 
@@ -43,7 +43,8 @@ pub(crate) fn receive(
             if freed.len() < MAX_IN_MESSAGE {
                 return refused(status::SHORT);
             }
-            give(host.receive(session, bytes, pages), reply, freed)
+            let received = host.receive(session, bytes, pages, Allowance::all());
+            give(received, reply, freed)
         }
     }
 }

@@ -2,16 +2,26 @@
 ghost use Rattle.std.specs.Prelude.{◌≡◌, ◌≤◌, length, Some};
 ghost use Rattle.host_messages.specs.declared.limits.TheConstants.{MAX_IN_MESSAGE, MAX_MESSAGE_BYTES};
 ghost use Rattle.pageshare_host_c.specs.Packets.{put_front};
-ghost use Rattle.pageshare_host_c.specs.Serving.{ServesAt, Shows, kind_of, answers_in, loaned_in, frames_of, with_received, unserved};
+ghost use Rattle.pageshare_host_c.specs.Serving.{ServesAt, WithdrawsAt, Shows, allowance_of, kind_of, answers_in, loaned_in, frames_of, with_received, unserved};
 
 use crate::hosted::Hosted;
 use crate::receive::{ReceivedPacket, give, put_frames};
 use arrayvec::ArrayVec;
 use c_surface::status;
 use host_messages::{LOANS, Lent, MAX_IN_MESSAGE, MAX_MESSAGE_BYTES, SEEN, WELCOME};
-use host_sessions::Received;
+use host_sessions::{Allowance, Received};
 use page_model::Page;
 use share_domain::NO_FRAME;
+
+/// What C allows a packet.
+#[repr(C)]
+#[derive(Clone, Copy)]
+pub struct PacketAllowance {
+    /// How many pages of a `Lend` may be lent now.
+    pub most: u32,
+    /// 0 if a `Hello` may take up no session.
+    pub takes_up: u32,
+}
 
 /// What C gets of a packet, with what the reply to it says.
 #[repr(C)]
@@ -38,10 +48,11 @@ pub(crate) fn serve(
     session: u32,
     bytes: &[u8],
     pages: &[Page],
+    may: &PacketAllowance,
     reply: &mut [u8],
     frames: &mut [u32],
 ) -> ServedPacket
-    ensures { ServesAt session bytes.now pages.now result reply.old reply.new frames.old frames.new (Some hosted.old) (Some hosted.new) }
+    ensures { ServesAt session bytes.now pages.now may.now result reply.old reply.new frames.old frames.new (Some hosted.old) (Some hosted.new) }
 {
     match hosted {
         Hosted::Waiting(_) => unserved(status::NO_MACHINE),
@@ -52,8 +63,43 @@ pub(crate) fn serve(
             if frames.len() < MAX_IN_MESSAGE {
                 return unserved(status::SHORT);
             }
-            show(host.receive(session, bytes, pages), reply, frames)
+            let received = host.receive(session, bytes, pages, allowance_of(may));
+            show(received, reply, frames)
         }
+    }
+}
+
+/// Takes back those loans of a session's last reply that are in these frames, and writes the reply and the frames of its pages then.
+pub(crate) fn take_back(
+    hosted: &mut Hosted,
+    session: u32,
+    missing: &[u32],
+    reply: &mut [u8],
+    frames: &mut [u32],
+) -> ServedPacket
+    ensures { WithdrawsAt session missing.now result reply.old reply.new frames.old frames.new (Some hosted.old) (Some hosted.new) }
+{
+    match hosted {
+        Hosted::Waiting(_) => unserved(status::NO_MACHINE),
+        Hosted::Made(host) => {
+            if reply.len() < MAX_MESSAGE_BYTES {
+                return unserved(status::SHORT);
+            }
+            if frames.len() < MAX_IN_MESSAGE {
+                return unserved(status::SHORT);
+            }
+            show(host.take_back(session, missing), reply, frames)
+        }
+    }
+}
+
+/// Returns what C allows a packet.
+fn allowance_of(may: &PacketAllowance) -> Allowance
+    ensures { result ≡ allowance_of may.now }
+{
+    Allowance {
+        most: may.most,
+        takes_up: may.takes_up != 0,
     }
 }
 

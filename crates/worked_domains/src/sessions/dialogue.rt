@@ -2,7 +2,7 @@
 use crate::checks::holds_at;
 use arrayvec::ArrayVec;
 use host_messages::{ClientMessage, Lent, MessageFault, Name, Question, Wanted};
-use host_sessions::{Host, HostConfig, Link, Received, Session, SessionFault};
+use host_sessions::{Allowance, Host, HostConfig, Link, Received, Session, SessionFault};
 use machine_frames::Frames;
 use page_digest::FoldHash;
 use page_model::Page;
@@ -49,6 +49,10 @@ enum Step {
     /// A session's connection ends; whether there was such a session.
     Disconnects(u32, bool),
     Says(u32, Said, Got),
+    /// The same where the caller lets at most so many pages be lent, and a session be taken up or not.
+    SaysWithin(u32, Said, Allowance, Got),
+    /// What this session's last reply gave in this frame is taken back.
+    TakesBack(u32, u32, Got),
     SendsCutRelease(u32, Got),
     /// A session ends, which had so many slots.
     Ends(u32, usize),
@@ -112,10 +116,9 @@ fn freed_of(freed: &[u32]) -> Got {
     Got::Freed(count, freed.len())
 }
 
-/// Sends a packet of a session, with a buffer of four pages.
-fn send(host: &mut Host<FoldHash>, number: u32, bytes: &[u8]) -> Got {
-    let pages: [Page; 4] = [[5; 4096], [5; 4096], [6; 4096], [5; 4096]];
-    match host.receive(number, bytes, &pages) {
+/// Returns what is seen of a packet.
+fn got_of(received: Received) -> Got {
+    match received {
         Received::NoSession => Got::Nothing,
         Received::Fault(fault) => Got::Fault(fault),
         Received::Welcome(welcome) => Got::Welcome(welcome.name[0]),
@@ -128,9 +131,15 @@ fn send(host: &mut Host<FoldHash>, number: u32, bytes: &[u8]) -> Got {
     }
 }
 
+/// Sends a packet of a session, with a buffer of four pages.
+fn send(host: &mut Host<FoldHash>, number: u32, bytes: &[u8], may: Allowance) -> Got {
+    let pages: [Page; 4] = [[5; 4096], [5; 4096], [6; 4096], [5; 4096]];
+    got_of(host.receive(number, bytes, &pages, may))
+}
+
 /// Sends a message of a session.
-fn say(host: &mut Host<FoldHash>, number: u32, message: &ClientMessage) -> Got {
-    send(host, number, message.to_bytes().as_slice())
+fn say(host: &mut Host<FoldHash>, number: u32, message: &ClientMessage, may: Allowance) -> Got {
+    send(host, number, message.to_bytes().as_slice(), may)
 }
 
 /// A question about page 7, which is a passing one or not.
@@ -199,8 +208,16 @@ fn is_seen(host: &mut Host<FoldHash>, step: Step) -> bool {
     match step {
         Step::Connects(name, number) => host.connect(name) == number,
         Step::Disconnects(number, was_there) => host.disconnect(number) == was_there,
-        Step::Says(number, said, got) => say(host, number, &message_of(said)) == got,
-        Step::SendsCutRelease(number, got) => send(host, number, &CUT_RELEASE) == got,
+        Step::Says(number, said, got) => {
+            say(host, number, &message_of(said), Allowance::all()) == got
+        }
+        Step::SaysWithin(number, said, may, got) => {
+            say(host, number, &message_of(said), may) == got
+        }
+        Step::TakesBack(number, frame, got) => got_of(host.take_back(number, &[frame])) == got,
+        Step::SendsCutRelease(number, got) => {
+            send(host, number, &CUT_RELEASE, Allowance::all()) == got
+        }
         Step::Ends(number, slots) => end(host, number) == slots,
         Step::IsFree(number) => host.session(number) == Session::Free,
         Step::HasLink(number, link) => link_of(host, number) == link,
@@ -351,4 +368,61 @@ const LOST_REPLY: [Step; 17] = [
 #[test]
 fn slots_of_a_lost_reply_are_released(rt: HostRuntime) {
     play(&rt, rt.alloc(), &LOST_REPLY);
+}
+
+/// Two pages may be lent, and a session may be taken up.
+const TWO: Allowance = Allowance {
+    most: 2,
+    takes_up: true,
+};
+
+/// No page may be lent, and no session taken up.
+const NOTHING: Allowance = Allowance {
+    most: 0,
+    takes_up: false,
+};
+
+const ALLOWED: [Step; 15] = [
+    Step::Connects(A, Some(0)),
+    Step::SaysWithin(0, Said::HelloAs(B, 0), NOTHING, Got::Welcome(10)),
+    Step::SaysWithin(0, Said::Lend(4), NOTHING, Got::Lent(0, 0)),
+    Step::HasSlots(0, 0),
+    // A buffer of four pages is enough for two of five.
+    Step::SaysWithin(0, Said::Lend(5), TWO, Got::Lent(2, 1)),
+    Step::HasSlots(0, 2),
+    Step::Disconnects(0, true),
+    Step::Connects(B, Some(1)),
+    Step::SaysWithin(1, Said::HelloAs(A, 2), NOTHING, Got::Welcome(11)),
+    Step::HasSlots(0, 2),
+    Step::Connects(C, Some(2)),
+    Step::SaysWithin(2, Said::HelloAs(A, 1), TWO, Got::Resumed(10, 0, 2)),
+    Step::HasSlots(2, 0),
+    Step::Says(2, Said::Lend(5), Got::Fault(SessionFault::Pages)),
+    Step::Slots(0),
+];
+
+#[test]
+fn a_packet_does_what_it_is_allowed(rt: HostRuntime) {
+    play(&rt, rt.alloc(), &ALLOWED);
+}
+
+// Pages 0 and 1 are lent in frame 0, and page 2 in frame 1.
+const TAKEN_BACK: [Step; 12] = [
+    Step::Connects(A, Some(0)),
+    Step::TakesBack(0, 0, Got::Nothing),
+    Step::Says(0, Said::Hello, Got::Welcome(10)),
+    Step::Says(0, Said::Lend(3), Got::Lent(3, 1)),
+    Step::Frames(2),
+    Step::TakesBack(0, 1, Got::Lent(2, 1)),
+    Step::TakesBack(0, NO_FRAME, Got::Lent(2, 1)),
+    Step::HasSlots(0, 2),
+    Step::TakesBack(0, 0, Got::Lent(0, 0)),
+    Step::TakesBack(0, 0, Got::Lent(0, 0)),
+    Step::HasSlots(0, 0),
+    Step::Frames(0),
+];
+
+#[test]
+fn loans_are_taken_back(rt: HostRuntime) {
+    play(&rt, rt.alloc(), &TAKEN_BACK);
 }

@@ -5,7 +5,7 @@ ghost use Rattle.machine_frames.specs.FrameMap.{no_frames};
 use crate::checks::holds;
 use crate::frames::{three_frames, turned_frames};
 use host_messages::{ClientMessage, Lent};
-use host_sessions::{Host, HostConfig, Received};
+use host_sessions::{Allowance, Host, HostConfig, Received};
 use machine_frames::Frames;
 use page_digest::FoldHash;
 use page_model::Page;
@@ -60,7 +60,12 @@ fn lend_16(host: &mut Host<FoldHash>) -> [Option<u32>; 2] {
     for i in 0..16 {
         pages[i][0] = i as u8;
     }
-    match host.receive(0, ClientMessage::Lend(16).to_bytes().as_slice(), &pages) {
+    match host.receive(
+        0,
+        ClientMessage::Lend(16).to_bytes().as_slice(),
+        &pages,
+        Allowance::all(),
+    ) {
         Received::Loans(loans) => first_frames(loans.as_slice()),
         _ => [None; 2],
     }
@@ -72,7 +77,7 @@ fn each_machine_has_its_own_frames(rt: HostRuntime) {
     let mut host = host_of_two(&rt, rt.alloc());
     holds(&rt, host.connect([10; 16]) == Some(0));
     let hello = ClientMessage::Hello(None).to_bytes();
-    match host.receive(0, hello.as_slice(), &[]) {
+    match host.receive(0, hello.as_slice(), &[], Allowance::all()) {
         Received::Welcome(welcome) => holds(&rt, welcome.frames == 6),
         _ => panic!(rt; "no welcome"),
     }

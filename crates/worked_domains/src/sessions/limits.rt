@@ -4,7 +4,7 @@ ghost use Rattle.machine_frames.specs.FrameMap.{no_frames};
 
 use crate::checks::holds;
 use host_messages::{ClientMessage, Name};
-use host_sessions::{Host, HostConfig, Received};
+use host_sessions::{Allowance, Host, HostConfig, Received};
 use machine_frames::Frames;
 use page_digest::FoldHash;
 use share_domain::DomainConfig;
@@ -67,7 +67,7 @@ fn many_sessions_begin(rt: HostRuntime) {
         holds(&rt, host.connect(name_of(number)) == Some(number));
         holds(
             &rt,
-            frames_welcomed(host.receive(number, hello.as_slice(), &[])) == 128,
+            frames_welcomed(host.receive(number, hello.as_slice(), &[], Allowance::all())) == 128,
         );
     }
     holds(&rt, host.report().clients == 300);

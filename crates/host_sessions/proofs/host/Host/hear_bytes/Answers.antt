@@ -10,5 +10,5 @@ pub returns : goal.returns
 returns g c =
     let old = c.args.self.now in
     let new = c.hear_read.new.self in
-    subst (λ (r : Result ClientMessage MessageFault). Hears c.args.number c.args.pages.now (session_at old.sessions c.args.number) r c.hear_read.result old new) c.from_bytes-read.ensures.exact
-    (subst (λ (s : Session). Hears c.args.number c.args.pages.now s c.from_bytes-read.result c.hear_read.result old new) c.session-session.ensures.session c.hear_read.ensures)
+    subst (λ (r : Result ClientMessage MessageFault). Hears c.args.number c.args.may c.args.pages.now (session_at old.sessions c.args.number) r c.hear_read.result old new) c.from_bytes-read.ensures.exact
+    (subst (λ (s : Session). Hears c.args.number c.args.may c.args.pages.now s c.from_bytes-read.result c.hear_read.result old new) c.session-session.ensures.session c.hear_read.ensures)
