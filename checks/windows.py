@@ -166,6 +166,8 @@ BODIES = {
     "pays for what a thread used before": Body("tasks.c", "look->spent_ns - windows->budget.spent;", "0;", ["tasks"]),
     "forgets that a lender is away": Body("tasks.c", "|| windows->lender_waits) windows->counts", ") windows->counts", ["tasks"]),
     "goes to no window": Body("tasks.c", "look->next = windows->first;", "look->next = NULL;", ["tasks"]),
+    "takes a lost reply for a refusal": Body("lend.c", "if (cause == 0 || cause == ENOTCONN", "if (cause >= 0 || cause == ENOTCONN", ["pages"]),
+    "asks about no page of a lost reply again": Body("windows.c", "if (windows->awaits_loans) each_part(", "if (false) each_part(", ["pages"]),
     "loses the loan of a page that has left": Body("lend.c", "if (is_named) pageshare", "if (is_named && !is_out(page)) pageshare", ["tasks"]),
     "keeps the order of a page that isn't held": Body("lend.c", "else pageshare_window_withdraw(page);", "", ["tasks"]),
     "takes what stays guarded for free": Body("pages.c", "page, PAGESHARE_WINDOW_PLACE_GUARDED, 0);", "page, PAGESHARE_WINDOW_PLACE_FREE, 0);", ["guards"]),

@@ -607,7 +607,7 @@ static void turn_round(uint32_t *pages, size_t count) {
     }
 }
 
-/* Takes the loans of a batch, or that none was got. Leaves the pages that have one. Takes the lock. */
+/* Takes the loans of a batch, or that none was made. Leaves the pages that have one. Takes the lock. */
 static void take_loans(struct window *window, struct batch *batch, const struct window_loan *loans, bool are_got) {
     size_t kept = 0;
     lock_for_look(window->windows);
@@ -633,6 +633,7 @@ bool ask_for_loans(struct look *look) {
     for (size_t i = 0; i < batch->count; i++) loans[i] = (struct window_loan){.frame = WINDOW_NO_FRAME};
     int cause = windows->lender.lend(windows->lender.opaque, numbers, batch->count, loans);
     if (cause != 0) lender_failed(windows, cause);
-    take_loans(look->window, batch, loans, cause == 0);
+    if (cause == 0 || cause == ENOTCONN || cause == EINVAL) take_loans(look->window, batch, loans, cause == 0);
+    else batch->count = 0, windows->awaits_loans = true; /* it isn't known what was lent: lender.h */
     return batch->count > 0;
 }

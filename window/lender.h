@@ -38,9 +38,10 @@ static inline bool window_is_slot(uint64_t slot) { return slot >> 32 < WINDOW_SL
 
 /*
  * The calls are made by the thread that calls windows_look, windows_attach and windows_detach, and by no other. No lock is held and
- * nothing is guarded while they run, so they may take long. Each returns 0, or an errno, and then nothing was lent or released as
- * far as windows go. After ENOTCONN, EPIPE, ECONNRESET or ETIMEDOUT nothing is asked until the next look; after any other errno
- * the look goes on with the next batch.
+ * nothing is guarded while they run, so they may take long. Each returns 0, or an errno, and then nothing was released as far as windows
+ * go. Nor was anything lent after ENOTCONN or EINVAL; after any other errno of `lend` that isn't known, and its pages stay as they are until
+ * windows_taken_up or windows_detach. After ENOTCONN, EPIPE, ECONNRESET or ETIMEDOUT nothing is asked until the next look; after any other
+ * errno the look goes on with the next batch.
  *
  * Pages are numbered through all windows of a process. A page's number may be another page's when its window was freed.
  */

@@ -152,6 +152,7 @@ struct windows {
     /* Of the looking thread. */
     struct window_lender lender;
     bool has_lender, lender_waits; /* waits: it didn't answer, and is left alone until the next look */
+    bool awaits_loans; /* it isn't known whether copied pages were lent (window_lender), and so they stay as they are */
     struct turn turn;
     bool frames_fall; /* the last loans' frames came from the last one to the first */
     int frames_fd;

@@ -11,7 +11,7 @@
  * So a write waits for nobody: to a lent page it costs the kernel's own copy. A page is held only for the moment in which it is
  * compared with its frame, byte by byte, and the frame is mapped. No lender is called meanwhile.
  *
- * windows_look, windows_attach, windows_detach and the calls for a budget are made by one thread at a time. All other calls may come from any
+ * windows_look, windows_attach, windows_detach, windows_taken_up and the calls for a budget are made by one thread at a time. All other calls may come from any
  * thread at any time, but windows_free. Nobody waits long: the lock inside is never held while a lender is called, nor over a long run of pages.
  *
  * Callers must:
@@ -129,6 +129,11 @@ struct window_result windows_attach(struct windows *windows, const struct window
  * Pages that show its frames are lent anew when there is a lender again.
  */
 void windows_detach(struct windows *windows);
+/*
+ * After calls to lend whose replies were lost: the lender is there again, and has none of their loans any more. Their pages may be asked
+ * about again.
+ */
+void windows_taken_up(struct windows *windows);
 
 /* From now on, also for windows that there are. A window that was made with huge_from 0 keeps no huge pages. */
 void windows_tune(struct windows *windows, const struct windows_tuning *tuning);

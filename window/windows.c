@@ -216,10 +216,28 @@ static struct window *first_window(struct windows *windows) {
     return window;
 }
 
+static void each_part(struct windows *windows, void (*does)(struct window *window, size_t first)) {
+    for (struct window *window = first_window(windows); window != NULL; window = window->next)
+        for (size_t first = 0; first < window->count; first += rest_of_part(window, first)) does(window, first);
+    windows->awaits_loans = false;
+}
+
+/* None of a part's pages was lent that a lender was asked to lend. Takes the lock. */
+static void refuse_part(struct window *window, size_t first) {
+    const size_t behind = first + rest_of_part(window, first);
+    lock_for_look(window->windows);
+    for (size_t i = first; i < behind; i++)
+        if (belief_of(&window->pages[i]) == PAGESHARE_WINDOW_COPIED) note_order(window, i, false);
+    unlock_set(window->windows);
+}
+
+void windows_taken_up(struct windows *windows) {
+    if (windows->awaits_loans) each_part(windows, refuse_part);
+}
+
 void windows_detach(struct windows *windows) {
     if (!windows->has_lender) return;
-    for (struct window *window = first_window(windows); window != NULL; window = window->next)
-        for (size_t first = 0; first < window->count; first += rest_of_part(window, first)) detach_part(window, first);
+    each_part(windows, detach_part);
     lock_for_look(windows);
     forget_frames(windows);
     windows->counts.pause = WINDOWS_NO_LENDER;

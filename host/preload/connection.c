@@ -253,6 +253,7 @@ static bool connect_host(void) {
     if (my.windows) windows_pace(my.windows, share(), burst());
     else if (!make_windows()) return false;
     if (found == REMOTE_NEW || !my.is_attached) attach();
+    else windows_taken_up(my.windows); /* the host has taken back what it lent in lost replies */
     return my.is_attached;
 }
 

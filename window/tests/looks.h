@@ -29,7 +29,7 @@ static inline bool are_counted(const struct window *window, size_t first) {
     return are_slots && counts->zeros == zeros && counts->past == past && counts->shareable == shareable;
 }
 
-/* Between looks nothing is ordered, nothing is half done, and all is counted. */
+/* Between looks nothing is ordered, nothing is half done, and all is counted, but for pages of a lend whose reply was lost. */
 static inline void check_between_looks(struct windows *windows) {
     bool are_so = true, is_counted = true;
     pthread_mutex_lock(&windows->lock);
@@ -45,6 +45,7 @@ static inline void check_between_looks(struct windows *windows) {
 
 static inline struct window_result look(struct windows *windows) {
     struct window_result result = windows_look(windows);
+    windows_taken_up(windows); /* (a lender that refused a call made no loan) */
     check_between_looks(windows);
     return result;
 }

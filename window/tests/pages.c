@@ -712,6 +712,58 @@ static void odd_lenders(void) {
     munmap(at, PAGES * PAGE);
 }
 
+/* A lender whose first reply to a lend is lost. */
+static struct {
+    const struct window_lender *own;
+    size_t count, asked;
+    uint64_t slots[PAGES];
+} lossy;
+
+static int ask_counted(void *opaque, const uint32_t *numbers, const uint64_t *fingerprints, const bool *passing, size_t count,
+                       unsigned char *seen) {
+    lossy.asked += count;
+    return lossy.own->ask(opaque, numbers, fingerprints, passing, count, seen);
+}
+
+static int lend_unheard(void *opaque, const uint32_t *numbers, size_t count, struct window_loan *loans) {
+    int cause = lossy.own->lend(opaque, numbers, count, loans);
+    if (lossy.count > 0) return cause;
+    for (size_t i = 0; i < count; i++) lossy.slots[lossy.count++] = loans[i].slot;
+    return ECONNRESET;
+}
+
+/* Pages of a lend whose reply was lost stay as they are, and aren't asked about, until the lender has taken its loans back. */
+static void lost_replies(void) {
+    struct fixture fixture = fixture_make(&never_pinned, PAGES);
+    uint8_t *at = memory(PAGES);
+    struct window *window = window_over(&fixture, at, PAGES);
+    struct window_lender lender = *lender_interface(fixture.lender);
+    fill(at, PAGES, 2);
+    lossy.own = lender_interface(fixture.lender);
+    lender.ask = ask_counted, lender.lend = lend_unheard;
+    windows_detach(fixture.windows);
+    must(windows_attach(fixture.windows, &lender), "windows_attach");
+    for (int i = 0; i < 40 && lossy.count == 0; i++) windows_look(fixture.windows);
+    const size_t asked = lossy.asked, lost = lossy.count;
+    for (int i = 0; i < 10; i++) windows_look(fixture.windows);
+    size_t open = 0;
+    for (size_t i = 0; i < PAGES; i++) open += belief_of(&window->pages[i]) == PAGESHARE_WINDOW_COPIED ? 1 : 0;
+    check(lost > 0 && open == lost && slots_of(&fixture) == lost + counts_of(&fixture).lent,
+          "it isn't known whether they are lent");
+    at[0] = 9;
+    must(window_discard(window, 1, 1), "window_discard");
+    check(lossy.own->release(lender.opaque, lossy.slots, lost) == 0, "the lender takes its loans back");
+    at[0] = 1;
+    memset(at + PAGE, 2, PAGE);
+    windows_taken_up(fixture.windows);
+    check_between_looks(fixture.windows);
+    check(asked == PAGES && look_until(&fixture, PAGES) == PAGES && slots_of(&fixture) == PAGES,
+          "they are lent once the lender has none of the loans");
+    must(window_free(window, WINDOW_DROP), "window_free");
+    fixture_free(&fixture);
+    munmap(at, PAGES * PAGE);
+}
+
 /* A set whose pages are idle, and nobody else has them, so that each is asked about at one look in `turns`. */
 static struct fixture idle_set(uint8_t *at, uint16_t turns, struct window **window) {
     const struct windows_config config = {.pins = WINDOWS_PINS_NEVER, .tuning = {.turns = turns}};
@@ -919,6 +971,7 @@ int main(void) {
     lenders();
     changes();
     odd_lenders();
+    lost_replies();
     glances();
     samples();
     reads_seldom();
