@@ -8,14 +8,14 @@ import signal
 import struct
 import subprocess
 import time
-from collections.abc import Callable, Sequence
+from collections.abc import Callable, Iterable, Sequence
 from typing import Any
 
 from harness import StrPath
 from places import HERE, must, until
 from qemu_guests import PAGE, QEMU, Qmp, connected, read
 
-RAM_BYTES, BELOW, DIMM_AT = 24 << 20, 1 << 20, 1 << 32
+RAM_BYTES, BELOW, DIMM_AT, GROWING_AT = 24 << 20, 1 << 20, 1 << 32, (1 << 32) + (128 << 20)
 PATIENCE_SECONDS, LINE_BYTES = 60, 1 << 15
 # A firmware whose first instructions, at the end, are: cli, hlt, and back to hlt.
 FIRMWARE = b"\xfa\xf4\xeb\xfd".rjust((64 << 10) - 12, b"\0").ljust(64 << 10, b"\0")
@@ -157,10 +157,13 @@ class Driven:
 
     def check(self, note: str) -> None:
         """Each byte of the memory is as it should be, but for the firmware's."""
-        for base, region in self.memory.items():
-            path = HERE.place.room / f"memory{self.number}"
-            self.qmp.good("pmemsave", val=base, size=len(region), filename=str(path))
-            self.compare(path.read_bytes(), base, note)
+        for base in self.memory:
+            self.check_region(base, note)
+
+    def check_region(self, base: int, note: str) -> None:
+        path = HERE.place.room / f"memory{self.number}"
+        self.qmp.good("pmemsave", val=base, size=len(self.memory[base]), filename=str(path))
+        self.compare(path.read_bytes(), base, note)
 
     def compare(self, data: bytes, base: int, note: str) -> None:
         region, first = self.memory[base], BELOW if base == 0 else 0
@@ -193,15 +196,23 @@ class Queue:
 
     def __init__(self, driven: Driven, ports: int, index: int, at: int) -> None:
         self.driven, self.ports, self.index, self.at = driven, ports, index, at
-        driven.put("outw", ports + 14, index)
-        self.size = driven.get("inw", ports + 12)
-        must(self.size > 0, f"the device at port {ports:#x} has no queue {index}")
+        self.size = self.choose()
+        must(self.size > 0, f"the device at {ports:#x} has no queue {index}")
         self.available = at + 16 * self.size
         self.used = (self.available + 6 + 2 * self.size + PAGE - 1) // PAGE * PAGE
         self.bytes = self.used + 6 + 8 * self.size - at
         driven.store(at, bytes((self.bytes + PAGE - 1) // PAGE * PAGE))
-        driven.put("outl", ports + 8, at // PAGE)
+        self.begin()
         self.next_free = self.given = self.taken = 0
+
+    def choose(self) -> int:
+        """Chooses the queue, and returns its size."""
+        self.driven.put("outw", self.ports + 14, self.index)
+        return self.driven.get("inw", self.ports + 12)
+
+    def begin(self) -> None:
+        """Says where the queue is."""
+        self.driven.put("outl", self.ports + 8, self.at // PAGE)
 
     def offer(self, buffers: Sequence[tuple[int, int, bool]]) -> int:
         """Puts a request of buffers into the queue: address, length, and whether the device writes there. Returns its number."""
@@ -228,7 +239,7 @@ class Queue:
         wanted = (self.taken + requests) % 65536
         end = time.time() + PATIENCE_SECONDS
         while self.count() != wanted:
-            must(time.time() < end, f"a device at port {self.ports:#x} doesn't answer: {self.count()} of {wanted}")
+            must(time.time() < end, f"the device at {self.ports:#x} doesn't answer: {self.count()} of {wanted}")
             time.sleep(0.0005)
         ring = self.driven.adopt(self.used, 4 + 8 * self.size)
         places = [4 + 8 * (i % self.size) for i in range(self.taken, self.taken + requests)]
@@ -256,6 +267,94 @@ def begin_virtio(driven: Driven, slot: int, ports: int, rings: Sequence[tuple[in
     queues = [Queue(driven, ports, index, at) for index, at in rings]
     driven.put("outb", ports + 18, 7)
     return queues
+
+
+class NewerQueue(Queue):
+    """The same of a device of virtio 1.0, whose registers are memory: those that all devices have, and those of notices."""
+
+    def __init__(self, driven: Driven, registers: int, notices: int, index: int, at: int) -> None:
+        self.notices = notices
+        super().__init__(driven, registers, index, at)
+
+    def choose(self) -> int:
+        self.driven.put("writew", self.ports + 22, self.index)
+        return self.driven.get("readw", self.ports + 24)
+
+    def begin(self) -> None:
+        for register, place in ((32, self.at), (40, self.available), (48, self.used)):
+            self.driven.put("writeq", self.ports + register, place)
+        self.driven.put("writew", self.ports + 28, 1)
+
+    def notify(self) -> None:
+        self.driven.put("writew", self.notices, self.index)
+
+
+class GrowingMemory:
+    """A virtio-mem device, whose blocks the guest plugs and unplugs by requests, as far as QEMU's `requested-size` lets it."""
+
+    BLOCK, BAR, COMMON, NOTICES = 2 << 20, 4, 1, 2
+    PLUG, UNPLUG, UNPLUG_ALL = 0, 1, 2
+    REQUEST_BYTES, ANSWER_BYTES, ANSWER_AT = 24, 10, 64
+
+    def __init__(self, driven: Driven, slot: int, registers: int, first: int, at: int) -> None:
+        self.driven, self.first, self.at = driven, first, at + PAGE
+        self.plugged: list[int] = []
+        driven.enable(slot, self.BAR, registers)
+        common, notices = (registers + self.offset(slot, kind) for kind in (self.COMMON, self.NOTICES))
+        for status in (0, 1, 3):
+            driven.put("writeb", common + 20, status)
+        for word, features in enumerate((0, 1)):  # (virtio 1.0, and nothing else)
+            driven.put("writel", common + 8, word)
+            driven.put("writel", common + 12, features)
+        driven.put("writeb", common + 20, 11)
+        self.queue = NewerQueue(driven, common, notices, 0, at + 2 * PAGE)
+        driven.put("writeb", common + 20, 15)
+
+    def offset(self, slot: int, kind: int) -> int:
+        """Where the registers of a kind begin, by the list of the device's capabilities."""
+        at = self.driven.config(slot, 0x34) & 0xFF
+        while at:
+            words = self.driven.config(slot, at)
+            if words & 0xFF == 9 and words >> 24 == kind:
+                return self.driven.config(slot, at + 8)
+            at = words >> 8 & 0xFF
+        raise AssertionError(f"the device of slot {slot} has no registers of kind {kind}")
+
+    def allow(self, blocks: int) -> None:
+        self.driven.qmp.good("qom-set", path="/machine/peripheral/grows", property="requested-size", value=blocks * self.BLOCK)
+
+    def ask(self, kind: int, block: int = 0, count: int = 0) -> None:
+        request = struct.pack("<H6xQH6x", kind, self.first + block * self.BLOCK if count else 0, count)
+        self.driven.store(self.at, request)
+        self.queue.run([(self.at, self.REQUEST_BYTES, False), (self.at + self.ANSWER_AT, self.ANSWER_BYTES, True)])
+        answer = self.driven.adopt(self.at + self.ANSWER_AT, self.ANSWER_BYTES)
+        must(answer[:2] == bytes(2), f"growing memory says {answer.hex()} to request {kind} of blocks {block} to {block + count}")
+
+    def plug(self, block: int, count: int) -> None:
+        """Plugs blocks, whose memory must be zeros whatever was there before."""
+        self.allow(len(self.plugged) + count)
+        self.ask(self.PLUG, block, count)
+        for number in range(block, block + count):
+            self.plugged.append(number)
+            self.driven.memory[self.first + number * self.BLOCK] = bytearray(self.BLOCK)
+            self.driven.check_region(self.first + number * self.BLOCK, "memory that was plugged")
+
+    def unplug(self, block: int, count: int) -> None:
+        for number in range(block, block + count):
+            self.driven.check_region(self.first + number * self.BLOCK, "memory that is to be unplugged")
+        self.allow(len(self.plugged) - count)
+        self.ask(self.UNPLUG, block, count)
+        self.forget(range(block, block + count))
+
+    def unplug_all(self) -> None:
+        self.allow(0)
+        self.ask(self.UNPLUG_ALL)
+        self.forget(self.plugged)
+
+    def forget(self, blocks: Iterable[int]) -> None:
+        for number in [*blocks]:
+            self.plugged.remove(number)
+            del self.driven.memory[self.first + number * self.BLOCK]
 
 
 class SharedFile:

@@ -12,12 +12,14 @@ import time
 from collections.abc import Callable, Sequence
 from typing import Any
 
-from driven_guest import BELOW, DIMM_AT, PATIENCE_SECONDS, RAM_BYTES, Debugger, Driven, Nvme, Queue, SharedFile, begin_virtio
+from driven_guest import (
+    BELOW, DIMM_AT, GROWING_AT, PATIENCE_SECONDS, RAM_BYTES, Debugger, Driven, GrowingMemory, Nvme, Queue, SharedFile, begin_virtio,
+)
 from harness import PACKAGES
 from places import AS_NOBODY, HERE, Host, LeftOut, all_released, in_time, must, until
 from qemu_guests import PAGE, QEMU, is_there, read
 
-SECTOR, DISK_BYTES, DIMM_BYTES = 512, 4 << 20, 8 << 20
+SECTOR, DISK_BYTES, DIMM_BYTES, GROWING_BLOCKS = 512, 4 << 20, 8 << 20, 4
 OWN_AT = RAM_BYTES - (1 << 20)  # (rings, headers and the like; all below is for the ways)
 HEADERS_AT = OWN_AT + (15 << 16)
 OLDER = "disable-modern=on,disable-legacy=off"
@@ -78,6 +80,8 @@ class Ways:
         if not self.moves:
             more += ["-fsdev", f"local,id=f,path={HERE.place.room},security_model=none"]
             more += ["-device", f"virtio-9p-pci,fsdev=f,mount_tag=f,addr=9.0,{OLDER}"]
+            more += ["-object", f"memory-backend-ram,id=g,size={GROWING_BLOCKS * GrowingMemory.BLOCK}"]
+            more += ["-device", f"virtio-mem-pci,id=grows,memdev=g,memaddr={GROWING_AT},addr=a.0,unplugged-inaccessible=off"]
         # (as root where it is to make a userfaultfd that holds up the kernel, too)
         user: Sequence[str] = () if self.moves else AS_NOBODY
         return Driven(self.seed, self.host, more, user, incoming)
@@ -91,6 +95,7 @@ class Ways:
         self.blk, self.scsi, self.receive, self.send, self.rng, self.balloon, self.reports = made
         self.nvme = None if self.moves else Nvme(self.driven, 5, 0xE0000000, next(places))
         self.file = None if self.moves else SharedFile(begin(9, 0)[0], HEADERS_AT, self.disks[3].file.name)
+        self.growing = None if self.moves else GrowingMemory(self.driven, 10, 0xE1000000, GROWING_AT, next(places))
 
     def fill(self, begin: int, end: int) -> None:
         for at in range(begin, end, 1 << 20):
@@ -288,9 +293,10 @@ class Ways:
         table, count = struct.unpack_from("<Q", data, 32)[0], struct.unpack_from("<H", data, 56)[0]
         for number in range(count):
             kind, _, begin, _, at, size = struct.unpack_from("<IIQQQQ", data, table + 56 * number)
-            low, high = max(at, BELOW) if at < RAM_BYTES else at, at + size
-            if kind == 1 and any(base <= low and high <= base + len(region) for base, region in self.driven.memory.items()):
-                must(data[begin + low - at:begin + size] == self.driven.known(low, high - low), f"the dump of {low:#x}")
+            for base, region in self.driven.memory.items() if kind == 1 else ():
+                low, high = max(at, base, BELOW), min(at + size, base + len(region))
+                if low < high:
+                    must(data[begin + low - at:begin + high - at] == self.driven.known(low, high - low), f"the dump of {low:#x}")
 
     def plug(self) -> None:
         """Memory is plugged in, or out again."""
@@ -316,10 +322,37 @@ class Ways:
         self.driven.qmp.after("DEVICE_DELETED", eject)
         self.driven.qmp.good("object-del", id=f"m{number}")
         del self.driven.memory[DIMM_AT]
-        self.pages = [at for at in self.pages if at < DIMM_AT]
+        self.forget_pages()
+
+    def forget_pages(self) -> None:
+        """Those that no memory has any more."""
+        self.pages = [at for at in self.pages if any(base <= at < base + len(region) for base, region in self.driven.memory.items())]
+
+    def grow(self) -> None:
+        """A virtio-mem device gets blocks, or gives some or all of them up."""
+        device = self.growing
+        assert device
+        first = self.by.randrange(GROWING_BLOCKS)
+        is_there, count = first in device.plugged, 1
+        while first + count < GROWING_BLOCKS and (first + count in device.plugged) == is_there and self.by.random() < 0.5:
+            count += 1
+        if not is_there:
+            device.plug(first, count)
+            for at in range(GROWING_AT + first * device.BLOCK, GROWING_AT + (first + count) * device.BLOCK, device.BLOCK):
+                self.pages += range(at, at + device.BLOCK, PAGE)
+                self.fill(at, at + device.BLOCK)
+            return
+        if self.by.random() < 0.3:
+            device.unplug_all()
+        else:
+            device.unplug(first, count)
+        self.forget_pages()
 
     def reset(self) -> None:
         self.driven.qmp.after("RESET", lambda: self.driven.qmp.good("system_reset"))
+        if self.growing:
+            self.growing.forget(self.growing.plugged)
+            self.forget_pages()
         self.begin_devices()
 
     # ---- machines that move ----
@@ -397,7 +430,9 @@ class Ways:
     def ways(self) -> tuple[list[Callable[[], None]], list[int]]:
         weights = {self.store: 6, self.store_little: 4, self.load: 2, self.idle: 10, self.use_blk: 8, self.use_scsi: 8, self.use_net: 3,
                    self.use_rng: 2, self.use_balloon: 3, self.use_reports: 3, self.debug: 2, self.dump: 1, self.reset: 1}
-        weights |= {self.save: 1, self.migrate: 1, self.background: 1} if self.moves else {self.use_nvme: 8, self.use_file: 6, self.plug: 1}
+        weights |= {self.save: 1, self.migrate: 1, self.background: 1} if self.moves else {
+            self.use_nvme: 8, self.use_file: 6, self.plug: 1, self.grow: 2,
+        }
         return list(weights), list(weights.values())
 
     def count(self, name: str) -> None:
