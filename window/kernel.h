@@ -78,10 +78,10 @@ struct advice {
     struct policy policy;
 };
 struct range_facts {
-    bool is_private; /* private anonymous memory, for reading and writing, without a gap */
-    bool is_uniform; /* all of it has the same advice */
-    bool is_locked;  /* a part of it is */
-    size_t mappings; /* of the system, that it meets */
+    bool is_private;            /* private anonymous memory, for reading and writing, without a gap */
+    bool is_uniform;            /* all of it has the same advice */
+    bool is_locked, is_watched; /* a part of it is; by a userfaultfd */
+    size_t mappings;            /* of the system, that it meets */
     struct advice advice;
     int policy_cause; /* the errno with which the system didn't tell a memory policy of it, or 0 */
 };

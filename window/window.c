@@ -52,7 +52,8 @@ static struct window_result find_facts_of_range(void *at, size_t bytes, struct r
     /* (frames, and pages that get memory of their own, would lose a policy that isn't known) */
     if (facts->policy_cause != 0) return result_of(WINDOW_ADVICE, facts->policy_cause);
     if (!facts->is_uniform) return result_of(WINDOW_BAD_MEMORY, EINVAL);
-    return facts->is_locked ? result_of(WINDOW_LOCKED, EPERM) : result_of(WINDOW_OK, 0);
+    if (facts->is_locked) return result_of(WINDOW_LOCKED, EPERM);
+    return facts->is_watched ? result_of(WINDOW_WATCHED, EBUSY) : result_of(WINDOW_OK, 0);
 }
 
 static struct window *make_tables(struct windows *windows, void *at, size_t pages) {

@@ -46,6 +46,7 @@ enum window_status {
     WINDOW_STUCK, /* the system refused to put pages back that were held: the next look tries again. Threads that use them wait */
     WINDOW_LENDER_FAILED, /* the lender returned `cause` */
     WINDOW_ADVICE,        /* the system refused to tell a range's memory policy, or to set its advice or policy again */
+    WINDOW_WATCHED,       /* a userfaultfd of the caller's watches memory of the range */
 };
 struct window_result {
     enum window_status status;

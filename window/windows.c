@@ -24,6 +24,7 @@ const char *window_status_words(enum window_status status) {
         [WINDOW_STUCK] = "pages that were held can't be put back yet",
         [WINDOW_LENDER_FAILED] = "the lender failed",
         [WINDOW_ADVICE] = "advice or a memory policy was refused",
+        [WINDOW_WATCHED] = "a userfaultfd watches the memory, so it is tried again",
     };
     size_t count = sizeof words / sizeof words[0];
     return (size_t)status < count && words[status] != NULL ? words[status] : "unknown";

@@ -549,6 +549,34 @@ static void guarded_first(uint64_t mode) {
 static void missing_first(void) { guarded_first(UFFDIO_REGISTER_MODE_MISSING); }
 static void protected_first(void) { guarded_first(UFFDIO_REGISTER_MODE_WP); }
 
+/* The monitor watches memory before it offers it, and before there is a host: that memory is shared once the watch is over. */
+static void watched_early(bool of_writes) {
+    int faults = open_faults(of_writes ? UFFD_FEATURE_PAGEFAULT_FLAG_WP : 0);
+    if (faults < 0) return left_out("no userfaultfd of its own");
+    uint8_t *at = mapped(PAGES), *other = mapped(PAGES), *page = mapped(1);
+    struct uffdio_register asked = {.range = {(uintptr_t)at, PAGES * PAGE},
+                                    .mode = of_writes ? UFFDIO_REGISTER_MODE_WP : UFFDIO_REGISTER_MODE_MISSING};
+    struct uffdio_copy copy = {.dst = (uintptr_t)at + 9 * PAGE, .src = (uintptr_t)page, .len = PAGE};
+    fill(at, PAGES, 1);
+    fill(other, PAGES, 1);
+    memset(page, 5, PAGE); /* (as `fill` fills that page) */
+    check(ioctl(faults, UFFDIO_REGISTER, &asked) == 0, "UFFDIO_REGISTER");
+    offer(at, PAGES);
+    offer(other, PAGES);
+    says("watched");
+    check(wait_for_count("lent", PAGES, SECONDS), "other memory is lent");
+    sleep(4);
+    check(library_count("lent") == PAGES && shown(at, PAGES) == 0, "nothing is lent of what is watched");
+    check(of_writes || (madvise(at + 9 * PAGE, PAGE, MADV_DONTNEED) == 0 && ioctl(faults, UFFDIO_COPY, &copy) == 0),
+          "the watch is there still");
+    if (of_writes) close(faults);
+    else check(ioctl(faults, UFFDIO_UNREGISTER, &asked.range) == 0, "UFFDIO_UNREGISTER");
+    check(wait_for_count("lent", 2 * PAGES, SECONDS), "once the watch is over all is lent");
+    check(differing(at, 0, PAGES, 1) == 0, "pages keep their content");
+}
+static void missing_early(void) { watched_early(false); }
+static void protected_early(void) { watched_early(true); }
+
 /* A request past the C library, where no filter shows it: the library finds that another one guards the memory, and leaves that alone. */
 static void guarded_later(void) {
     int faults = open_faults(UFFD_FEATURE_PAGEFAULT_FLAG_WP);
@@ -596,6 +624,8 @@ static const struct way {
     {"missing-first", missing_first},
     {"protected-first", protected_first},
     {"guarded-later", guarded_later},
+    {"missing-early", missing_early},
+    {"protected-early", protected_early},
 };
 
 int main(int count, char **words) {

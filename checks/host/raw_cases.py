@@ -38,9 +38,17 @@ def case_scans() -> None:
     run_parts(("ringed",), more={**SLOW, "PAGESHARE_CPU": "2"}, program="raw_calls")
 
 
+def begin(host: Host) -> None:
+    host.start()
+
+
 def case_guarded() -> None:
-    """Memory that the monitor guards by a userfaultfd before it offers it, or later past the C library, stays as it is."""
+    """Memory that the monitor guards by a userfaultfd before it offers it, or later past the C library, stays as it is while the guard lasts."""
     run_parts(("missing-first", "protected-first", "guarded-later"), more={"PAGESHARE_FILTER": "0"}, program="raw_calls")
+    for way in ("missing-early", "protected-early"):
+        host = Host(memory="64M")
+        host.kill()
+        run_parts((way,), {"watched": begin}, {"PAGESHARE_FILTER": "0"}, host=host, program="raw_calls")
 
 
 def case_said_early() -> None:

@@ -20,6 +20,7 @@ void counts_file_make(void) {
 }
 
 void counts_file_note(const char *why) { atomic_store(&noted, why); }
+void counts_file_forget(const char *why) { atomic_compare_exchange_strong(&noted, &why, NULL); }
 
 void counts_file_write(const struct windows_counts *now, enum counts_state state, unsigned percent, unsigned limit) {
     struct counts counts = {.version = COUNTS_VERSION,

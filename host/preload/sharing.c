@@ -23,6 +23,7 @@ enum {
     REPORT_BYTES = 1 << 20, /* and of one that is smaller than that nothing is printed */
     REPORTS_MOST = 16,      /* lines of the process on standard error in all */
     SPARE_DESCRIPTORS = 32, /* the library's descriptors are among so many last ones */
+    WATCH_APART = 100,      /* what is watched is read again after so many times as long as that takes */
     BITS = 8
 };
 static const uint64_t settled_ns = 1000000000; /* a range is a window when nothing was said of it for so long */
@@ -554,25 +555,39 @@ static bool find_settled(size_t *left, struct piece *settled, uint64_t *said) {
     while (may_open() && !is_found && *left > 0) {
         *settled = ranges_at(--*left);
         *said = settled->range->said;
-        is_found = !settled->window && now_ns() - *said >= settled_ns;
+        is_found = !settled->window && now_ns() >= *said + settled_ns;
     }
     leave();
     return is_found;
 }
 
-/* Makes a window of a range, as it was read, unless something was said of it meanwhile: then a later look does it. Takes the lock. */
+/* A userfaultfd watches a range still: it is read again after some time, of which that takes a hundredth. With the lock. */
+static void put_off(const struct piece *now, uint64_t took_ns) {
+    static bool is_said;
+    now->range->said = now_ns() + WATCH_APART * took_ns;
+    if (!is_said) say_none(now->bytes, window_status_words(WINDOW_WATCHED));
+    is_said = true;
+}
+
+/*
+ * Makes a window of a range, as it was read in so much time, unless something was said of it meanwhile: then a later look does it. Takes the
+ * lock.
+ */
 static void open_range(const struct piece *settled, uint64_t said, struct window *read, struct window_result result,
-                       unsigned flags) {
+                       unsigned flags, uint64_t took_ns) {
     enter();
     const struct piece now = ranges_next(settled->at, settled->at + settled->bytes);
     bool is_same = now.range && now.at == settled->at && now.bytes == settled->bytes && ranges_are_whole(&now);
     bool is_due = is_same && may_open() && !now.window && now.range->said == said;
     if (is_due && result.status == WINDOW_OK) {
+        counts_file_forget(window_status_words(WINDOW_WATCHED));
         result = window_begin(read, flags);
         if (result.status == WINDOW_OK) ranges_become(now.range, read);
         read = NULL;
     }
-    if (is_due && result.status != WINDOW_OK) {
+    if (is_due && result.status == WINDOW_WATCHED) {
+        put_off(&now, took_ns);
+    } else if (is_due && result.status != WINDOW_OK) {
         if (now.bytes >= REPORT_BYTES) say_none(now.bytes, window_status_words(result.status));
         ranges_remove(&now);
     }
@@ -587,8 +602,9 @@ void ranges_open(unsigned flags) {
     if (ranges_are_watched()) return;
     for (size_t left = RANGES_MOST; find_settled(&left, &settled, &said);) {
         struct window *read = NULL;
+        const uint64_t begun_ns = now_ns();
         struct window_result result = window_read(&read, atomic_load(&windows), settled.at, settled.bytes);
-        open_range(&settled, said, read, result, flags);
+        open_range(&settled, said, read, result, flags, now_ns() - begun_ns);
     }
 }
 
