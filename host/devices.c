@@ -11,12 +11,8 @@
 #include <sched.h>
 #include <scsi/sg.h>
 #include <stdatomic.h>
-#include <stdlib.h>
-#include <sys/stat.h>
-#include <sys/syscall.h>
 #include <sys/utsname.h>
 #include <sys/vfs.h>
-#include <unistd.h>
 
 /* IOMMU_IOAS_MAP of linux/iommufd.h, which older systems' headers lack. */
 #define MAP_BY_IOMMUFD _IO(';', 0x85)
@@ -109,8 +105,8 @@ struct seen {
     int rings[RINGS_MOST]; /* the first of them */
 };
 
-/* Reads fdinfo/NAME. Returns false if it can't be read. */
-static bool read_fdinfo(int folder, const char *name, char *text, size_t room) {
+/* Reads a file, such as fdinfo/NAME. Returns false if it can't be read. */
+static bool read_text(int folder, const char *name, char *text, size_t room) {
     int file = (int)syscall(SYS_openat, folder, name, O_RDONLY | O_CLOEXEC, 0);
     if (file < 0) return false;
     ssize_t got = syscall(SYS_read, file, text, room - 1);
@@ -125,7 +121,7 @@ static bool has_registered(int info, const char *name) {
     enum { TRIES = 20 };
     char text[4096];
     for (int i = 0; i < TRIES; i++) {
-        bool is_read = read_fdinfo(info, name, text, sizeof text);
+        bool is_read = read_text(info, name, text, sizeof text);
         const char *files = is_read ? strstr(text, "UserFiles:") : NULL, *buffers = is_read ? strstr(text, "UserBufs:") : NULL;
         if (files && strtoul(files + strlen("UserFiles:"), NULL, 10) != 0) return true;
         if (files && buffers) return strtoul(buffers + strlen("UserBufs:"), NULL, 10) != 0;
@@ -143,7 +139,7 @@ static int flags_of(int descriptor) {
 static bool is_direct(const struct seen *seen, const char *name) {
     char text[1024];
     if (seen->is_self) return flags_of(atoi(name)) & O_DIRECT; /* (takes a twentieth of the time) */
-    const char *at = read_fdinfo(seen->info, name, text, sizeof text) ? strstr(text, "flags:") : NULL;
+    const char *at = read_text(seen->info, name, text, sizeof text) ? strstr(text, "flags:") : NULL;
     return at && (strtoul(at + strlen("flags:"), NULL, 8) & O_DIRECT) != 0;
 }
 
@@ -197,13 +193,7 @@ static void add(struct seen *seen, int folder, const char *name) {
 /* The system's number of requests that io_setup has reserved, for all processes; -1 if it doesn't say. */
 static long reserved_requests(void) {
     char text[32];
-    int file = (int)syscall(SYS_openat, AT_FDCWD, "/proc/sys/fs/aio-nr", O_RDONLY | O_CLOEXEC, 0);
-    if (file < 0) return -1;
-    ssize_t got = syscall(SYS_read, file, text, sizeof text - 1);
-    syscall(SYS_close, file);
-    if (got <= 0) return -1;
-    text[got] = 0;
-    return strtol(text, NULL, 10);
+    return read_text(AT_FDCWD, "/proc/sys/fs/aio-nr", text, sizeof text) ? strtol(text, NULL, 10) : -1;
 }
 
 /* Opens a file or folder of a process, such as "self". Returns a descriptor or -1. */

@@ -6,7 +6,6 @@
 #define PAGESHARE_WINDOW_BYTES_H
 
 #include "lender.h"
-#include <stdbool.h>
 
 enum { WORDS = WINDOW_PAGE_BYTES / sizeof(uint64_t) };
 

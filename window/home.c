@@ -1,10 +1,8 @@
 /* Pages that are given up, pinned, or get memory of their own for other reasons. */
 #define _GNU_SOURCE
-#include "bytes.h"
 #include "set.h"
 #include <errno.h>
 #include <signal.h>
-#include <string.h>
 #include <sys/mman.h>
 
 static bool is_in(const struct window *window, size_t first, size_t count) {
@@ -25,7 +23,7 @@ static void clear(struct window *window, size_t first, size_t count) {
 /* Notes that pages were given up: they are zeros, and take no memory, unless they had to be cleared. */
 static void note_given_up(struct window *window, size_t first, size_t count, bool are_cleared) {
     struct windows *windows = window->windows;
-    pageshare_window_give_up(window->pages, window->count, window->counts, parts_in(window), window->lead, first, count);
+    pageshare_window_give_up(TABLES(window), first, count);
     for (size_t page = first; page < first + count; page++) {
         if (are_cleared) trace_copy(windows->trace, window->base + (uint32_t)page, address_of(window, page));
         else trace_discard(windows->trace, window->base + (uint32_t)page);
@@ -327,7 +325,7 @@ static struct window_result cut_part(struct window *window, size_t first, size_t
     struct window_result result = take_home_for(window, first, count, (struct pageshare_window_facts){.leaves = true});
     if (result.status != WINDOW_OK) return result;
     end_advice(window, first, count);
-    pageshare_window_leave(window->pages, window->count, window->counts, parts_in(window), window->lead, first, count);
+    pageshare_window_leave(TABLES(window), first, count);
     return result;
 }
 
@@ -354,6 +352,6 @@ void window_forget(struct window *window, size_t first, size_t count) {
     windows->counts.mappings -= mappings_of(window, first, count);
     for (size_t page = first; page < first + count; page++)
         if (is_here(window, page)) trace_discard(windows->trace, window->base + (uint32_t)page);
-    pageshare_window_unmap(window->pages, window->count, window->counts, parts_in(window), window->lead, first, count);
+    pageshare_window_unmap(TABLES(window), first, count);
     windows->counts.mappings += mappings_of(window, first, count);
 }

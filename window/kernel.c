@@ -1,15 +1,14 @@
 #define _GNU_SOURCE
 #include "kernel.h"
 #include "lines.h"
+#include "newer.h"
 #include <errno.h>
 #include <fcntl.h>
-#include <linux/userfaultfd.h>
 #include <pthread.h>
 #include <sched.h>
 #include <stdatomic.h>
 #include <stdio.h>
 #include <string.h>
-#include <sys/ioctl.h>
 #include <sys/mman.h>
 #include <sys/resource.h>
 #include <sys/syscall.h>
@@ -27,23 +26,12 @@ enum { TRIES = 64 };
 #define APART_BEGIN UINT64_C(0x200000000000)
 #define APART_END UINT64_C(0x300000000000)
 
-/* From Linux 6.8 on; older headers lack it. */
-enum { FEATURE_MOVE = 1 << 16, MOVE_DONT_WAKE = 1 };
-struct move {
-    uint64_t to, from, bytes, mode;
-    int64_t moved;
-};
-#define MOVE_PAGES _IOWR(UFFDIO, 0x05, struct move)
+enum { MOVE_DONT_WAKE = 1 };
 
-/* From Linux 6.7 on; older headers lack it. */
-struct scan {
-    uint64_t size, flags, start, end, walk_end, regions, region_count, most_pages;
-    uint64_t inverted, all_of, any_of, answered;
-};
+/* As a scan returns it. */
 struct region {
     uint64_t start, end, categories;
 };
-#define SCAN_PAGES _IOWR('f', 16, struct scan)
 enum {
     IS_UNGUARDED = 1 << 1,
     IS_FILE = 1 << 2,

@@ -3,9 +3,6 @@
 #define PAGESHARE_WINDOW_KERNEL_H
 
 #include "lender.h"
-#include <stdbool.h>
-#include <stddef.h>
-#include <stdint.h>
 
 enum { NO_FILE = -1, NODE_WORDS = 16 /* memory nodes, 64 in a word */ };
 

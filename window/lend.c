@@ -1,6 +1,5 @@
 /* Pages that are idle: zeros go back to the system, and others are asked about, lent, held, compared and mapped. */
 #define _GNU_SOURCE
-#include "bytes.h"
 #include "set.h"
 #include <errno.h>
 #include <sched.h>
@@ -107,8 +106,7 @@ static void take(struct hold *hold) {
         hold->left += hold->held[i] ? 1 : 0;
         window->windows->counts.pinned += hold->held[i] ? 0 : 1;
     }
-    pageshare_window_begin_row(window->pages, window->count, window->counts, parts_in(window), window->lead, hold->first,
-                               hold->row, hold->count, takings, hold->count);
+    pageshare_window_begin_row(TABLES(window), hold->first, hold->row, hold->count, takings, hold->count);
     for (size_t i = 0; i < hold->count; i++) {
         if (!hold->held[i]) continue;
         trace_content(trace, number_of(hold, i), memory_of(hold, i));
@@ -252,8 +250,7 @@ static void carry_out(struct hold *hold) {
     struct pageshare_window_row_order todo;
     while ((todo = next_of_row(window, hold->first, hold->row, hold->count)).step != PAGESHARE_WINDOW_HOLD_OVER) {
         const struct came came = does[todo.step](hold, &todo);
-        pageshare_window_row_done(window->pages, window->count, window->counts, parts_in(window), window->lead, hold->first,
-                                  hold->row, hold->count, &todo, came.done, came.refused);
+        pageshare_window_row_done(TABLES(window), hold->first, hold->row, hold->count, &todo, came.done, came.refused);
     }
     for (size_t i = 0; i < hold->count; i++)
         if ((hold->row[i] & PAGESHARE_WINDOW_STUCK) != 0) add_stuck(window, hold->first + i, hold->row[i], hold->scratch + i);
@@ -377,7 +374,7 @@ static bool order_hold(struct window *window, size_t number, enum wish wish, boo
     enum pageshare_window_order order = order_of(window, number);
     bool is_hold = order == (is_zeros ? PAGESHARE_WINDOW_HOLD_ZEROS : PAGESHARE_WINDOW_HOLD);
     bool is_equal = is_hold && is_there && seems_equal(window, number);
-    if (is_equal && !part_of(window, number)->is.whole) return true;
+    if (is_equal && !part_of(window, number)->whole) return true;
     if (is_hold) note_order(window, number, false);
     else pageshare_window_withdraw(page);
     if (is_hold && !is_equal) note_changed(window, number);
@@ -469,7 +466,7 @@ static void take_answers(struct window *window, struct batch *batch, const unsig
     for (size_t i = 0; i < batch->count; i++) {
         uint32_t number = batch->pages[i];
         page_entry *page = &window->pages[number];
-        bool is_whole = part_of(window, number)->is.whole, is_other = seen[i] != 0;
+        bool is_whole = part_of(window, number)->whole, is_other = seen[i] != 0;
         windows->counts.seen += is_other ? 1 : 0;
         if (is_other && !is_whole) {
             if (!has_mappings(window, number, &mappings)) continue;
@@ -499,7 +496,7 @@ static void take_lendable(struct look *look, size_t count, uint32_t *numbers, bo
         const uint32_t number = look->idle.pages[i];
         const page_entry *page = &window->pages[number];
         const struct pageshare_window_facts facts = facts_of(window, number);
-        const struct pageshare_window_part *part = &part_of(window, number)->is;
+        const struct pageshare_window_part *part = part_of(window, number);
         if (!pageshare_window_is_free(page, &facts)) continue;
         if (!part->whole && !has_mappings(window, number, &(size_t){0})) continue;
         numbers[batch->count] = window->base + number;
@@ -540,7 +537,7 @@ static bool is_as_found(const struct window *window, const page_entry *found, co
 static bool copy_one(struct window *window, size_t number, unsigned char *to, uint64_t fingerprint) {
     const page_entry found = window->pages[number];
     const struct pageshare_window_facts facts = facts_of(window, number);
-    if (part_of(window, number)->is.whole) return false;
+    if (part_of(window, number)->whole) return false;
     if (!pageshare_window_choose(&window->pages[number], part_counts(window, number), &facts, false)) return false;
     if (order_of(window, number) != PAGESHARE_WINDOW_COPY) return false;
     copy_page(to, address_of(window, number));

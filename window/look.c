@@ -1,8 +1,6 @@
 /* Looks at parts of windows: what has memory of its own, and what is idle. */
 #define _GNU_SOURCE
-#include "bytes.h"
 #include "set.h"
-#include <errno.h>
 #include <sys/mman.h>
 
 enum {
@@ -48,7 +46,7 @@ static void read_page(struct window *window, size_t number, const uint8_t *next,
 /* Does what is to be done with a page, one step after another. Returns what was found: enum pageshare_window_find_step. */
 static unsigned find(struct window *window, size_t number, uint8_t memory, const struct findings *findings) {
     struct pageshare_window_counts *counts = part_counts(window, number);
-    const struct pageshare_window_part *part = &part_of(window, number)->is;
+    const struct pageshare_window_part *part = part_of(window, number);
     const struct pageshare_window_look look = look_now(window->windows);
     page_entry *page = &window->pages[number];
     struct pageshare_window_facts facts;
@@ -119,7 +117,7 @@ static void add_finding(struct window *window, size_t number, uint8_t memory, st
 static void fetch(const struct window *window, size_t number) {
     const page_entry *page = &window->pages[number];
     const struct pageshare_window_look look = look_now(window->windows);
-    if (!pageshare_window_is_to_fetch(page, &part_of(window, number)->is, &look, (uint32_t)number)) return;
+    if (!pageshare_window_is_to_fetch(page, part_of(window, number), &look, (uint32_t)number)) return;
     __builtin_prefetch(address_of(window, number) + glance_place(kept_of(page)) * sizeof(uint64_t));
 }
 
@@ -128,7 +126,7 @@ static bool follow_to(struct window *window, size_t number, uint8_t memory, stru
     const page_entry *page = &window->pages[number];
     const struct pageshare_window_look look = look_now(window->windows);
     size_t before = findings->changes;
-    if (memory != PAGE_PRESENT || !pageshare_window_is_left_out(page, &part_of(window, number)->is, &look, (uint32_t)number))
+    if (memory != PAGE_PRESENT || !pageshare_window_is_left_out(page, part_of(window, number), &look, (uint32_t)number))
         return false;
     add_finding(window, number, memory, findings);
     return findings->changes > before;
@@ -144,12 +142,11 @@ static void follow(struct window *window, size_t first, size_t count, size_t i, 
 
 /* Looks at those pages of a part that this look takes. */
 static void find_among(struct window *window, size_t first, size_t count, const uint8_t *found, struct findings *findings) {
-    const struct part *part = part_of(window, first);
+    const struct pageshare_window_part *part = part_of(window, first);
     const struct pageshare_window_look look = look_now(window->windows);
     uint16_t taken[PART];
-    size_t taken_count =
-        pageshare_window_take_pages(window->pages + first, count, found, count, &part->is, &look, (uint32_t)first,
-                                    findings->is_return, part_counts(window, first)->past > 0, taken, PART);
+    size_t taken_count = pageshare_window_take_pages(window->pages + first, count, found, count, part, &look, (uint32_t)first,
+                                                     findings->is_return, part_counts(window, first)->past > 0, taken, PART);
     findings->table = table_of(window);
     for (size_t at = 0; at < taken_count && window->windows->stuck_count == 0; at++) {
         size_t i = taken[at], before = findings->changes;
@@ -172,7 +169,7 @@ static void leave_out_zeros(const struct window *window, size_t first, size_t co
 /* Looks at pages of a part. With the lock. */
 static void find_in_part(struct window *window, size_t first, size_t count, struct findings *findings) {
     struct windows *windows = window->windows;
-    struct part *part = part_of(window, first);
+    struct pageshare_window_part *part = part_of(window, first);
     uint8_t found[PART];
     bool over[PART] = {false}, is_huge = false;
     size_t own = 0;
@@ -186,12 +183,12 @@ static void find_in_part(struct window *window, size_t first, size_t count, stru
     }
     if (!windows->pagemap.scans) leave_out_zeros(window, first, count, found);
     for (size_t i = 0; i < count; i++) own += found[i] != PAGE_NONE ? 1 : 0;
-    if (!findings->is_return) note_huge(window, first, is_huge && windows->pagemap.scans && part->is.whole);
-    if (!findings->is_return && (part->is.whole || part->is.left == 0)) settle_part(window, first, own, is_huge);
-    findings->is_sample = part->is.rest > 0;
+    if (!findings->is_return) note_huge(window, first, is_huge && windows->pagemap.scans && part->whole);
+    if (!findings->is_return && (part->whole || part->left == 0)) settle_part(window, first, own, is_huge);
+    findings->is_sample = part->rest > 0;
     find_among(window, first, count, found, findings);
     const struct pageshare_window_look look = look_now(windows);
-    if (!findings->is_return) pageshare_window_set_rest(&part->is, &look, (uint32_t)findings->changes, (uint32_t)own);
+    if (!findings->is_return) pageshare_window_set_rest(part, &look, (uint32_t)findings->changes, (uint32_t)own);
 #ifdef WINDOW_TRACE
     if (windows->trace != NULL) trace_part(window, first, count);
 #endif
@@ -204,7 +201,7 @@ static bool look_in(struct look *look, bool is_return) {
     const size_t part = look->task.part, first = part == 0 ? 0 : part * PART - window->lead, count = rest_of_part(window, first);
     struct findings findings = {.zeros = &look->zeros, .idle = &look->idle, .is_return = is_return};
     /* (the part may become whole) */
-    if (part_of(window, first)->is.alone > 0) begin_turn(look);
+    if (part_of(window, first)->alone > 0) begin_turn(look);
     lock_for_look(windows);
     bool goes_on = !window->ended && windows->stuck_count == 0 && !windows->is_watched;
     if (goes_on) {

@@ -18,8 +18,9 @@ void lock_for_look(struct windows *windows) {
 }
 
 void find_pins(struct windows *windows) {
-    if (windows->find_pins == NULL || windows->pins != WINDOWS_PINS_NEVER) return;
-    if (windows->find_pins(windows->find_pins_opaque) != WINDOWS_PINS_NEVER) windows->pins = WINDOWS_PINS_POSSIBLE;
+    if (windows->config.find_pins == NULL || windows->config.pins != WINDOWS_PINS_NEVER) return;
+    if (windows->config.find_pins(windows->config.find_pins_opaque) != WINDOWS_PINS_NEVER)
+        windows->config.pins = WINDOWS_PINS_POSSIBLE;
 }
 
 _Static_assert(WINDOW_SLOT_RESTS - 1 <= UINT32_MAX / WINDOW_SLOT_TOPS, "a slot has a name of 32 bits");
@@ -40,7 +41,7 @@ static const uint16_t *pins_of(const struct window *window) { return window->pin
 struct pageshare_window_table_facts table_of(const struct window *window) {
     const struct windows *windows = window->windows;
     return (struct pageshare_window_table_facts){.elsewhere = windows->transfers_elsewhere,
-                                                 .may_pin = windows->pins != WINDOWS_PINS_NEVER,
+                                                 .may_pin = windows->config.pins != WINDOWS_PINS_NEVER,
                                                  .inherited = !window->advice.dont_fork,
                                                  .locked = windows->is_locked,
                                                  .ends = window->ends,
@@ -104,8 +105,7 @@ bool are_movable(const struct window *window, size_t first, size_t count) {
 struct pageshare_window_row_order next_of_row(struct window *window, size_t first, const uint8_t *row, size_t count) {
     const struct pageshare_window_table_facts table = table_of(window);
     struct pageshare_window_row_order order;
-    pageshare_window_next_of_row(window->pages, window->count, window->counts, parts_in(window), window->lead, &table,
-                                 pins_of(window), pins_in(window), first, row, count, &order);
+    pageshare_window_next_of_row(TABLES(window), &table, pins_of(window), pins_in(window), first, row, count, &order);
     return order;
 }
 
@@ -137,12 +137,12 @@ size_t alike(const struct window *window, size_t first, size_t most) {
 }
 
 size_t mappings_of(const struct window *window, size_t first, size_t count) {
-    return pageshare_window_mappings_at(window->pages, window->count, &window->parts->is, parts_in(window), window->lead, first,
+    return pageshare_window_mappings_at(window->pages, window->count, window->parts, parts_in(window), window->lead, first,
                                         count);
 }
 
 size_t mappings_more(const struct window *window, size_t first, size_t count) {
-    return pageshare_window_mappings_more(window->pages, window->count, &window->parts->is, parts_in(window), window->lead, first,
+    return pageshare_window_mappings_more(window->pages, window->count, window->parts, parts_in(window), window->lead, first,
                                           count);
 }
 
@@ -150,11 +150,8 @@ size_t mappings_more(const struct window *window, size_t first, size_t count) {
 static void note_memory(struct window *window, size_t first, size_t count, uint32_t frame, bool is_moved) {
     size_t *mappings = &window->windows->counts.mappings;
     *mappings -= mappings_of(window, first, count);
-    page_entry *pages = window->pages;
-    const bool is_own = frame == ZEROS;
-    if (is_own)
-        pageshare_window_uncover(pages, window->count, window->counts, parts_in(window), window->lead, first, count, is_moved);
-    else pageshare_window_cover(pages, window->count, window->counts, parts_in(window), window->lead, first, count, frame);
+    if (frame == ZEROS) pageshare_window_uncover(TABLES(window), first, count, is_moved);
+    else pageshare_window_cover(TABLES(window), first, count, frame);
     *mappings += mappings_of(window, first, count);
     note_cleared(window, first, count, false);
 }
@@ -174,7 +171,7 @@ static const uint8_t *source_of(const struct window *window, uint32_t frame, int
  * them.
  */
 static bool may_join(const struct window *window, size_t page, bool is_whole) {
-    return !is_over(&window->pages[page]) && !is_out(&window->pages[page]) && part_of(window, page)->is.whole == is_whole;
+    return !is_over(&window->pages[page]) && !is_out(&window->pages[page]) && part_of(window, page)->whole == is_whole;
 }
 
 /*
@@ -182,7 +179,7 @@ static bool may_join(const struct window *window, size_t page, bool is_whole) {
  * system could join them. Once they are written it joins them with nothing any more.
  */
 static bool are_alone(const struct window *window, size_t first, size_t behind) {
-    const bool is_whole = part_of(window, first)->is.whole;
+    const bool is_whole = part_of(window, first)->whole;
     bool joins_before = first > 0 && may_join(window, first - 1, is_whole);
     return !joins_before && (behind == window->count || !may_join(window, behind, is_whole));
 }
@@ -194,7 +191,7 @@ static bool joins(const struct window *window, size_t page, bool is_whole) {
 
 bool has_room_for_zeros(const struct window *window, size_t first, size_t count) {
     const struct windows *windows = window->windows;
-    const bool is_whole = part_of(window, first)->is.whole;
+    const bool is_whole = part_of(window, first)->whole;
     const size_t behind = first + count, before = mappings_of(window, first, count);
     size_t after = first > 0 && joins(window, first - 1, is_whole) ? 0 : 1;
     if (behind < window->count && !joins(window, behind, is_whole)) after++;

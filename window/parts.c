@@ -1,6 +1,5 @@
 /* Parts of windows: whole, as the system's huge pages have them, or split, so that pages of them can be lent. */
 #define _GNU_SOURCE
-#include "bytes.h"
 #include "set.h"
 #include <errno.h>
 #include <sys/mman.h>
@@ -21,11 +20,11 @@ static size_t full_parts(const struct window *window, size_t *count) {
 int begin_parts(struct window *window) {
     size_t count = 0, first = full_parts(window, &count), end = first + count * PART;
     lock_set(window->windows);
-    window->keeps_huge = window->windows->tuning.huge_from > 0;
+    window->keeps_huge = window->windows->config.tuning.huge_from > 0;
     unlock_set(window->windows);
     window->keeps_huge = window->keeps_huge && advice_allows_huge(&window->found);
     if (!window->keeps_huge || count == 0) return advice_begin(window->at, window->count);
-    for (size_t page = first; page < end; page += PART) part_of(window, page)->is.whole = true;
+    for (size_t page = first; page < end; page += PART) part_of(window, page)->whole = true;
     int cause = first > 0 ? advice_begin(window->at, first) : 0;
     if (cause == 0 && end < window->count) cause = advice_begin(address_of(window, end), window->count - end);
     return cause;
@@ -35,8 +34,8 @@ void count_parts(struct window *window, bool is_more) {
     struct windows_counts *counts = &window->windows->counts;
     size_t count = 0, whole = 0, huge = 0, first = full_parts(window, &count);
     for (size_t page = first; page < first + count * PART; page += PART) {
-        whole += part_of(window, page)->is.whole ? 1 : 0;
-        huge += part_of(window, page)->is.is_huge ? 1 : 0;
+        whole += part_of(window, page)->whole ? 1 : 0;
+        huge += part_of(window, page)->is_huge ? 1 : 0;
     }
     size_t split = window->keeps_huge ? count - whole : 0;
     counts->parts_whole += is_more ? whole : (size_t)0 - whole;
@@ -45,9 +44,9 @@ void count_parts(struct window *window, bool is_more) {
 }
 
 void note_huge(struct window *window, size_t first, bool is_huge) {
-    struct part *part = part_of(window, first);
-    window->windows->counts.parts_huge += (is_huge ? 1u : 0u) - (size_t)part->is.is_huge;
-    part->is.is_huge = is_huge;
+    struct pageshare_window_part *part = part_of(window, first);
+    window->windows->counts.parts_huge += (is_huge ? 1u : 0u) - (size_t)part->is_huge;
+    part->is_huge = is_huge;
 }
 
 int window_say_huge(struct window *window, size_t first, size_t count, bool may) {
@@ -58,14 +57,14 @@ int window_say_huge(struct window *window, size_t first, size_t count, bool may)
     for (size_t page = first, run = 0; page < first + count; page += run) {
         run = rest_of_part(window, page);
         if (run > first + count - page) run = first + count - page;
-        bool is_said = is_here(window, page) && (!may || (run == PART && part_of(window, page)->is.whole));
+        bool is_said = is_here(window, page) && (!may || (run == PART && part_of(window, page)->whole));
         int refused = is_said ? advice_say(address_of(window, page), run, may ? MADV_HUGEPAGE : MADV_NOHUGEPAGE) : 0;
         if (refused != 0) cause = refused;
     }
     count_parts(window, false);
     if (count == window->count) window->found.huge = window->advice.huge = may;
     if (count == window->count) window->found.no_huge = window->advice.no_huge = !may;
-    window->keeps_huge = may && windows->tuning.huge_from > 0 && advice_allows_huge(&window->found);
+    window->keeps_huge = may && windows->config.tuning.huge_from > 0 && advice_allows_huge(&window->found);
     count_parts(window, true);
     unlock_set(windows);
     return cause;
@@ -74,7 +73,7 @@ int window_say_huge(struct window *window, size_t first, size_t count, bool may)
 static void set_whole(struct window *window, size_t first, bool is_whole) {
     struct windows_counts *counts = &window->windows->counts;
     counts->mappings -= mappings_of(window, first, PART);
-    part_of(window, first)->is.whole = is_whole;
+    part_of(window, first)->whole = is_whole;
     note_huge(window, first, is_whole);
     counts->mappings += mappings_of(window, first, PART);
     counts->parts_whole += is_whole ? 1 : (size_t)-1;
@@ -209,19 +208,19 @@ static void find_part_facts(const struct window *window, size_t first, struct pa
 
 /* The numbers by which parts change. */
 static struct pageshare_window_part_config config_of(const struct windows *windows) {
-    return (struct pageshare_window_part_config){.huge_from = windows->tuning.huge_from,
+    return (struct pageshare_window_part_config){.huge_from = windows->config.tuning.huge_from,
                                                  .alone_part = ALONE_PART,
-                                                 .alone = windows->never_wait ? 1 : ALONE_LOOKS,
-                                                 .pause = windows->never_wait ? 0 : PAUSE_LOOKS};
+                                                 .alone = windows->config.never_wait ? 1 : ALONE_LOOKS,
+                                                 .pause = windows->config.never_wait ? 0 : PAUSE_LOOKS};
 }
 
 /* What is to be done with a part: the proved library says so. Its pages are looked at only if something may be. */
 static enum pageshare_window_part_order next_of_part(struct window *window, size_t first, size_t own, bool is_huge) {
     struct windows *windows = window->windows;
-    struct part *part = part_of(window, first);
+    struct pageshare_window_part *part = part_of(window, first);
     const struct pageshare_window_part_config config = config_of(windows);
     struct pageshare_window_part_look look = found_of(window, first, own, is_huge);
-    struct pageshare_window_part its = part->is, wanted = its;
+    struct pageshare_window_part its = *part, wanted = its;
     unsigned order = pageshare_window_next_of_part(&wanted, &config, &look);
     if (order != PAGESHARE_WINDOW_STAY) {
         find_part_facts(window, first, &look);
@@ -230,18 +229,18 @@ static enum pageshare_window_part_order next_of_part(struct window *window, size
     } else {
         its = wanted;
     }
-    bool is_due = part->is.alone < config.alone && its.alone >= config.alone;
+    bool is_due = part->alone < config.alone && its.alone >= config.alone;
     if (is_due && order == PAGESHARE_WINDOW_STAY) windows->counts.not_made_whole++;
-    part->is = its;
+    *part = its;
     return order;
 }
 
 void settle_part(struct window *window, size_t first, size_t own, bool is_huge) {
-    struct part *part = part_of(window, first);
-    if (rest_of_part(window, first) < PART || window->ends || (!part->is.whole && !window->keeps_huge)) return;
+    struct pageshare_window_part *part = part_of(window, first);
+    if (rest_of_part(window, first) < PART || window->ends || (!part->whole && !window->keeps_huge)) return;
     enum pageshare_window_part_order order = next_of_part(window, first, own, is_huge);
     if (order == PAGESHARE_WINDOW_STAY) return;
-    pageshare_window_wake(&part->is);
+    pageshare_window_wake(part);
     if (order == PAGESHARE_WINDOW_SPLIT) split(window, first, is_huge);
     else make_whole(window, first);
 }

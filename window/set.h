@@ -65,14 +65,9 @@ static inline bool shows_past(const page_entry *page) { return is_over(page) && 
 static inline bool is_given_back(const page_entry *page) { return !is_over(page) && is_same(page); }
 
 /*
- * PART pages of a window that one huge page could hold; at the ends of a window fewer. A whole part is left to the system's huge pages:
- * nothing of it is lent or given back, so no frame lies under its pages. It is split before pages of it are lent.
+ * A part is struct pageshare_window_part: PART pages of a window that one huge page could hold, at a window's ends fewer. A whole one
+ * is left to the system's huge pages: nothing of it is lent or given back, so no frame lies under its pages. It is split first.
  */
-struct part {
-    struct pageshare_window_part is; /* whole or split, since when, and whether it rests: the library reads the table of them */
-};
-_Static_assert(sizeof(struct part) == sizeof(struct pageshare_window_part), "a table of parts is one of the library's");
-
 struct window {
     struct windows *windows;
     struct window *next;
@@ -81,7 +76,7 @@ struct window {
     size_t lead;   /* pages of its first part that lie before it */
     uint32_t base; /* the number of its first page among all windows' */
     page_entry *pages;
-    struct part *parts;
+    struct pageshare_window_part *parts;
     struct pageshare_window_counts *counts; /* of each part's pages */
     uint16_t *pins;                         /* how many transfers are under way of each page; NULL: none was yet */
     uint8_t *cleared;                       /* a bit of each page: it was given up over a frame, where it is zeros of its own */
@@ -123,9 +118,7 @@ struct windows {
     size_t scratch_used;
     struct stuck stuck[PART];
     size_t stuck_count;
-    enum windows_pins pins;
-    enum windows_pins (*find_pins)(void *opaque);
-    void *find_pins_opaque;
+    struct windows_config config; /* its `pins` and `tuning` change */
     /* Transfers by O_DIRECT that are under way, which may have pinned the pages of their memory. Each window counts them at its pages. */
     struct transfer_place *places;
     size_t places_count, places_free; /* how many there are; one more than the first free one, or 0 */
@@ -133,11 +126,7 @@ struct windows {
     size_t mappings_most, locked_kib;
     bool follows_limit;      /* nobody said how many mappings there may be: the system's limit counts, also when it is raised */
     uint64_t locks_after_ns; /* smaps isn't read before this time */
-    struct windows_tuning tuning;
-    bool (*attend)(void *opaque);
-    void *attend_opaque;
-    bool never_wait;        /* for a part to stay as it is for some looks */
-    uint64_t crowded_until; /* this look: a page wasn't lent lately since mappings are short */
+    uint64_t crowded_until;  /* this look: a page wasn't lent lately since mappings are short */
     bool is_locked;
     bool is_watched;           /* by a userfaultfd of the caller's own, for all that is known */
     unsigned watches_open;     /* its requests that are being made */
@@ -146,7 +135,6 @@ struct windows {
     bool is_over;              /* nothing is lent any more, for good */
     int advice_cause;          /* what the system refused advice with, since the last look; or 0 */
     struct windows_counts counts;
-    const char *trace_path;
     struct trace *trace;
 
     /* Of the looking thread. */
@@ -169,7 +157,7 @@ struct windows {
 
 static inline uint8_t *address_of(const struct window *window, size_t page) { return window->at + bytes_of(page); }
 
-static inline struct part *part_of(const struct window *window, size_t page) {
+static inline struct pageshare_window_part *part_of(const struct window *window, size_t page) {
     return &window->parts[(page + window->lead) / PART];
 }
 /* The counts of the part that a page belongs to. */
@@ -177,6 +165,8 @@ static inline struct pageshare_window_counts *part_counts(const struct window *w
     return &window->counts[(page + window->lead) / PART];
 }
 static inline size_t parts_in(const struct window *window) { return (window->count + window->lead + PART - 1) / PART; }
+/* What the library gets of a window's tables. */
+#define TABLES(WINDOW) (WINDOW)->pages, (WINDOW)->count, (WINDOW)->counts, parts_in(WINDOW), (WINDOW)->lead
 /* How many pages there are from `first` on to the end of its part. */
 static inline size_t rest_of_part(const struct window *window, size_t first) {
     size_t most = PART - (first + window->lead) % PART, left = window->count - first;
@@ -191,8 +181,8 @@ static inline struct window_result result_of(enum window_status status, int caus
 static inline struct pageshare_window_look look_now(const struct windows *windows) {
     return (struct pageshare_window_look){.zeros = windows->fingerprint_of_zeros,
                                           .look = (uint32_t)windows->counts.looks,
-                                          .turns = windows->tuning.turns,
-                                          .rest_most = windows->tuning.rest_most};
+                                          .turns = windows->config.tuning.turns,
+                                          .rest_most = windows->config.tuning.rest_most};
 }
 
 /* Whether a page is the window's: no other may be touched. */
@@ -216,7 +206,7 @@ static inline bool is_in_transfer(const struct window *window, size_t page) {
 }
 /* Whether any page with a copy over a frame may be pinned, for all that is known. With the lock. */
 static inline bool may_pin(const struct windows *windows) {
-    return windows->pins != WINDOWS_PINS_NEVER || windows->transfers_elsewhere > 0;
+    return windows->config.pins != WINDOWS_PINS_NEVER || windows->transfers_elsewhere > 0;
 }
 /* Asks whether devices may pin pages by now. With the lock, or by the looking thread. */
 void find_pins(struct windows *windows);

@@ -1,6 +1,5 @@
 /* Looks: the proved library says what the thread does next, and a function for each task does it. */
 #define _GNU_SOURCE
-#include "bytes.h"
 #include "set.h"
 #include <errno.h>
 #include <time.h>
@@ -159,7 +158,7 @@ static bool sleep_on(struct look *look) {
 /* Other calls, locks and watches. Where memory is locked a look that hasn't begun goes on until it has said so. */
 static bool attend(struct look *look) {
     struct windows *windows = look->windows;
-    bool goes_on = windows->attend == NULL || windows->attend(windows->attend_opaque);
+    bool goes_on = windows->config.attend == NULL || windows->config.attend(windows->config.attend_opaque);
     look_for_locks(windows);
     look_for_watches(windows);
     bool is_barred = windows->is_locked || windows_are_watched(windows);

@@ -106,7 +106,7 @@ static struct window_result enter(struct window *window) {
     windows->counts.windows++;
     windows->counts.pages += window->count;
     windows->counts.mappings +=
-        window->seams + pageshare_window_mappings_new(&window->parts->is, parts_in(window), window->lead, window->count);
+        window->seams + pageshare_window_mappings_new(window->parts, parts_in(window), window->lead, window->count);
     count_parts(window, true);
     return result;
 }

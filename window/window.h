@@ -25,9 +25,6 @@
 #define PAGESHARE_WINDOW_H
 
 #include "lender.h"
-#include <stdbool.h>
-#include <stddef.h>
-#include <stdint.h>
 #include <sys/uio.h>
 
 /* What a call came to. `cause` is an errno, or 0. */

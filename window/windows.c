@@ -3,7 +3,6 @@
 #include "set.h"
 #include <errno.h>
 #include <fcntl.h>
-#include <string.h>
 #include <sys/mman.h>
 #include <sys/stat.h>
 #include <unistd.h>
@@ -95,15 +94,8 @@ struct window_result windows_make(struct windows **made, const struct windows_co
     if (windows == NULL) return result_of(WINDOW_NO_MEMORY, ENOMEM);
     pthread_mutex_init(&windows->lock, NULL);
     windows->faults.fd = windows->pagemap.fd = windows->frames_fd = NO_FILE;
-    windows->pins = config->pins;
-    windows->find_pins = config->find_pins;
-    windows->find_pins_opaque = config->find_pins_opaque;
-    windows->trace_path = config->trace;
+    windows->config = *config;
     windows->mappings_most = config->mappings_most;
-    windows->tuning = config->tuning;
-    windows->attend = config->attend;
-    windows->attend_opaque = config->attend_opaque;
-    windows->never_wait = config->never_wait;
     begin_budget(windows, config);
     windows->follows_limit = config->mappings_most == 0;
     follow_limit(windows);
@@ -186,8 +178,8 @@ struct window_result windows_attach(struct windows *windows, const struct window
     windows->has_lender = true;
     windows->lender_waits = false;
 #ifdef WINDOW_TRACE
-    if (windows->trace_path != NULL && windows->trace == NULL)
-        windows->trace = trace_open(windows->trace_path, lender->frame_count);
+    if (windows->config.trace != NULL && windows->trace == NULL)
+        windows->trace = trace_open(windows->config.trace, lender->frame_count);
 #endif
     bool is_read = windows->frames_at != NULL;
     unlock_set(windows);
@@ -202,10 +194,10 @@ static void detach_part(struct window *window, size_t first) {
     lock_for_look(windows);
     const bool is_counted = !window->ended; /* (the mappings of a window that has ended aren't) */
     windows->counts.mappings -= is_counted ? mappings_of(window, first, count) : 0;
-    pageshare_window_detach(window->pages, window->count, window->counts, parts_in(window), window->lead, first, count);
+    pageshare_window_detach(TABLES(window), first, count);
     windows->counts.mappings += is_counted ? mappings_of(window, first, count) : 0;
-    struct part *part = part_of(window, first);
-    *part = (struct part){.is.whole = part->is.whole, .is.is_huge = part->is.is_huge};
+    struct pageshare_window_part *part = part_of(window, first);
+    *part = (struct pageshare_window_part){.whole = part->whole, .is_huge = part->is_huge};
     unlock_set(windows);
 }
 
@@ -247,13 +239,13 @@ void windows_detach(struct windows *windows) {
 
 void windows_tune(struct windows *windows, const struct windows_tuning *tuning) {
     lock_set(windows);
-    windows->tuning = *tuning;
+    windows->config.tuning = *tuning;
     unlock_set(windows);
 }
 
 void windows_set_pins(struct windows *windows, enum windows_pins pins) {
     lock_set(windows);
-    windows->pins = pins;
+    windows->config.pins = pins;
     unlock_set(windows);
 }
 

@@ -4,7 +4,6 @@
 #include "pageshare.h"
 #include "trial.h"
 #include "trouble.h"
-#include <stdlib.h>
 #include <sys/utsname.h>
 
 void check_say(enum finding finding, const char *what, const char *mend, const char *form, ...) {

@@ -1,22 +1,12 @@
 #define _GNU_SOURCE
 /* What the kernel has: it is asked, whatever its version says. */
 #include "check.h"
+#include "newer.h"
 #include "trouble.h"
 #include <fcntl.h>
 #include <grp.h>
 #include <linux/seccomp.h>
-#include <linux/userfaultfd.h>
-#include <sys/ioctl.h>
 #include <sys/prctl.h>
-#include <sys/stat.h>
-
-/* From Linux 6.8 and 6.7 on; older headers lack them. */
-enum { FEATURE_MOVE = 1 << 16 };
-struct scan {
-    uint64_t size, flags, start, end, walk_end, regions, region_count, most_pages;
-    uint64_t inverted, all_of, any_of, answered;
-};
-#define SCAN_PAGES _IOWR('f', 16, struct scan)
 
 static const char device_path[] = "/dev/userfaultfd";
 static const char by_user[] =

@@ -2,17 +2,10 @@
 #include "domain.h"
 #include "clients.h"
 #include "slices.h"
-#include "trouble.h"
-#include <fcntl.h>
-#include <signal.h>
-#include <stdlib.h>
 #include <sys/epoll.h>
 #include <sys/eventfd.h>
 #include <sys/random.h>
-#include <sys/socket.h>
-#include <sys/stat.h>
 #include <sys/un.h>
-#include <unistd.h>
 
 /*
  * How a domain's numbers follow from its memory. Lent pages are those that another page is equal to, so a frame is shared by some

@@ -11,8 +11,6 @@
 #include "settings.h"
 #include "status.h"
 #include "trouble.h"
-#include <pthread.h>
-#include <stdatomic.h>
 
 /* What a client's entry in the table is. */
 enum client_state {

@@ -13,10 +13,6 @@
 
 #include "lender/bus.h"
 #include <pthread.h>
-#include <stdatomic.h>
-#include <stdbool.h>
-#include <stddef.h>
-#include <stdint.h>
 
 struct frames {
     int file;    /* open for reading and writing; the host's alone */

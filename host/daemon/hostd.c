@@ -10,15 +10,12 @@
 #include "pausing.h"
 #include "ready.h"
 #include "tables.h"
-#include "trouble.h"
 #include <fcntl.h>
 #include <grp.h>
 #include <pwd.h>
 #include <signal.h>
-#include <stdlib.h>
 #include <sys/prctl.h>
 #include <sys/resource.h>
-#include <unistd.h>
 
 /* Clients guard their pages by a userfaultfd, which also has to hold up the kernel's own writes. Making one takes this device. */
 static int open_faults_device(void) {

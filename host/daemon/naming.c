@@ -14,16 +14,14 @@ enum {
     WORDS_MOST = 65536 /* of a command line that is longer the rest isn't looked at */
 };
 
-static int open_of(uint64_t process, const char *what) {
+size_t naming_read(uint64_t process, const char *what, char *text, size_t room) {
     char path[128];
-    snprintf(path, sizeof path, "/proc/%llu/%s", (unsigned long long)process, what);
-    return open(path, O_RDONLY | O_CLOEXEC);
-}
-
-/* Reads as much of a file as the buffer holds. Returns how many bytes it has got. */
-static size_t read_all(int file, char *bytes, size_t room) {
     size_t done = 0;
-    for (ssize_t got; done < room && (got = read(file, bytes + done, room - done)) > 0;) done += (size_t)got;
+    snprintf(path, sizeof path, "/proc/%llu/%s", (unsigned long long)process, what);
+    int file = open(path, O_RDONLY | O_CLOEXEC);
+    for (ssize_t got; file >= 0 && done + 1 < room && (got = read(file, text + done, room - done - 1)) > 0;) done += (size_t)got;
+    if (file >= 0) close(file);
+    text[done] = 0;
     return done;
 }
 
@@ -57,8 +55,9 @@ static void read_option(const char *option, const char *end, char name[GUEST_NAM
     }
 }
 
-void naming_of_words(const char *words, size_t bytes, char name[GUEST_NAME_MOST]) {
-    const char *end = words + bytes;
+void naming_of_guest(uint64_t process, char name[GUEST_NAME_MOST]) {
+    static char words[WORDS_MOST + 1];
+    const char *end = words + naming_read(process, "cmdline", words, sizeof words);
     bool is_next = false;
     name[0] = 0;
     for (const char *word = words, *zero; word < end; word = zero + 1) {
@@ -72,15 +71,6 @@ void naming_of_words(const char *words, size_t bytes, char name[GUEST_NAME_MOST]
     }
 }
 
-void naming_of_guest(uint64_t process, char name[GUEST_NAME_MOST]) {
-    static char words[WORDS_MOST];
-    int file = open_of(process, "cmdline");
-    name[0] = 0;
-    if (file < 0) return;
-    naming_of_words(words, read_all(file, words, sizeof words), name);
-    close(file);
-}
-
 /* A size that a line of a process's status has, in bytes. */
 static uint64_t size_in(const char *text, const char *name) {
     unsigned long long kibibytes = 0;
@@ -90,23 +80,16 @@ static uint64_t size_in(const char *text, const char *name) {
 
 struct naming_memory naming_memory_of(uint64_t process) {
     char text[4096];
-    int file = open_of(process, "status");
-    if (file < 0) return (struct naming_memory){0};
-    text[read_all(file, text, sizeof text - 1)] = 0;
-    close(file);
+    naming_read(process, "status", text, sizeof text);
     return (struct naming_memory){
         .size = size_in(text, "\nVmSize:"), .resident = size_in(text, "\nVmRSS:"), .tables = size_in(text, "\nVmPTE:")};
 }
 
-/* Reads a text of a thread. Returns false if there is none. */
-static bool read_thread(uint64_t process, const char *thread, const char *what, char *text, size_t room) {
+/* Reads a text of a thread, or an empty one if there is none. */
+static void read_thread(uint64_t process, const char *thread, const char *what, char *text, size_t room) {
     char path[64];
     snprintf(path, sizeof path, "task/%.20s/%s", thread, what);
-    int file = open_of(process, path);
-    if (file < 0) return false;
-    text[read_all(file, text, room - 1)] = 0;
-    close(file);
-    return true;
+    naming_read(process, path, text, room);
 }
 
 /* The processor time of a thread, whose name may contain anything. */
@@ -114,7 +97,8 @@ static uint64_t time_of(uint64_t process, const char *thread) {
     char text[1024];
     unsigned long long user = 0, system = 0;
     const long ticks = sysconf(_SC_CLK_TCK);
-    const char *end = read_thread(process, thread, "stat", text, sizeof text) ? strrchr(text, ')') : NULL;
+    read_thread(process, thread, "stat", text, sizeof text);
+    const char *end = strrchr(text, ')');
     if (!end || ticks <= 0 || sscanf(end, ") %*c %*d %*d %*d %*d %*d %*u %*u %*u %*u %*u %llu %llu", &user, &system) != 2)
         return 0;
     return (user + system) * (UINT64_C(1000000000) / (uint64_t)ticks);
@@ -125,9 +109,11 @@ uint64_t naming_processor_of(uint64_t process) {
     uint64_t taken = 0;
     snprintf(path, sizeof path, "/proc/%llu/task", (unsigned long long)process);
     DIR *threads = opendir(path);
-    for (const struct dirent *it; threads && (it = readdir(threads)) != NULL;)
-        if (*it->d_name != '.' && read_thread(process, it->d_name, "comm", name, sizeof name) && strcmp(name, "pageshare\n") == 0)
-            taken += time_of(process, it->d_name);
+    for (const struct dirent *it; threads && (it = readdir(threads)) != NULL;) {
+        if (*it->d_name == '.') continue;
+        read_thread(process, it->d_name, "comm", name, sizeof name);
+        if (strcmp(name, "pageshare\n") == 0) taken += time_of(process, it->d_name);
+    }
     if (threads) closedir(threads);
     return taken;
 }

@@ -5,7 +5,6 @@
 #include "counts.h"
 #include <stdbool.h>
 #include <stddef.h>
-#include <stdint.h>
 
 enum { GUEST_NAME_MOST = 64 };
 
@@ -15,8 +14,8 @@ enum { GUEST_NAME_MOST = 64 };
  * line can't be read.
  */
 void naming_of_guest(uint64_t process, char name[GUEST_NAME_MOST]);
-/* The same of the words of a command line, each of which ends with a zero. */
-void naming_of_words(const char *words, size_t bytes, char name[GUEST_NAME_MOST]);
+/* Reads what a file of a process has, as far as the buffer holds it. Returns how many bytes; one more zero stands behind them. */
+size_t naming_read(uint64_t process, const char *what, char *text, size_t room);
 /* A process's memory, in bytes: all, what is there of it, and its page tables. Zeros, if that can't be seen. */
 struct naming_memory {
     uint64_t size, resident, tables;

@@ -11,19 +11,6 @@
 
 enum { TEXT_MOST = 65536 }; /* of an environment or a command line that is longer the rest isn't looked at */
 
-/* What a file of a process has, words that end with zeros. Returns how many bytes; one more zero stands behind them. */
-static size_t read_words(uint64_t process, const char *what, char text[TEXT_MOST]) {
-    char path[64];
-    size_t used = 0;
-    snprintf(path, sizeof path, "/proc/%llu/%s", (unsigned long long)process, what);
-    int file = open(path, O_RDONLY | O_CLOEXEC);
-    for (ssize_t got; file >= 0 && used < TEXT_MOST - 1 && (got = read(file, text + used, TEXT_MOST - 1 - used)) > 0;)
-        used += (size_t)got;
-    if (file >= 0) close(file);
-    text[used] = 0;
-    return used;
-}
-
 /* The first word of a process's file that contains this text, or NULL. */
 static const char *word_with(const char *text, size_t bytes, const char *wanted) {
     for (const char *word = text; word < text + bytes; word += strlen(word) + 1)
@@ -44,7 +31,7 @@ static bool has_library(uint64_t process, const char *socket, char text[TEXT_MOS
     struct lines lines;
     char path[64];
     bool has = false;
-    const char *word = word_with(text, read_words(process, "environ", text), name);
+    const char *word = word_with(text, naming_read(process, "environ", text, TEXT_MOST), name);
     if (!word || strncmp(word, name, sizeof name - 1) != 0 || !is_same_socket(word + sizeof name - 1, socket)) return false;
     snprintf(path, sizeof path, "/proc/%llu/maps", (unsigned long long)process);
     if (lines_open(&lines, path) != 0) return false;
@@ -58,7 +45,7 @@ static void find_why(uint64_t process, char text[TEXT_MOST], char why[COUNTS_WHY
     struct counts counts;
     const char *words = "it offers nothing: it doesn't say MADV_MERGEABLE";
     bool offers = naming_counts_of(process, &counts, why);
-    size_t bytes = offers ? 0 : read_words(process, "cmdline", text);
+    size_t bytes = offers ? 0 : naming_read(process, "cmdline", text, TEXT_MOST);
     if (offers && *why) return;
     if (offers) words = "it isn't connected, and its log says why";
     else if (word_with(text, bytes, "mem-merge=off")) words = "it offers nothing: mem-merge=off, in libvirt <nosharepages/>";

@@ -2,12 +2,9 @@
 #include "pausing.h"
 #include "naming.h"
 #include "trouble.h"
-#include <ctype.h>
 #include <dirent.h>
 #include <fcntl.h>
 #include <poll.h>
-#include <stdlib.h>
-#include <unistd.h>
 
 enum { TICK_MS = 200, PAUSE_SECONDS = 60, RESUME_SECONDS = 10 };
 

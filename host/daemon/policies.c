@@ -1,9 +1,6 @@
 #define _GNU_SOURCE
 #include "policies.h"
-#include "trouble.h"
 #include <sys/mman.h>
-#include <sys/syscall.h>
-#include <unistd.h>
 
 /* As in linux/mempolicy.h, which systems without the kernel's headers lack. */
 enum { POLICY_DEFAULT = 0, POLICY_LOCAL = 4 };

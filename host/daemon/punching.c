@@ -1,12 +1,9 @@
 #define _GNU_SOURCE
 #include "punching.h"
 #include "slices.h"
-#include "trouble.h"
 #include <fcntl.h>
 #include <poll.h>
-#include <stdlib.h>
 #include <sys/eventfd.h>
-#include <unistd.h>
 
 enum {
     BITS = 64,

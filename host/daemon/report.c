@@ -1,10 +1,6 @@
 #define _GNU_SOURCE
 /* The side of status.h that the host has: what a domain counts, and sending it. */
 #include "clients.h"
-#include "trouble.h"
-#include <stdlib.h>
-#include <sys/socket.h>
-#include <unistd.h>
 
 /* Memory of the process alone, in bytes: what it has that is of no file. */
 static uint64_t host_bytes(void) {

@@ -4,7 +4,6 @@
 #include "trouble.h"
 #include <ctype.h>
 #include <grp.h>
-#include <stdlib.h>
 
 const char settings_help[] =
     "pageshare-host: processes of virtual machine monitors share their guests' equal pages\n"
@@ -123,9 +122,8 @@ static bool read_group(const char *value, gid_t *group) {
 
 static bool read_file(struct settings *settings, const char *path);
 
-/* The options that take no value. */
-static bool read_switch(struct settings *settings, struct domain_settings *domain, const char *option, bool *known) {
-    *known = true;
+/* The options that take no value. Returns whether it is one. */
+static bool read_switch(struct settings *settings, struct domain_settings *domain, const char *option) {
     if (strcmp(option, "trust-peers") == 0) domain->trust_peers = true;
     else if (strcmp(option, "json") == 0) settings->form = STATUS_JSON;
     else if (strcmp(option, "prometheus") == 0) settings->form = STATUS_PROMETHEUS;
@@ -133,34 +131,33 @@ static bool read_switch(struct settings *settings, struct domain_settings *domai
     else if (strcmp(option, "check") == 0) settings->task = TASK_CHECK;
     else if (strcmp(option, "help") == 0) settings->task = TASK_HELP;
     else if (strcmp(option, "version") == 0) settings->task = TASK_VERSION;
-    else *known = false;
+    else return false;
     return true;
 }
 
 static bool read_numbers(struct domain_settings *domain, const char *option, const char *value, bool *known) {
-    uint64_t number = 0;
+    const struct {
+        const char *option;
+        uint32_t *to;
+        int base;
+        uint32_t least, most;
+    } numbers[] = {{"clients", &domain->clients, 10, 1, CLIENTS_MOST},
+                   {"client-rate", &domain->client_rate, 10, 1, UINT32_MAX},
+                   {"client-cpu", &domain->client_cpu, 10, 1, 100},
+                   {"connection-rate", &domain->connection_rate, 10, 1, UINT32_MAX},
+                   {"mode", &domain->mode, 8, 0, 0777}};
+    uint64_t number;
     *known = true;
     if (strcmp(option, "memory") == 0) return read_size(option, value, &domain->memory);
     if (strcmp(option, "lent") == 0) return read_size(option, value, &domain->lent);
     if (strcmp(option, "client-memory") == 0) return read_size(option, value, &domain->client_memory);
-    if (strcmp(option, "clients") == 0) {
-        if (!read_number(option, value, 10, 1, CLIENTS_MOST, &number)) return false;
-        domain->clients = (uint32_t)number;
-    } else if (strcmp(option, "client-rate") == 0) {
-        if (!read_number(option, value, 10, 1, UINT32_MAX, &number)) return false;
-        domain->client_rate = (uint32_t)number;
-    } else if (strcmp(option, "client-cpu") == 0) {
-        if (!read_number(option, value, 10, 1, 100, &number)) return false;
-        domain->client_cpu = (uint32_t)number;
-    } else if (strcmp(option, "connection-rate") == 0) {
-        if (!read_number(option, value, 10, 1, UINT32_MAX, &number)) return false;
-        domain->connection_rate = (uint32_t)number;
-    } else if (strcmp(option, "mode") == 0) {
-        if (!read_number(option, value, 8, 0, 0777, &number)) return false;
-        domain->mode = (mode_t)number;
-    } else {
-        *known = false;
+    for (size_t i = 0; i < sizeof numbers / sizeof *numbers; i++) {
+        if (strcmp(option, numbers[i].option) != 0) continue;
+        if (!read_number(option, value, numbers[i].base, numbers[i].least, numbers[i].most, &number)) return false;
+        *numbers[i].to = (uint32_t)number;
+        return true;
     }
+    *known = false;
     return true;
 }
 
@@ -194,10 +191,8 @@ static bool read_seconds(struct settings *settings, const char *option, const ch
 static bool read_option(struct settings *settings, const char *option, const char *value, bool *used) {
     struct domain_settings *domain = settings->domain_count ? &settings->domains[settings->domain_count - 1] : &settings->usual;
     bool known;
-    *used = false;
-    read_switch(settings, domain, option, &known);
-    if (known) return true;
-    *used = true;
+    *used = !read_switch(settings, domain, option);
+    if (!*used) return true;
     if (!value) return wrong(option, NULL, "unknown, or its value is missing (see --help)");
     bool good = read_numbers(domain, option, value, &known);
     if (!known) good = read_seconds(settings, option, value, &known);

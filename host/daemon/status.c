@@ -4,11 +4,8 @@
 #include "mappings.h"
 #include "others.h"
 #include "trouble.h"
-#include <stdlib.h>
 #include <sys/socket.h>
-#include <sys/time.h>
 #include <sys/un.h>
-#include <unistd.h>
 
 struct report {
     struct status_totals totals;

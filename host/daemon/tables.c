@@ -3,7 +3,6 @@
 #include "trouble.h"
 #include <pthread.h>
 #include <stddef.h>
-#include <stdlib.h>
 #include <sys/mman.h>
 
 /* A block that is so large is a mapping of its own. */

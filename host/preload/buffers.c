@@ -4,8 +4,6 @@
 #include "sharing.h"
 #include "trouble.h"
 #include <fcntl.h>
-#include <sys/syscall.h>
-#include <unistd.h>
 
 bool buffers_may_meet(void) { return !sharing_is_inside() && ranges_near(NULL, (const uint8_t *)UINTPTR_MAX); }
 

@@ -1,7 +1,6 @@
 #define _GNU_SOURCE
 #include "calls.h"
 #include "buffers.h"
-#include "devices.h"
 #include "filter.h"
 #include "kvm_offer.h"
 #include "lines.h"
@@ -11,8 +10,6 @@
 #include <linux/userfaultfd.h>
 #include <sys/ioctl.h>
 #include <sys/mman.h>
-#include <sys/syscall.h>
-#include <unistd.h>
 
 /* ---- devices, and a userfaultfd of the monitor's own ---- */
 

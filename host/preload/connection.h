@@ -7,7 +7,6 @@
 
 #include "devices.h"
 #include "window.h"
-#include <stdbool.h>
 
 /* Whether PAGESHARE_SOCKET names a host. */
 bool connection_is_wanted(void);

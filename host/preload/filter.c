@@ -1,8 +1,8 @@
 #define _GNU_SOURCE
 #include "filter.h"
 #include "calls.h"
-#include "devices.h"
 #include "sharing.h"
+#include "signals.h"
 #include "slices.h"
 #include "trouble.h"
 #include <linux/audit.h>
@@ -10,16 +10,9 @@
 #include <linux/io_uring.h>
 #include <linux/seccomp.h>
 #include <poll.h>
-#include <pthread.h>
 #include <semaphore.h>
-#include <signal.h>
 #include <stdatomic.h>
-#include <stddef.h>
-#include <stdlib.h>
-#include <sys/ioctl.h>
 #include <sys/prctl.h>
-#include <sys/syscall.h>
-#include <unistd.h>
 
 /* From Linux 5.19 on; older headers lack it. */
 #ifndef SECCOMP_FILTER_FLAG_WAIT_KILLABLE_RECV
@@ -251,21 +244,8 @@ static void *stand_by(void *unused) {
     return unused;
 }
 
-/* A thread whose signals are the other threads'. */
-static bool start(void *(*run)(void *)) {
-    pthread_t thread;
-    sigset_t all, before;
-    sigfillset(&all);
-    if (pthread_sigmask(SIG_SETMASK, &all, &before) != 0) return false;
-    int cause = pthread_create(&thread, NULL, run, NULL);
-    pthread_sigmask(SIG_SETMASK, &before, NULL);
-    if (cause == 0) pthread_detach(thread);
-    errno = cause;
-    return cause == 0;
-}
-
 static void begin_child(void) {
-    if (filter_is_on() && !start(stand_by)) syscall(SYS_close, atomic_load(&listener));
+    if (filter_is_on() && !signals_start(stand_by)) syscall(SYS_close, atomic_load(&listener));
 }
 
 /* ---- its beginning ---- */
@@ -293,7 +273,8 @@ void filter_begin(void) {
     bool is_asked;
     if (!is_wanted(&is_asked)) return;
     atomic_store(&process, getpid());
-    bool can = sem_init(&begun, 0, 0) == 0 && has_sizes() && pthread_atfork(NULL, NULL, begin_child) == 0 && start(listen);
+    bool can =
+        sem_init(&begun, 0, 0) == 0 && has_sizes() && pthread_atfork(NULL, NULL, begin_child) == 0 && signals_start(listen);
     int made = can ? install() : NOTHING;
     if (made < 0 && is_asked) log_line("PAGESHARE_FILTER=1: %s; calls past the C library are found by scans", strerror(errno));
     if (made >= 0) atomic_store(&listener, sharing_own(made));

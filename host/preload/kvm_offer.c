@@ -4,11 +4,7 @@
 #include "signals.h"
 #include "trouble.h"
 #include <linux/kvm.h>
-#include <pthread.h>
-#include <stdlib.h>
-#include <sys/ioctl.h>
 #include <sys/mman.h>
-#include <sys/syscall.h>
 #include <unistd.h>
 
 /* (as KVM's header has them from Linux 6.8 on: its fields begin with those of the older request) */

@@ -17,12 +17,8 @@
 #include <dlfcn.h>
 #include <fcntl.h>
 #include <linux/userfaultfd.h>
-#include <stdarg.h>
-#include <stdlib.h>
 #include <sys/ioctl.h>
 #include <sys/mman.h>
-#include <sys/syscall.h>
-#include <unistd.h>
 
 #ifndef MADV_POPULATE_READ
 #define MADV_POPULATE_READ 22
@@ -36,6 +32,13 @@
 #endif
 
 #define PUBLIC __attribute__((visibility("default")))
+
+/* The word that a call has behind its named ones. */
+#define READ_WITH(LAST)                                                                                                          \
+    va_list rest;                                                                                                                \
+    va_start(rest, LAST);                                                                                                        \
+    void *with = va_arg(rest, void *);                                                                                           \
+    va_end(rest);
 
 /* ---- the C library's own functions ---- */
 
@@ -200,10 +203,7 @@ PUBLIC int mlockall(int flags) {
 /* ---- devices, and the monitor's own userfaultfd ---- */
 
 PUBLIC int ioctl(int descriptor, unsigned long request, ...) {
-    va_list rest;
-    va_start(rest, request);
-    void *with = va_arg(rest, void *);
-    va_end(rest);
+    READ_WITH(request)
     bool is_followed = false;
     if (!sharing_is_inside() && !calls_prepare_request(request, with, &is_followed)) return -1;
     int status = (int)filter_pass(SYS_ioctl, descriptor, (long)request, (long)with, 0, 0);
@@ -240,27 +240,19 @@ PUBLIC int open(const char *path, int flags, ...) {
     READ_MODE(flags, mode)
     return open_at(AT_FDCWD, path, flags, mode);
 }
-PUBLIC int open64(const char *path, int flags, ...) {
-    READ_MODE(flags, mode)
-    return open_at(AT_FDCWD, path, flags, mode);
-}
+PUBLIC int open64(const char *path, int flags, ...) __attribute__((alias("open")));
 PUBLIC int openat(int folder, const char *path, int flags, ...) {
     READ_MODE(flags, mode)
     return open_at(folder, path, flags, mode);
 }
-PUBLIC int openat64(int folder, const char *path, int flags, ...) {
-    READ_MODE(flags, mode)
-    return open_at(folder, path, flags, mode);
-}
+PUBLIC int openat64(int folder, const char *path, int flags, ...) __attribute__((alias("openat")));
 /* What programs call that were built with checks (_FORTIFY_SOURCE). */
 PUBLIC int __open_2(const char *path, int flags);
 PUBLIC int __open_2(const char *path, int flags) { return open_at(AT_FDCWD, path, flags, 0); }
-PUBLIC int __open64_2(const char *path, int flags);
-PUBLIC int __open64_2(const char *path, int flags) { return open_at(AT_FDCWD, path, flags, 0); }
+PUBLIC int __open64_2(const char *path, int flags) __attribute__((alias("__open_2")));
 PUBLIC int __openat_2(int folder, const char *path, int flags);
 PUBLIC int __openat_2(int folder, const char *path, int flags) { return open_at(folder, path, flags, 0); }
-PUBLIC int __openat64_2(int folder, const char *path, int flags);
-PUBLIC int __openat64_2(int folder, const char *path, int flags) { return open_at(folder, path, flags, 0); }
+PUBLIC int __openat64_2(int folder, const char *path, int flags) __attribute__((alias("__openat_2")));
 
 /* A file that is open already may be switched to O_DIRECT. */
 static int set_or_get(fcntl_function *after, int descriptor, int command, void *with) {
@@ -274,17 +266,11 @@ static int set_or_get(fcntl_function *after, int descriptor, int command, void *
     return -1;
 }
 PUBLIC int fcntl(int descriptor, int command, ...) {
-    va_list rest;
-    va_start(rest, command);
-    void *with = va_arg(rest, void *);
-    va_end(rest);
+    READ_WITH(command)
     return set_or_get(next.fcntl, descriptor, command, with);
 }
 PUBLIC int fcntl64(int descriptor, int command, ...) {
-    va_list rest;
-    va_start(rest, command);
-    void *with = va_arg(rest, void *);
-    va_end(rest);
+    READ_WITH(command)
     return set_or_get(next.fcntl64, descriptor, command, with);
 }
 

@@ -7,9 +7,6 @@
 
 #include "pageshare_window.h"
 #include "window.h"
-#include <stdbool.h>
-#include <stddef.h>
-#include <stdint.h>
 
 enum { RANGES_MOST = 256 };
 

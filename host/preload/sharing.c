@@ -6,15 +6,10 @@
 #include "ranges.h"
 #include "signals.h"
 #include "trouble.h"
-#include "window.h"
 #include <fcntl.h>
-#include <pthread.h>
-#include <signal.h>
 #include <stdatomic.h>
-#include <stdlib.h>
 #include <sys/mman.h>
 #include <sys/resource.h>
-#include <sys/syscall.h>
 #include <unistd.h>
 
 enum {
@@ -168,36 +163,39 @@ static void end_unused(struct window *window) {
 
 /* What a call that failed is to set errno to. */
 static int errno_of(struct window_result result) { return result.cause ? result.cause : ENOMEM; }
+static int cause_of(struct window_result result) { return result.status == WINDOW_OK ? 0 : errno_of(result); }
 
 /* ---- what the monitor does ---- */
+
+/* Advice on memory that is no window's. Returns 0 or an errno. */
+static int advise_other(void *at, size_t bytes, int advice) { return syscall(SYS_madvise, at, bytes, advice) == 0 ? 0 : errno; }
 
 /* Gives up the content of a piece. Returns 0 or an errno. */
 static int discard_piece(const struct piece *piece, int advice) {
     size_t first = piece->first, count = piece->bytes / PAGE;
     int cause = 0;
-    if (!piece->window) return syscall(SYS_madvise, piece->at, piece->bytes, advice) == 0 ? 0 : errno;
+    if (!piece->window) return advise_other(piece->at, piece->bytes, advice);
     for (size_t done = 0, run = 0; done < count; done += run) {
         bool is_its = false;
         run = window_run(piece->window, first + done, count - done, &is_its);
-        if (is_its) {
-            struct window_result result = window_discard(piece->window, first + done, run);
-            if (result.status != WINDOW_OK) cause = errno_of(result);
-        } else if (syscall(SYS_madvise, piece->at + done * PAGE, run * PAGE, advice) != 0) {
-            cause = errno;
-        }
+        int refused = is_its ? cause_of(window_discard(piece->window, first + done, run))
+                             : advise_other(piece->at + done * PAGE, run * PAGE, advice);
+        if (refused != 0) cause = refused;
     }
     return cause;
 }
 
-int sharing_discard(void *from, size_t bytes, int advice) {
+/* Gives advice piece by piece, and by the system between them. Returns 0, or -1 with errno. Takes the lock. */
+static int advise_each(void *from, size_t bytes, int advice, int does(const struct piece *piece, int advice)) {
     uint8_t *at = from, *end = end_of(at, bytes);
     int cause = 0;
     if (!is_aligned(at)) return (errno = EINVAL, -1);
     enter();
     while (at < end) {
         const struct piece piece = ranges_next(at, end);
-        if (piece.at > at && syscall(SYS_madvise, at, (size_t)(piece.at - at), advice) != 0) cause = errno;
-        int refused = piece.range ? discard_piece(&piece, advice) : 0;
+        int before = piece.at > at ? advise_other(at, (size_t)(piece.at - at), advice) : 0;
+        int refused = piece.range ? does(&piece, advice) : 0;
+        if (before != 0) cause = before;
         if (refused != 0) cause = refused;
         at = piece.at + piece.bytes;
     }
@@ -206,6 +204,8 @@ int sharing_discard(void *from, size_t bytes, int advice) {
     errno = cause;
     return -1;
 }
+
+int sharing_discard(void *from, size_t bytes, int advice) { return advise_each(from, bytes, advice, discard_piece); }
 
 typedef struct window_result leave_window(struct window *window, size_t first, size_t count, size_t *kept);
 
@@ -359,26 +359,14 @@ int sharing_advise(void *from, size_t bytes, int advice) {
     return -1;
 }
 
+static int say_huge(const struct piece *piece, int advice) {
+    piece->range->said = now_ns();
+    if (!piece->window) return advise_other(piece->at, piece->bytes, advice);
+    return window_say_huge(piece->window, piece->first, piece->bytes / PAGE, advice == MADV_HUGEPAGE);
+}
+
 int sharing_say_huge(void *from, size_t bytes, bool may) {
-    uint8_t *at = from, *end = end_of(at, bytes);
-    const int advice = may ? MADV_HUGEPAGE : MADV_NOHUGEPAGE;
-    int cause = 0;
-    if (!is_aligned(at)) return (errno = EINVAL, -1);
-    enter();
-    while (at < end) {
-        const struct piece piece = ranges_next(at, end);
-        if (piece.at > at && syscall(SYS_madvise, at, (size_t)(piece.at - at), advice) != 0) cause = errno;
-        int refused = 0;
-        if (piece.window) refused = window_say_huge(piece.window, piece.first, piece.bytes / PAGE, may);
-        else if (piece.range && syscall(SYS_madvise, piece.at, piece.bytes, advice) != 0) refused = errno;
-        if (piece.range) piece.range->said = now_ns();
-        if (refused != 0) cause = refused;
-        at = piece.at + piece.bytes;
-    }
-    leave();
-    if (cause == 0) return 0;
-    errno = cause;
-    return -1;
+    return advise_each(from, bytes, may ? MADV_HUGEPAGE : MADV_NOHUGEPAGE, say_huge);
 }
 
 /* With the lock. */
@@ -664,18 +652,6 @@ void ranges_refuse(const char *why) {
     inside = before;
 }
 
-/* The thread, once; the monitor's signals are for its own threads. */
-static bool start(void) {
-    pthread_t thread;
-    sigset_t all, before;
-    sigfillset(&all);
-    if (pthread_sigmask(SIG_SETMASK, &all, &before) != 0) return false;
-    int cause = pthread_create(&thread, NULL, connection_thread, NULL);
-    pthread_sigmask(SIG_SETMASK, &before, NULL);
-    if (cause == 0) pthread_detach(thread);
-    return cause == 0;
-}
-
 bool sharing_offer(void *at, size_t bytes) {
     if (!connection_is_wanted() || atomic_load(&over) || !is_aligned(at)) return false;
     bytes -= bytes % PAGE;
@@ -696,7 +672,7 @@ bool sharing_offer(void *at, size_t bytes) {
     if (is_first) {
         connection_prepare();
         filter_begin();
-        good = start();
+        good = signals_start(connection_thread);
         if (!good) ranges_refuse("there is no thread for it");
     }
     if (is_window) return true; /* the kernel's KSM must leave it alone */

@@ -9,9 +9,6 @@
 
 #include "devices.h"
 #include "window.h"
-#include <stdbool.h>
-#include <stddef.h>
-#include <sys/uio.h>
 
 /* Whether a part of the range may be a window's, and the caller isn't this library itself. Cheap if there is no window near. */
 bool sharing_meets(const void *at, size_t bytes);

@@ -2,8 +2,10 @@
 #ifndef HOST_SIGNALS_H
 #define HOST_SIGNALS_H
 
+#include <errno.h>
+#include <pthread.h>
 #include <signal.h>
-#include <stddef.h>
+#include <stdbool.h>
 
 /*
  * Signals wait from now on, but for those that the thread itself causes. A handler must not run where its thread has a lock of the library:
@@ -18,5 +20,18 @@ static inline void signals_hold(sigset_t *before) {
 }
 
 static inline void signals_let(const sigset_t *before) { pthread_sigmask(SIG_SETMASK, before, NULL); }
+
+/* Starts a thread that nobody waits for; signals are for the monitor's own. Returns false, with errno, if there is none. */
+static inline bool signals_start(void *(*run)(void *)) {
+    pthread_t thread;
+    sigset_t all, before;
+    sigfillset(&all);
+    if (pthread_sigmask(SIG_SETMASK, &all, &before) != 0) return false;
+    int cause = pthread_create(&thread, NULL, run, NULL);
+    pthread_sigmask(SIG_SETMASK, &before, NULL);
+    if (cause == 0) pthread_detach(thread);
+    else errno = cause;
+    return cause == 0;
+}
 
 #endif

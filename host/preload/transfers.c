@@ -8,45 +8,34 @@
 #include "trouble.h"
 #include <dlfcn.h>
 #include <pthread.h>
-#include <stdlib.h>
-#include <sys/syscall.h>
-#include <sys/uio.h>
-#include <unistd.h>
 
 #define PUBLIC __attribute__((visibility("default")))
 
-typedef ssize_t read_function(int, void *, size_t);
-typedef ssize_t write_function(int, const void *, size_t);
-typedef ssize_t pread_function(int, void *, size_t, off_t);
-typedef ssize_t pwrite_function(int, const void *, size_t, off_t);
-typedef ssize_t vector_function(int, const struct iovec *, int);
-typedef ssize_t at_vector_function(int, const struct iovec *, int, off_t);
-typedef ssize_t at_vector2_function(int, const struct iovec *, int, off_t, int);
-
 /* The C library's own, which threads can be cancelled in. NULL before this library is loaded. */
 static struct {
-    read_function *read;
-    write_function *write;
-    pread_function *pread;
-    pwrite_function *pwrite;
-    vector_function *readv, *writev;
-    at_vector_function *preadv, *pwritev;
-    at_vector2_function *preadv2, *pwritev2;
+    __typeof__(read) *read;
+    __typeof__(write) *write;
+    __typeof__(pread) *pread;
+    __typeof__(pwrite) *pwrite;
+    __typeof__(readv) *readv, *writev;
+    __typeof__(preadv) *preadv, *pwritev;
+    __typeof__(preadv2) *preadv2, *pwritev2;
 } next;
 
-static void *next_of(const char *name) { return dlsym(RTLD_NEXT, name); }
+/* Finds one of them, by this name. */
+#define FIND(MEMBER, NAME) next.MEMBER = (__typeof__(next.MEMBER))(uintptr_t)dlsym(RTLD_NEXT, NAME)
 
 __attribute__((constructor)) static void find_next(void) {
-    next.read = (read_function *)(uintptr_t)next_of("read");
-    next.write = (write_function *)(uintptr_t)next_of("write");
-    next.pread = (pread_function *)(uintptr_t)next_of("pread64");
-    next.pwrite = (pwrite_function *)(uintptr_t)next_of("pwrite64");
-    next.readv = (vector_function *)(uintptr_t)next_of("readv");
-    next.writev = (vector_function *)(uintptr_t)next_of("writev");
-    next.preadv = (at_vector_function *)(uintptr_t)next_of("preadv64");
-    next.pwritev = (at_vector_function *)(uintptr_t)next_of("pwritev64");
-    next.preadv2 = (at_vector2_function *)(uintptr_t)next_of("preadv64v2");
-    next.pwritev2 = (at_vector2_function *)(uintptr_t)next_of("pwritev64v2");
+    FIND(read, "read");
+    FIND(write, "write");
+    FIND(pread, "pread64");
+    FIND(pwrite, "pwrite64");
+    FIND(readv, "readv");
+    FIND(writev, "writev");
+    FIND(preadv, "preadv64");
+    FIND(pwritev, "pwritev64");
+    FIND(preadv2, "preadv64v2");
+    FIND(pwritev2, "pwritev64v2");
 }
 
 /* ---- what the windows hear ---- */

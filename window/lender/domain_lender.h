@@ -8,9 +8,6 @@
 #include "../lender.h"
 #include "journal.h"
 #include "pageshare.h"
-#include <stdbool.h>
-#include <stddef.h>
-#include <stdint.h>
 
 enum lender_status {
     LENDER_OK,

@@ -5,7 +5,6 @@
 #include <stdatomic.h>
 #include <stdio.h>
 #include <stdlib.h>
-#include <string.h>
 
 enum { STORES = PAGESHARE_PAGE_BYTES / PAGESHARE_MAX_ACCESS, STEP = PAGESHARE_MAX_ACCESS };
 

@@ -3,9 +3,6 @@
 #define WINDOW_JOURNAL_H
 
 #include "pageshare.h"
-#include <stdbool.h>
-#include <stddef.h>
-#include <stdint.h>
 
 struct journal;
 

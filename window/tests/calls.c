@@ -1,12 +1,10 @@
 #define _GNU_SOURCE
 #include "calls.h"
+#include "../newer.h"
 #include "check.h"
 #include <errno.h>
 #include <fcntl.h>
-#include <linux/userfaultfd.h>
 #include <stdarg.h>
-#include <stddef.h>
-#include <sys/ioctl.h>
 #include <sys/mman.h>
 #include <sys/resource.h>
 #include <sys/syscall.h>
@@ -34,24 +32,6 @@ ssize_t __real_pread(int fd, void *to, size_t bytes, off_t from);
 ssize_t __wrap_pread(int fd, void *to, size_t bytes, off_t from);
 long __real_syscall(long number, ...);
 long __wrap_syscall(long number, ...);
-
-/* As the kernel's. */
-struct move {
-    uint64_t to, from, bytes, mode;
-    int64_t moved;
-};
-#define MOVE_PAGES _IOWR(UFFDIO, 0x05, struct move)
-struct scan {
-    uint64_t size, flags, start, end, walk_end, regions, region_count, most_pages;
-    uint64_t inverted, all_of, any_of, answered;
-};
-#define SCAN_PAGES _IOWR('f', 16, struct scan)
-struct question {
-    uint64_t bytes, flags, address, begin, end, rights, page_bytes, from, inode;
-    uint32_t major, minor, name_bytes, build_bytes;
-    uint64_t name, build;
-};
-#define ASK_MAPPING _IOWR('f', 17, struct question)
 
 enum { PAGE_BYTES = 4096, CAUSES = 3 };
 

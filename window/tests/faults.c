@@ -1,13 +1,10 @@
 #define _GNU_SOURCE
 #include "faults.h"
+#include "../newer.h"
 #include <errno.h>
-#include <linux/userfaultfd.h>
 #include <stdarg.h>
-#include <stddef.h>
-#include <sys/ioctl.h>
 #include <sys/mman.h>
 #include <sys/syscall.h>
-#include <sys/types.h>
 
 struct planned planned;
 
@@ -21,13 +18,6 @@ int __real_fallocate(int fd, int mode, off_t from, off_t bytes);
 int __wrap_fallocate(int fd, int mode, off_t from, off_t bytes);
 long __real_syscall(long number, ...);
 long __wrap_syscall(long number, ...);
-
-/* As the kernel's: to, from, bytes, mode, moved. */
-struct move {
-    uint64_t to, from, bytes, mode;
-    int64_t moved;
-};
-#define MOVE_PAGES _IOWR(UFFDIO, 0x05, struct move)
 
 static bool fails(int *count) {
     if (*count == 0) return false;

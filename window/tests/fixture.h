@@ -11,6 +11,8 @@
 
 enum { PAGE = WINDOW_PAGE_BYTES };
 
+static const struct windows_config never_pinned = {.pins = WINDOWS_PINS_NEVER}, maybe_pinned = {.pins = WINDOWS_PINS_POSSIBLE};
+
 struct fixture {
     struct windows *windows;
     struct lender *lender;
@@ -49,6 +51,18 @@ static inline struct window *window_over(struct fixture *fixture, uint8_t *at, s
     must(window_make(&window, fixture->windows, at, pages * PAGE, WINDOW_NO_CHILD), "window_make");
     if (window == NULL) exit(1);
     return window;
+}
+
+/* What most tests begin with: windows of such a set, a lender with so many frames, and a window over so many pages of memory. */
+#define FIXTURE(CONFIG, FRAMES, COUNT)                                                                                           \
+    struct fixture fixture = fixture_make(CONFIG, FRAMES);                                                                       \
+    uint8_t *at = memory(COUNT);                                                                                                 \
+    struct window *window = window_over(&fixture, at, COUNT)
+
+/* And what they end with. */
+static inline void fixture_end(struct fixture *fixture, struct window *window) {
+    must(window_free(window, WINDOW_DROP), "window_free");
+    fixture_free(fixture);
 }
 
 /* Fills each page with a byte that it shares with every `apart`-th other. */

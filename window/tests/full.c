@@ -6,12 +6,9 @@
  */
 #define _GNU_SOURCE
 #include "fixture.h"
-#include <errno.h>
-#include <fcntl.h>
 #include <sched.h>
 #include <stdarg.h>
 #include <sys/mount.h>
-#include <sys/stat.h>
 
 enum { PAGES = 1024 };
 
@@ -50,9 +47,7 @@ int main(void) {
         puts("left out: a file of frames without memory, since this user can't mount a file system");
         return 0;
     }
-    struct fixture fixture = fixture_make(&config, PAGES);
-    uint8_t *at = memory(PAGES);
-    struct window *window = window_over(&fixture, at, PAGES);
+    FIXTURE(&config, PAGES, PAGES);
     struct pageshare_domain_totals totals;
     struct lender_counts counts;
     for (uint32_t i = 0; i < PAGES; i++) memcpy(at + (size_t)i * PAGE, &(uint32_t){i / 2 + 1}, 4);
@@ -70,8 +65,7 @@ int main(void) {
     look_often(&fixture, 20);
     lender_count(fixture.lender, &totals, &counts);
     check(totals.frames > 128, "and then others are lent");
-    must(window_free(window, WINDOW_DROP), "window_free");
-    fixture_free(&fixture);
+    fixture_end(&fixture, window);
     puts(check_count() == 0 ? "full: ok" : "full: WRONG");
     return check_count() == 0 ? 0 : 1;
 }

@@ -3,15 +3,11 @@
  * that fail. Nobody waits for ever, no byte is lost, and what failed is done later. Prints "guards: ok" (status 0) or what isn't so.
  */
 #define _GNU_SOURCE
-#include "../kernel.h"
 #include "faults.h"
 #include "fixture.h"
 #include <errno.h>
-#include <fcntl.h>
 #include <limits.h>
-#include <pthread.h>
 #include <sys/prctl.h>
-#include <sys/uio.h>
 #include <time.h>
 
 enum { PAGES = 64 };
@@ -51,9 +47,7 @@ static void ends(struct write *write, const char *what) {
 /* The guard fails half-way: nobody waits, and the pages are lent by a later look. */
 static void guard_fails(void) {
     const struct windows_config config = {.pins = WINDOWS_PINS_NEVER, .never_move = true};
-    struct fixture fixture = fixture_make(&config, PAGES);
-    uint8_t *at = memory(PAGES);
-    struct window *window = window_over(&fixture, at, PAGES);
+    FIXTURE(&config, PAGES, PAGES);
     struct write write;
     fill(at, PAGES, 1);
     planned.protects = 100;
@@ -64,8 +58,7 @@ static void guard_fails(void) {
     planned.protects = 0;
     check(look_until(&fixture, PAGES - 1) == PAGES - 1, "later the other pages are lent");
     check(at[0] == 200 && at[1] == 1, "each reads as it was written");
-    must(window_free(window, WINDOW_DROP), "window_free");
-    fixture_free(&fixture);
+    fixture_end(&fixture, window);
 }
 
 static void make_differ(uint8_t *at, size_t page) { at[page * PAGE + 100] ^= 1; }
@@ -86,10 +79,7 @@ static bool are_kept(const uint8_t *at, size_t written, size_t discarded) {
 /* Pages that changed since they were lent can't be put back for some time: first all of a hold, and then some of them again. */
 static void put_fails(void) {
     enum { PUTS = HOLD_MOST + 4 };
-    const struct windows_config config = {.pins = WINDOWS_PINS_NEVER};
-    struct fixture fixture = fixture_make(&config, PAGES);
-    uint8_t *at = memory(PAGES);
-    struct window *window = window_over(&fixture, at, PAGES);
+    FIXTURE(&never_pinned, PAGES, PAGES);
     struct write write;
     fill(at, PAGES, 1);
     planned =
@@ -108,17 +98,14 @@ static void put_fails(void) {
         check(at[5 * PAGE] == 200 && at[7 * PAGE + 100] != 1 && are_kept(at, 5, 6), "no byte of them is lost");
     }
     planned = (struct planned){0};
-    must(window_free(window, WINDOW_DROP), "window_free");
-    fixture_free(&fixture);
+    fixture_end(&fixture, window);
 }
 
 /* Frames can't be mapped: the pages have their memory still, and are lent later. */
 static void map_fails(bool never_move) {
     enum { COPIES = 4 };
     const struct windows_config config = {.pins = WINDOWS_PINS_NEVER, .never_move = never_move};
-    struct fixture fixture = fixture_make(&config, PAGES);
-    uint8_t *at = memory(PAGES);
-    struct window *window = window_over(&fixture, at, PAGES);
+    FIXTURE(&config, PAGES, PAGES);
     fill(at, PAGES, 1);
     planned = (struct planned){.copies = COPIES, .window = (uintptr_t)at, .window_end = (uintptr_t)at + PAGES * PAGE};
     struct window_result result = {0};
@@ -137,9 +124,7 @@ static void map_fails(bool never_move) {
 /* A registration can't be ended at once. */
 static void release_fails(bool never_move) {
     const struct windows_config config = {.pins = WINDOWS_PINS_NEVER, .never_move = never_move};
-    struct fixture fixture = fixture_make(&config, PAGES);
-    uint8_t *at = memory(PAGES);
-    struct window *window = window_over(&fixture, at, PAGES);
+    FIXTURE(&config, PAGES, PAGES);
     fill(at, PAGES, 1);
     planned.releases = 1;
     struct window_result result = {0};
@@ -154,9 +139,7 @@ static void release_fails(bool never_move) {
 /* The same for pages of zeros, whose memory is given back: a write to one waits until a later look, and isn't lost. */
 static void release_of_zeros_fails(bool never_move) {
     const struct windows_config config = {.pins = WINDOWS_PINS_NEVER, .never_move = never_move};
-    struct fixture fixture = fixture_make(&config, PAGES);
-    uint8_t *at = memory(PAGES);
-    struct window *window = window_over(&fixture, at, PAGES);
+    FIXTURE(&config, PAGES, PAGES);
     struct write write;
     memset(at, 0, PAGES * PAGE);
     planned.releases = 1;
@@ -168,16 +151,12 @@ static void release_of_zeros_fails(bool never_move) {
     ends(&write, "a write to zeros goes on");
     check(at[5 * PAGE] == 200 && at[5 * PAGE + 1] == 0 && at[6 * PAGE] == 0, "zeros stay, and what was written");
     check(counts_of(&fixture).zeros >= PAGES - 1 && counts_of(&fixture).lent == 0, "zeros are given back");
-    must(window_free(window, WINDOW_DROP), "window_free");
-    fixture_free(&fixture);
+    fixture_end(&fixture, window);
 }
 
 /* Pages can't be brought home, and then their watch isn't ended: a write to one waits until a later look, and isn't lost. */
 static void release_of_home_fails(void) {
-    const struct windows_config config = {.pins = WINDOWS_PINS_NEVER};
-    struct fixture fixture = fixture_make(&config, PAGES);
-    uint8_t *at = memory(PAGES);
-    struct window *window = window_over(&fixture, at, PAGES);
+    FIXTURE(&never_pinned, PAGES, PAGES);
     struct write write;
     fill(at, PAGES, 1);
     check(look_until(&fixture, PAGES) == PAGES, "all pages are lent");
@@ -189,16 +168,12 @@ static void release_of_home_fails(void) {
     look_often(&fixture, 1);
     ends(&write, "a write to a page over its frame goes on");
     check(at[5 * PAGE] == 200 && at[5 * PAGE + 1] == 1 && at[6 * PAGE] == 1, "no byte over the frames is lost");
-    must(window_free(window, WINDOW_DROP), "window_free");
-    fixture_free(&fixture);
+    fixture_end(&fixture, window);
 }
 
 /* A page can't get memory: the call says so, once, and nothing has changed. */
 static void populate_fails(void) {
-    const struct windows_config config = {.pins = WINDOWS_PINS_NEVER};
-    struct fixture fixture = fixture_make(&config, PAGES);
-    uint8_t *at = memory(PAGES);
-    struct window *window = window_over(&fixture, at, PAGES);
+    FIXTURE(&never_pinned, PAGES, PAGES);
     fill(at, PAGES, 1);
     check(look_until(&fixture, PAGES) == PAGES, "all pages are lent");
     const struct iovec buffer = {at + 3 * PAGE, PAGE};
@@ -212,16 +187,12 @@ static void populate_fails(void) {
     must(window_cut(window, 3, 1, &kept), "window_cut");
     check(kept == 1, "a page of a transfer gets its copy where it is");
     windows_transfer_end(fixture.windows, transfer);
-    must(window_free(window, WINDOW_DROP), "window_free");
-    fixture_free(&fixture);
+    fixture_end(&fixture, window);
 }
 
 /* The memory of free frames can't be given back at once: it is given back later. */
 static void punch_fails(void) {
-    const struct windows_config config = {.pins = WINDOWS_PINS_NEVER};
-    struct fixture fixture = fixture_make(&config, PAGES);
-    uint8_t *at = memory(PAGES);
-    struct window *window = window_over(&fixture, at, PAGES);
+    FIXTURE(&never_pinned, PAGES, PAGES);
     struct pageshare_domain_totals totals;
     struct lender_counts counts;
     fill(at, PAGES, PAGES / 2);
@@ -233,8 +204,7 @@ static void punch_fails(void) {
     check(lender_trim(fixture.lender) == 0, "the next one gives them back");
     lender_count(fixture.lender, &totals, &counts);
     check(totals.frames == 0 && counts.frame_bytes <= PAGE, "the file holds nothing but perhaps the spare frame");
-    must(window_free(window, WINDOW_DROP), "window_free");
-    fixture_free(&fixture);
+    fixture_end(&fixture, window);
 }
 
 /*
@@ -262,8 +232,7 @@ static void frames_are_lent_anew(void) {
     check(read(ends[0], late, PAGE) == PAGE && late[0] == 1 && late[PAGE - 1] == 1, "the pipe has what the page contained");
     close(ends[0]);
     close(ends[1]);
-    must(window_free(window, WINDOW_DROP), "window_free");
-    fixture_free(&fixture);
+    fixture_end(&fixture, window);
 }
 
 static void write_to(uintptr_t at, size_t bytes) {
@@ -290,8 +259,7 @@ static void write_comes_first(bool never_move, bool are_given_up) {
     planned = (struct planned){0};
     check(at[FIRST * PAGE + PAGE / 2] == 9 && at[FIRST * PAGE] == 0, "zeros were mapped, and written");
     check(counts_of(&fixture).mappings >= mappings_in(at, PAGES), "as many mappings are counted as the system has, or more");
-    must(window_free(window, WINDOW_DROP), "window_free");
-    fixture_free(&fixture);
+    fixture_end(&fixture, window);
 }
 
 /*
@@ -299,8 +267,7 @@ static void write_comes_first(bool never_move, bool are_given_up) {
  */
 static void zeros_are_unlike(void) {
     enum { FIRST = 20, COUNT = 8 };
-    const struct windows_config config = {.pins = WINDOWS_PINS_NEVER};
-    struct fixture fixture = fixture_make(&config, PAGES);
+    struct fixture fixture = fixture_make(&never_pinned, PAGES);
     uint8_t *at = memory(PAGES);
     check(madvise(at, PAGES * PAGE, MADV_DONTDUMP) == 0, "memory that isn't dumped");
     struct window *window = window_over(&fixture, at, PAGES);
@@ -311,8 +278,7 @@ static void zeros_are_unlike(void) {
     must(window_discard(window, FIRST, COUNT), "window_discard");
     check(planned.dumps == 0 && look(fixture.windows).status == WINDOW_ADVICE, "a look says what couldn't be said");
     check(counts_of(&fixture).mappings >= mappings_in(at, PAGES), "such zeros count as a mapping");
-    must(window_free(window, WINDOW_DROP), "window_free");
-    fixture_free(&fixture);
+    fixture_end(&fixture, window);
 }
 
 /* What the system says of the mappings of some pages, to be freed. */
@@ -334,9 +300,7 @@ static char *said_of(const uint8_t *at, size_t pages) {
 /* KSM can't be kept off pages that are to be guarded: they aren't lent before it can. */
 static void ksm_stays(void) {
     const struct windows_config config = {.pins = WINDOWS_PINS_NEVER, .never_move = true};
-    struct fixture fixture = fixture_make(&config, PAGES);
-    uint8_t *at = memory(PAGES);
-    struct window *window = window_over(&fixture, at, PAGES);
+    FIXTURE(&config, PAGES, PAGES);
     struct window_result result = {0};
     fill(at, PAGES, 1);
     planned = (struct planned){.unmergeables = 1000, .window = (uintptr_t)at, .window_end = (uintptr_t)at + PAGES * PAGE};
@@ -345,8 +309,7 @@ static void ksm_stays(void) {
     check(planned.unmergeables < 1000 && counts_of(&fixture).lent == 0, "and nothing is lent");
     planned = (struct planned){0};
     check(look_until(&fixture, PAGES) == PAGES, "but later");
-    must(window_free(window, WINDOW_DROP), "window_free");
-    fixture_free(&fixture);
+    fixture_end(&fixture, window);
 }
 
 static unsigned merges;
@@ -365,9 +328,7 @@ static void ksm_is_kept_off(void) {
         puts("left out: a process of which KSM may merge all, since this system has no such thing");
         return;
     }
-    struct fixture fixture = fixture_make(&config, PAGES);
-    uint8_t *at = memory(PAGES);
-    struct window *window = window_over(&fixture, at, PAGES);
+    FIXTURE(&config, PAGES, PAGES);
     fill(at, PAGES, 1);
     planned = (struct planned){.watches = find_merges, .window = (uintptr_t)at, .window_end = (uintptr_t)at + PAGES * PAGE};
     check(look_until(&fixture, PAGES) == PAGES && merges == 0, "KSM leaves alone what is compared");
@@ -375,14 +336,12 @@ static void ksm_is_kept_off(void) {
     check(merges == 0, "and what is brought home");
     planned = (struct planned){0};
     prctl(ALL_MERGES, 0, 0, 0, 0);
-    must(window_free(window, WINDOW_DROP), "window_free");
-    fixture_free(&fixture);
+    fixture_end(&fixture, window);
 }
 
 /* The place for pages that are held can't be made anew, as it is when memory was locked: it is made by a later look. */
 static void scratch_fails(void) {
-    const struct windows_config config = {.pins = WINDOWS_PINS_NEVER};
-    struct fixture fixture = fixture_make(&config, PAGES);
+    struct fixture fixture = fixture_make(&never_pinned, PAGES);
     uint8_t *at = memory(PAGES), *locked = memory(1);
     struct window *window = window_over(&fixture, at, PAGES);
     fill(at, PAGES, 1);
@@ -392,14 +351,12 @@ static void scratch_fails(void) {
     check(result.status == WINDOW_NO_MAPPING && result.cause == ENOMEM && planned.advices == 0, "a look says so");
     check(look_until(&fixture, PAGES) == PAGES, "later pages are lent");
     munlock(locked, PAGE);
-    must(window_free(window, WINDOW_DROP), "window_free");
-    fixture_free(&fixture);
+    fixture_end(&fixture, window);
 }
 
 /* The memory policy of a range can't be read: it is no window, unless there is no such call for this process. */
 static void policy_is_unknown(int cause) {
-    const struct windows_config config = {.pins = WINDOWS_PINS_NEVER};
-    struct fixture fixture = fixture_make(&config, PAGES);
+    struct fixture fixture = fixture_make(&never_pinned, PAGES);
     uint8_t *at = memory(PAGES);
     struct window *window;
     bool is_none = cause == ENOSYS || cause == EPERM;
@@ -410,8 +367,7 @@ static void policy_is_unknown(int cause) {
         check(result.status == WINDOW_ADVICE && result.cause == cause && window == NULL, "an unknown policy is refused");
     if (is_none) must(result, "window_make");
     if (window == NULL) window = window_over(&fixture, at, PAGES);
-    must(window_free(window, WINDOW_DROP), "window_free");
-    fixture_free(&fixture);
+    fixture_end(&fixture, window);
 }
 
 /* A range becomes no window, since one thing can't be said of it: the others are put back. */
@@ -442,8 +398,7 @@ static void make_fails(void) {
     check(result.status == WINDOW_BAD_RANGE && none == NULL, "pages of a window become no other one");
     check(before != NULL && then != NULL && strcmp(before, then) == 0, "and nothing is said of them");
     free(before), free(then);
-    must(window_free(window, WINDOW_DROP), "window_free");
-    fixture_free(&fixture);
+    fixture_end(&fixture, window);
 }
 
 /* Takes mappings until the process has as many as it may have. `at`: room for them. */
@@ -461,8 +416,7 @@ static void take_mappings(uint8_t *at, size_t pages) {
 static void unmap_fails(void) {
     enum { MOST = 1 << 18 };
     const int kind = MAP_PRIVATE | MAP_ANONYMOUS | MAP_NORESERVE;
-    const struct windows_config config = {.pins = WINDOWS_PINS_NEVER};
-    struct fixture fixture = fixture_make(&config, PAGES);
+    struct fixture fixture = fixture_make(&never_pinned, PAGES);
     uint8_t *own = map_apart(3 * PAGE, PROT_READ | PROT_WRITE, kind, NO_FILE), *middle = own + PAGE;
     uint8_t *many = mmap(NULL, MOST * PAGE, PROT_NONE, kind, NO_FILE, 0);
     unsigned char resident[3];

@@ -3,7 +3,6 @@
  * isn't so (status 1).
  */
 #define _GNU_SOURCE
-#include "../set.h"
 #include "fixture.h"
 #include "ring.h"
 #include <errno.h>
@@ -11,17 +10,13 @@
 
 enum { PAGES = 64, HALF = PAGES / 2 };
 
-static const struct windows_config never_pinned = {.pins = WINDOWS_PINS_NEVER}, maybe_pinned = {.pins = WINDOWS_PINS_POSSIBLE};
-
 static uint8_t *mapped_at(uint8_t *at, size_t pages) {
     return mmap(at, pages * PAGE, PROT_READ | PROT_WRITE, MAP_PRIVATE | MAP_ANONYMOUS | MAP_FIXED, -1, 0);
 }
 
 /* Pages that were cut out keep their content, whatever becomes of the rest. */
 static void stays(enum window_end end) {
-    struct fixture fixture = fixture_make(&never_pinned, PAGES);
-    uint8_t *at = memory(PAGES);
-    struct window *window = window_over(&fixture, at, PAGES);
+    FIXTURE(&never_pinned, PAGES, PAGES);
     size_t kept = 1;
     fill(at, PAGES, 1);
     check(look_until(&fixture, PAGES) == PAGES, "all pages are lent");
@@ -75,9 +70,7 @@ static void holes(void) {
 
 /* What a device has pinned stays where it is: what the device reads later arrives there. */
 static void device_reads(void) {
-    struct fixture fixture = fixture_make(&maybe_pinned, PAGES);
-    uint8_t *at = memory(PAGES);
-    struct window *window = window_over(&fixture, at, PAGES);
+    FIXTURE(&maybe_pinned, PAGES, PAGES);
     struct ring ring;
     int disk = file_of('d');
     size_t kept = 0;
@@ -123,9 +116,7 @@ static uint64_t time_of(struct window *window, size_t first, size_t count, bool 
 /* Discards of copies that stay over frames don't read all mappings, unless the caller may have said something of some. */
 static void many_stay(void) {
     enum { MANY = 4096, SOME = 64 };
-    struct fixture fixture = fixture_make(&maybe_pinned, MANY);
-    uint8_t *at = memory(MANY);
-    struct window *window = window_over(&fixture, at, MANY);
+    FIXTURE(&maybe_pinned, MANY, MANY);
     size_t kept = 0;
     for (uint32_t page = 0; page < MANY; page++) memcpy(at + (size_t)page * PAGE, &(uint32_t){page / 2 % 64 + 1}, 4);
     look_often(&fixture, 20);
@@ -160,9 +151,7 @@ static enum windows_pins found(void *asked) {
 static void pins_are_found(void) {
     unsigned asked = 0;
     const struct windows_config config = {.pins = WINDOWS_PINS_NEVER, .find_pins = found, .find_pins_opaque = &asked};
-    struct fixture fixture = fixture_make(&config, PAGES);
-    uint8_t *at = memory(PAGES);
-    struct window *window = window_over(&fixture, at, PAGES);
+    FIXTURE(&config, PAGES, PAGES);
     size_t kept = 0;
     found_pins = WINDOWS_PINS_NEVER;
     fill(at, PAGES, 1);
@@ -188,9 +177,7 @@ static struct windows_transfer begin_transfer(struct fixture *fixture, uint8_t *
 
 /* While a transfer by O_DIRECT is under way its pages aren't held, nor their slots released; and then they are. */
 static void transfers(void) {
-    struct fixture fixture = fixture_make(&never_pinned, PAGES);
-    uint8_t *at = memory(PAGES);
-    struct window *window = window_over(&fixture, at, PAGES);
+    FIXTURE(&never_pinned, PAGES, PAGES);
     size_t kept = 0;
     fill(at, PAGES, 1);
     check(look_until(&fixture, PAGES) == PAGES, "all pages are lent");
@@ -263,9 +250,7 @@ static void uncounted_transfers(void) {
 /* Mappings are counted as the system has them, also those of memory that was moved home. */
 static void mappings(void) {
     enum { MANY = 1024 };
-    struct fixture fixture = fixture_make(&never_pinned, MANY);
-    uint8_t *at = memory(MANY);
-    struct window *window = window_over(&fixture, at, MANY);
+    FIXTURE(&never_pinned, MANY, MANY);
     for (uint32_t i = 0; i < MANY; i++) memcpy(at + i * PAGE, &(uint32_t){i % 2 == 0 ? 1 : i + 1000}, 4);
     look_often(&fixture, 12);
     must(window_advise(window, MADV_DOFORK), "window_advise");
@@ -274,8 +259,7 @@ static void mappings(void) {
     must(window_discard(window, 0, MANY), "window_discard");
     must(look(fixture.windows), "windows_look");
     check(counts_of(&fixture).mappings <= 4 && mappings_in(at, MANY) <= 4, "what was moved is one mapping once it is given up");
-    must(window_free(window, WINDOW_DROP), "window_free");
-    fixture_free(&fixture);
+    fixture_end(&fixture, window);
     munmap(at, MANY * PAGE);
 }
 
@@ -321,9 +305,7 @@ static int meddle_release(void *opaque, const uint64_t *slots, size_t count) {
 
 /* A page that shows a frame of a lender that is gone is lent anew, or discarded, or written meanwhile: its slot isn't lost. */
 static void lent_anew(void) {
-    struct fixture fixture = fixture_make(&never_pinned, PAGES);
-    uint8_t *at = memory(PAGES);
-    struct window *window = window_over(&fixture, at, PAGES);
+    FIXTURE(&never_pinned, PAGES, PAGES);
     struct meddler meddler = {.lender = lender_interface(fixture.lender), .page = at + 3 * PAGE};
     struct window_lender lender = *meddler.lender;
     lender.opaque = &meddler;
@@ -348,8 +330,7 @@ static void lent_anew(void) {
           "all others are lent anew, and none is of the past");
     check(at[3 * PAGE + 7] == 'w' && at[4 * PAGE] == 1, "what was written meanwhile is there");
     meddler.page = NULL;
-    must(window_free(window, WINDOW_DROP), "window_free");
-    fixture_free(&fixture);
+    fixture_end(&fixture, window);
     munmap(at, PAGES * PAGE);
 }
 
@@ -357,9 +338,7 @@ static void lent_anew(void) {
 static void crowded(void) {
     enum { MOST = 8 };
     const struct windows_config config = {.pins = WINDOWS_PINS_NEVER, .mappings_most = MOST};
-    struct fixture fixture = fixture_make(&config, PAGES);
-    uint8_t *at = memory(PAGES);
-    struct window *window = window_over(&fixture, at, PAGES);
+    FIXTURE(&config, PAGES, PAGES);
     for (size_t i = 0; i < PAGES; i++) memset(at + i * PAGE, i % 2 == 0 ? 1 : (int)i + 2, PAGE);
     look_often(&fixture, 32);
     struct windows_counts counts = counts_of(&fixture);
@@ -377,9 +356,7 @@ static void crowded(void) {
 /* After the end of lending nothing is lent, and what was lent goes on until it is taken home. No frame is mapped beside that: mlockall would
  * copy each. */
 static void over(void) {
-    struct fixture fixture = fixture_make(&never_pinned, PAGES);
-    uint8_t *at = memory(PAGES);
-    struct window *window = window_over(&fixture, at, PAGES);
+    FIXTURE(&never_pinned, PAGES, PAGES);
     fill(at, PAGES, 1);
     check(look_until(&fixture, PAGES) == PAGES, "all pages are lent");
     uint8_t *frames = fixture.windows->frames_at, resident;
@@ -436,9 +413,7 @@ static int giver_release(void *opaque, const uint64_t *slots, size_t count) {
 
 /* What is given up between two steps of a lend is missing, and no later step puts a page there. */
 static void given_up_meanwhile(void) {
-    struct fixture fixture = fixture_make(&never_pinned, PAGES);
-    uint8_t *at = memory(PAGES);
-    struct window *window = window_over(&fixture, at, PAGES);
+    FIXTURE(&never_pinned, PAGES, PAGES);
     struct giver giver = {.lender = lender_interface(fixture.lender), .window = window};
     struct window_lender lender = *giver.lender;
     lender.opaque = &giver;
@@ -452,8 +427,7 @@ static void given_up_meanwhile(void) {
     check(giver.has_asked && giver.has_lent, "pages were given up meanwhile");
     check(is_missing(at + GIVEN_UP_ASKED * PAGE) && is_missing(at + GIVEN_UP_LENT * PAGE), "what was given up is missing");
     check(is_missing(at + GIVEN_UP_UNSAID * PAGE), "what was given up without a word is missing");
-    must(window_free(window, WINDOW_DROP), "window_free");
-    fixture_free(&fixture);
+    fixture_end(&fixture, window);
     munmap(at, PAGES * PAGE);
 }
 
@@ -496,8 +470,7 @@ static void watched(bool of_writes) {
     check(counts_of(&fixture).lent == PAGES - (of_writes ? 1 : 2), "then all is lent again");
     check(are_bytes(at, 1) && are_bytes(at + 3 * PAGE, of_writes ? 1 : 0) && are_bytes(at + 5 * PAGE, 9), "with its content");
     close(faults.fd);
-    must(window_free(window, WINDOW_DROP), "window_free");
-    fixture_free(&fixture);
+    fixture_end(&fixture, window);
     munmap(at, PAGES * PAGE);
 }
 

@@ -2,26 +2,18 @@
  * What becomes of pages, one matter after the other: see main. Prints "pages: ok" (status 0) or what isn't so (status 1).
  */
 #define _GNU_SOURCE
-#include "../set.h"
 #include "fixture.h"
 #include "ring.h"
 #include <errno.h>
-#include <fcntl.h>
-#include <linux/userfaultfd.h>
-#include <sys/ioctl.h>
 #include <sys/resource.h>
 #include <sys/syscall.h>
 #include <sys/wait.h>
 
 enum { PAGES = 64 };
 
-static const struct windows_config never_pinned = {.pins = WINDOWS_PINS_NEVER};
-
 /* Equal pages are lent, a write makes a copy, the copy is found, released, and lent again when it is equal once more. */
 static void lives(void) {
-    struct fixture fixture = fixture_make(&never_pinned, PAGES);
-    uint8_t *at = memory(PAGES);
-    struct window *window = window_over(&fixture, at, PAGES);
+    FIXTURE(&never_pinned, PAGES, PAGES);
     struct pageshare_domain_totals totals;
     struct lender_counts counts;
     fill(at, PAGES, PAGES / 2);
@@ -48,9 +40,7 @@ static void lives(void) {
 
 /* Zeros go back to the system, and pages that nobody else has stay where they are. */
 static void zeros_and_singles(void) {
-    struct fixture fixture = fixture_make(&never_pinned, PAGES);
-    uint8_t *at = memory(PAGES);
-    struct window *window = window_over(&fixture, at, PAGES);
+    FIXTURE(&never_pinned, PAGES, PAGES);
     fill(at, PAGES, PAGES);
     memset(at, 0, PAGES / 2 * PAGE);
     look_often(&fixture, 20);
@@ -59,8 +49,7 @@ static void zeros_and_singles(void) {
     bool scans = fixture.windows->pagemap.scans; /* (else the kernel's page of zeros looks like memory) */
     check(!(scans && takes_memory(&fixture, at)) && takes_memory(&fixture, at + PAGES / 2 * PAGE), "zeros take no memory");
     check(are_bytes(at, 0) && are_bytes(at + (PAGES - 1) * PAGE, PAGES), "all read as before");
-    must(window_free(window, WINDOW_DROP), "window_free");
-    fixture_free(&fixture);
+    fixture_end(&fixture, window);
 }
 
 /* Numbers that are out of a window change nothing. */
@@ -91,8 +80,7 @@ static void bounds(void) {
     bad.frame_count = WINDOW_FRAMES_MOST;
     check(windows_attach(fixture.windows, &bad).status == WINDOW_BAD_LENDER, "its file has all its frames");
     must(windows_attach(fixture.windows, lender_interface(fixture.lender)), "windows_attach");
-    must(window_free(window, WINDOW_DROP), "window_free");
-    fixture_free(&fixture);
+    fixture_end(&fixture, window);
     void *shared = mmap(NULL, PAGE, PROT_READ | PROT_WRITE, MAP_SHARED | MAP_ANONYMOUS, -1, 0);
     struct windows *windows;
     must(windows_make(&windows, &never_pinned), "windows_make");
@@ -122,10 +110,7 @@ static void discards(void) {
 
 /* What a device reads into a page that it has pinned is what is read there. */
 static void pinned(void) {
-    const struct windows_config config = {.pins = WINDOWS_PINS_POSSIBLE};
-    struct fixture fixture = fixture_make(&config, PAGES);
-    uint8_t *at = memory(PAGES);
-    struct window *window = window_over(&fixture, at, PAGES);
+    FIXTURE(&maybe_pinned, PAGES, PAGES);
     struct ring ring;
     int disk = file_of('d');
     fill(at, PAGES, 1);
@@ -160,8 +145,7 @@ static void pinned(void) {
     windows_transfer_end(fixture.windows, second);
     check(look_until(&fixture, PAGES) == PAGES, "then it is lent");
     close(disk);
-    must(window_free(window, WINDOW_DROP), "window_free");
-    fixture_free(&fixture);
+    fixture_end(&fixture, window);
 }
 
 /* The line of flags of a mapping, from /proc/self/smaps. */
@@ -237,8 +221,7 @@ static void children(void) {
     int status = -1;
     check(child > 0 && waitpid(child, &status, 0) == child && status == 0, "the child reads what is its parent's");
     check(window_advise(window, MADV_SEQUENTIAL).status == WINDOW_ADVICE, "other advice is refused");
-    must(window_free(window, WINDOW_DROP), "window_free");
-    fixture_free(&fixture);
+    fixture_end(&fixture, window);
 }
 
 /* Locked memory: the kernel would copy each frame that is mapped. */
@@ -267,8 +250,7 @@ static void locked(void) {
         munlockall();
         check(look_until(&fixture, PAGES) == PAGES, "when nothing is locked all is lent again");
     }
-    must(window_free(window, WINDOW_DROP), "window_free");
-    fixture_free(&fixture);
+    fixture_end(&fixture, window);
 }
 
 /* So many files may be open from now on. Returns how many might be. */
@@ -283,9 +265,7 @@ static rlim_t limit_files(rlim_t most) {
 
 /* Where the system doesn't tell whether memory is locked, what was known of it counts still. */
 static void locked_unseen(void) {
-    struct fixture fixture = fixture_make(&never_pinned, PAGES);
-    uint8_t *at = memory(PAGES);
-    struct window *window = window_over(&fixture, at, PAGES);
+    FIXTURE(&never_pinned, PAGES, PAGES);
     fill(at, PAGES, 1);
     if (mlock(at, PAGE) != 0 || look(fixture.windows).status != WINDOW_LOCKED) {
         puts("left out: memory whose lock isn't seen, which this user may not lock, or the sanitizer");
@@ -299,8 +279,7 @@ static void locked_unseen(void) {
         munlock(at, PAGE);
         check(look_until(&fixture, PAGES) == PAGES, "when it isn't locked it is lent");
     }
-    must(window_free(window, WINDOW_DROP), "window_free");
-    fixture_free(&fixture);
+    fixture_end(&fixture, window);
 }
 
 /* How many pages have memory of their own. */
@@ -379,9 +358,7 @@ static void ends(void) {
 static void mappings(void) {
     enum { MANY = 4096, MOST = 1500 };
     const struct windows_config config = {.pins = WINDOWS_PINS_NEVER, .mappings_most = MOST};
-    struct fixture fixture = fixture_make(&config, MANY);
-    uint8_t *at = memory(MANY);
-    struct window *window = window_over(&fixture, at, MANY);
+    FIXTURE(&config, MANY, MANY);
     for (uint32_t page = 0; page < MANY; page++) /* (pages that nobody else has lie between those that are lent) */
         memcpy(at + (size_t)page * PAGE, &(uint32_t){page % 2 == 0 ? page % 64 + 1 : page + 1000}, 4);
     look_often(&fixture, 20);
@@ -393,8 +370,7 @@ static void mappings(void) {
     must(window_discard(window, 0, MANY), "window_discard");
     must(look(fixture.windows), "windows_look");
     check(counts_of(&fixture).mappings == 1 && mappings_in(at, MANY) <= 2, "discarded pages are one mapping");
-    must(window_free(window, WINDOW_DROP), "window_free");
-    fixture_free(&fixture);
+    fixture_end(&fixture, window);
 }
 
 /* Zeroes every other page of a window, or gives it up. */
@@ -412,9 +388,7 @@ static void zero_every_other(struct window *window, size_t from, size_t pages, b
 static void mappings_left(bool are_given_up) {
     enum { HALF = 1024, MANY = 2 * HALF, MOST = 512 };
     const struct windows_config config = {.pins = WINDOWS_PINS_NEVER, .mappings_most = MOST};
-    struct fixture fixture = fixture_make(&config, MANY);
-    uint8_t *at = memory(MANY);
-    struct window *window = window_over(&fixture, at, MANY);
+    FIXTURE(&config, MANY, MANY);
     for (uint32_t page = 0; page < MANY; page++) memcpy(at + (size_t)page * PAGE, &(uint32_t){page % HALF + 1}, 4);
     check(look_until(&fixture, MANY) == MANY, "all pages are lent, in runs");
     zero_every_other(window, 0, MANY, are_given_up);
@@ -461,9 +435,7 @@ static void mappings_of_kinds(int flags) {
  */
 static void zeros_are_there(bool never_move) {
     const struct windows_config config = {.pins = WINDOWS_PINS_NEVER, .never_move = never_move};
-    struct fixture fixture = fixture_make(&config, PAGES);
-    uint8_t *at = memory(PAGES);
-    struct window *window = window_over(&fixture, at, PAGES);
+    FIXTURE(&config, PAGES, PAGES);
     fill(at, PAGES, PAGES / 4);
     memset(at, 0, PAGES / 4 * PAGE);
     look_until(&fixture, PAGES * 3 / 4);
@@ -482,10 +454,7 @@ static void zeros_are_there(bool never_move) {
 /* None is left out where pages are given up one by one, and written, between others that are lent: each is a mapping by itself. */
 static void mappings_one_by_one(void) {
     enum { MANY = 1024 };
-    const struct windows_config config = {.pins = WINDOWS_PINS_NEVER};
-    struct fixture fixture = fixture_make(&config, MANY);
-    uint8_t *at = memory(MANY);
-    struct window *window = window_over(&fixture, at, MANY);
+    FIXTURE(&never_pinned, MANY, MANY);
     fill(at, MANY, 1);
     check(look_until(&fixture, MANY) == MANY, "all pages are lent");
     for (size_t odd = 0; odd < 2; odd++)
@@ -495,17 +464,14 @@ static void mappings_one_by_one(void) {
         }
     check(counts_of(&fixture).mappings >= mappings_in(at, MANY), "as many are counted as the system has, or more");
     must(window_discard(window, 0, MANY), "window_discard");
-    must(window_free(window, WINDOW_DROP), "window_free");
-    fixture_free(&fixture);
+    fixture_end(&fixture, window);
 }
 
 /* Nor where zeros between others that are lent are given back, and written then. */
 static void mappings_of_zeros(void) {
     enum { MANY = 256 };
     const struct windows_config config = {.pins = WINDOWS_PINS_NEVER, .never_move = true};
-    struct fixture fixture = fixture_make(&config, MANY);
-    uint8_t *at = memory(MANY);
-    struct window *window = window_over(&fixture, at, MANY);
+    FIXTURE(&config, MANY, MANY);
     for (size_t page = 0; page < MANY; page++) memset(at + page * PAGE, page % 2 == 0 ? 1 : (int)(page / 2), PAGE);
     check(look_until(&fixture, MANY / 2) == MANY / 2, "every other page is lent");
     for (size_t page = 1; page < MANY; page += 2) memset(at + page * PAGE, 0, PAGE);
@@ -517,8 +483,7 @@ static void mappings_of_zeros(void) {
         at[page * PAGE] = 1;
     }
     check(counts_of(&fixture).mappings >= mappings_in(at, MANY), "as many are counted as the system has, or more, of zeros");
-    must(window_free(window, WINDOW_DROP), "window_free");
-    fixture_free(&fixture);
+    fixture_end(&fixture, window);
 }
 
 /* Nor where a window consists of several mappings when it is made, which the system doesn't join. */
@@ -539,9 +504,7 @@ static void mappings_from_the_beginning(void) {
 
 /* Another userfaultfd has a part of the window: its pages aren't held, the others are. */
 static void second_userfaultfd(void) {
-    struct fixture fixture = fixture_make(&never_pinned, PAGES);
-    uint8_t *at = memory(PAGES);
-    struct window *window = window_over(&fixture, at, PAGES);
+    FIXTURE(&never_pinned, PAGES, PAGES);
     struct faults other;
     fill(at, PAGES, 1);
     check(faults_open(&other, 0, false) == 0, "a second userfaultfd");
@@ -551,8 +514,7 @@ static void second_userfaultfd(void) {
     check(faults_end_watch(&other, at, PAGES / 2) == 0, "it leaves it");
     close(other.fd);
     check(look_until(&fixture, PAGES) == PAGES, "then all is lent");
-    must(window_free(window, WINDOW_DROP), "window_free");
-    fixture_free(&fixture);
+    fixture_end(&fixture, window);
 }
 
 /* What is found of each kind of page: a guard's own mark is no copy. */
@@ -594,9 +556,7 @@ static int no_answer(void *opaque, const uint64_t *slots, size_t count) {
 }
 
 static void lenders(void) {
-    struct fixture fixture = fixture_make(&never_pinned, PAGES);
-    uint8_t *at = memory(PAGES);
-    struct window *window = window_over(&fixture, at, PAGES);
+    FIXTURE(&never_pinned, PAGES, PAGES);
     fill(at, PAGES, 2);
     check(look_until(&fixture, PAGES) == PAGES, "all pages are lent");
     must(window_discard(window, PAGES - 1, 1), "window_discard");
@@ -648,9 +608,7 @@ static int lend_and_write(void *opaque, const uint32_t *numbers, size_t count, s
 
 /* A page that is written after its bytes were copied isn't held, and keeps what was written. The others are held once. */
 static void changes(void) {
-    struct fixture fixture = fixture_make(&never_pinned, PAGES);
-    uint8_t *at = memory(PAGES);
-    struct window *window = window_over(&fixture, at, PAGES);
+    FIXTURE(&never_pinned, PAGES, PAGES);
     struct window_lender lender = *lender_interface(fixture.lender);
     fill(at, PAGES, 2);
     busy.own = lender_interface(fixture.lender);
@@ -663,8 +621,7 @@ static void changes(void) {
     check(at[5 * PAGE] == 99 && at[7 * PAGE] == 2, "and has what was written");
     at[5 * PAGE] = 2;
     check(look_until(&fixture, PAGES) == PAGES && held_by(&fixture) == PAGES, "it is lent when it is equal again");
-    must(window_free(window, WINDOW_DROP), "window_free");
-    fixture_free(&fixture);
+    fixture_end(&fixture, window);
 }
 
 /* A lender that refuses to release slots for some calls, and whose slots for some are none. */
@@ -689,9 +646,7 @@ static int lend_strangely(void *opaque, const uint32_t *numbers, size_t count, s
 
 /* Slots that a lender doesn't release at once are released later. A slot that is none is a failure, and its page stays private. */
 static void odd_lenders(void) {
-    struct fixture fixture = fixture_make(&never_pinned, PAGES);
-    uint8_t *at = memory(PAGES);
-    struct window *window = window_over(&fixture, at, PAGES);
+    FIXTURE(&never_pinned, PAGES, PAGES);
     struct window_lender lender = *lender_interface(fixture.lender);
     fill(at, PAGES, 2);
     odd.own = lender_interface(fixture.lender);
@@ -707,8 +662,7 @@ static void odd_lenders(void) {
     must(window_discard(window, 1, 1), "window_discard");
     for (int i = 0; i < 4; i++) result = look(fixture.windows);
     check(odd.refusals == 0 && slots_of(&fixture) == PAGES - 2, "slots whose release was refused are released later");
-    must(window_free(window, WINDOW_DROP), "window_free");
-    fixture_free(&fixture);
+    fixture_end(&fixture, window);
     munmap(at, PAGES * PAGE);
 }
 
@@ -787,8 +741,7 @@ static void glances(void) {
     memset(at, 'e', PAGE), memset(at + PAGES / 2 * PAGE, 'e', PAGE);
     look_often(&fixture, SOON);
     check(counts_of(&fixture).lent == 2, "pages that became equal are lent some looks later");
-    must(window_free(window, WINDOW_DROP), "window_free");
-    fixture_free(&fixture);
+    fixture_end(&fixture, window);
     munmap(at, PAGES * PAGE);
 }
 
@@ -809,8 +762,7 @@ static void reads_seldom(void) {
         lent = counts_of(&fixture).lent;
     }
     check(lent == 2, "pages that became equal are lent when both were read");
-    must(window_free(window, WINDOW_DROP), "window_free");
-    fixture_free(&fixture);
+    fixture_end(&fixture, window);
     munmap(at, PAGES * PAGE);
 }
 
@@ -819,9 +771,7 @@ static void reads_seldom(void) {
 static void samples(void) {
     enum { MANY = 512, CALM = 64, RUN = 16, FIRST = 200, SOON = 4, EACH = 8, TURNS = 512 };
     const struct windows_config config = {.pins = WINDOWS_PINS_NEVER, .tuning = {.turns = TURNS, .rest_most = EACH - 1}};
-    struct fixture fixture = fixture_make(&config, MANY);
-    uint8_t *at = memory(MANY);
-    struct window *window = window_over(&fixture, at, MANY);
+    FIXTURE(&config, MANY, MANY);
     for (size_t word = 0; word < MANY * WORDS; word++) ((uint64_t *)(void *)at)[word] = word;
     look_often(&fixture, CALM);
     check(counts_of(&fixture).lends == 0, "no page is equal to another one");
@@ -835,8 +785,7 @@ static void samples(void) {
     memset(at + 3 * PAGE, 'f', PAGE), memset(at + 400 * PAGE, 'f', PAGE);
     look_often(&fixture, EACH + 2 * SOON);
     check(counts_of(&fixture).lent == RUN + 2, "pages alone are lent some looks later");
-    must(window_free(window, WINDOW_DROP), "window_free");
-    fixture_free(&fixture);
+    fixture_end(&fixture, window);
     munmap(at, MANY * PAGE);
 }
 

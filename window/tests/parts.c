@@ -4,13 +4,11 @@
  * "parts: ok" (status 0) or what isn't so (status 1).
  */
 #define _GNU_SOURCE
-#include "../kernel.h"
 #include "faults.h"
 #include "fixture.h"
 #include "ring.h"
 #include <errno.h>
 #include <inttypes.h>
-#include <pthread.h>
 #include <time.h>
 
 #ifndef MADV_COLLAPSE
@@ -146,8 +144,7 @@ static void zeros(void) {
     for (size_t page = 0; page < 80; page++) any_takes = any_takes || takes_memory(&fixture, at + part_bytes + page * PAGE);
     check(!any_takes, "no huge page brings the memory of zeros back");
     check(are_bytes(at, 0) && are_bytes(at + part_bytes, 0) && marked(at, 50) == 1050, "all read as before");
-    must(window_free(window, WINDOW_DROP), "window_free");
-    fixture_free(&fixture);
+    fixture_end(&fixture, window);
 }
 
 /* A window begins and ends amid huge pages, which are split, and what is beside it isn't touched. */
@@ -185,8 +182,7 @@ static void small(void) {
     check(counts_of(&fixture).parts_whole == 2, "parts that may become huge are whole");
     look_often(&fixture, 60);
     check(counts_of(&fixture).lent == 40, "but are lent from at once, and stay so where that is worth it");
-    must(window_free(window, WINDOW_DROP), "window_free");
-    fixture_free(&fixture);
+    fixture_end(&fixture, window);
 }
 
 /* Splits a window's first part, and writes to all of its lent pages. */
@@ -224,8 +220,7 @@ static void becomes_whole(void) {
     check(counts_of(&fixture).lent == 100 && counts_of(&fixture).splits == 2, "it can be split again");
     must(window_discard(window, 0, PART), "window_discard");
     look_often(&fixture, 2);
-    must(window_free(window, WINDOW_DROP), "window_free");
-    fixture_free(&fixture);
+    fixture_end(&fixture, window);
 }
 
 /* A part some of whose pages are lent still, or were given back, or have never had memory, becomes whole with them. */
@@ -332,8 +327,7 @@ static void not_split(void) {
     planned = (struct planned){0};
     look_often(&fixture, 12);
     check(counts_of(&fixture).lent == 100 && differing(at, 2, equal) == 0, "later it is split and lent from");
-    must(window_free(window, WINDOW_DROP), "window_free");
-    fixture_free(&fixture);
+    fixture_end(&fixture, window);
 }
 
 /* A part whose pages might find no mappings stays whole, and the set says why. */
@@ -350,8 +344,7 @@ static void crowded(void) {
     struct windows_counts counts = counts_of(&fixture);
     check(counts.lent == 0 && counts.parts_whole == 2 && is_huge(at), "a part stays whole where mappings are short");
     check(counts.pause == WINDOWS_CROWDED && counts.no_mapping > 0, "and the set says so");
-    must(window_free(window, WINDOW_DROP), "window_free");
-    fixture_free(&fixture);
+    fixture_end(&fixture, window);
 }
 
 /* What is said of huge pages later. */
@@ -372,8 +365,7 @@ static void said(void) {
     check(counts_of(&fixture).made_whole == 0, "and stays so where no huge pages are wanted");
     check(window_say_huge(window, 0, 2 * PART, true) == 0, "they are wanted again");
     check(looks_until_whole(&fixture, 1) && is_huge(at) && differing(at, 2, equal) == 0, "then it becomes whole");
-    must(window_free(window, WINDOW_DROP), "window_free");
-    fixture_free(&fixture);
+    fixture_end(&fixture, window);
 }
 
 /* ---- parts that go to and fro while they are written ---- */
@@ -485,8 +477,7 @@ static void flips(bool never_move, const char *trace) {
     check(writers[0].wrong + writers[1].wrong == 0, "each word is as it was written last");
     check_mappings(&fixture, at, 2 * PART, 40);
     close(disk);
-    must(window_free(window, WINDOW_DROP), "window_free");
-    fixture_free(&fixture);
+    fixture_end(&fixture, window);
 }
 
 static void all(void) {

@@ -95,8 +95,7 @@ static bool goes_on(struct windows *windows) {
 
 /* A monitor's calls don't wait until all of a large guest's pages have lost their lender. (A busy computer may stop a thread as long.) */
 static void lose_lender(void) {
-    const struct windows_config config = {.pins = WINDOWS_PINS_NEVER};
-    struct fixture fixture = fixture_make(&config, FEW);
+    struct fixture fixture = fixture_make(&never_pinned, FEW);
     struct window *window = window_over(&fixture, memory(LARGE), LARGE);
     pthread_t caller;
     bool is_good = false;
@@ -109,8 +108,7 @@ static void lose_lender(void) {
     check(is_good, "calls go on while a lender goes");
     atomic_store(&stop, true);
     pthread_join(caller, NULL);
-    must(window_free(window, WINDOW_DROP), "window_free");
-    fixture_free(&fixture);
+    fixture_end(&fixture, window);
 }
 
 int main(void) {

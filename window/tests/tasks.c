@@ -10,8 +10,6 @@
 #include <sys/syscall.h>
 #include <time.h>
 
-static const struct windows_config never_pinned = {.pins = WINDOWS_PINS_NEVER};
-
 /* ---- what happens between two tasks ---- */
 
 enum { PAGES = 64, ZEROS_END = 12, FIRST = 4, COUNT = 30, LOOKS_BEFORE = 2 };
@@ -281,8 +279,7 @@ static void attends(void) {
     slow_most = 2;
     check(look_attended(&fixture, 0) > 2 && slow_calls == 2, "a look attends each second");
     check(counts_of(&fixture).lent > PAGES / 2, "and goes on then");
-    must(window_free(window, WINDOW_DROP), "window_free");
-    fixture_free(&fixture);
+    fixture_end(&fixture, window);
     munmap(at, (size_t)PAGES * PAGE);
 }
 
@@ -300,8 +297,7 @@ static void ends(void) {
     check(round_ns > 0 && counts_of(&fixture).round_ns == round_ns, "it isn't timed as one that has been everywhere");
     check(look_until(&fixture, MANY) == MANY, "later looks share the rest");
     for (size_t page = 0; page < MANY; page++) check(are_bytes(at + page * PAGE, (int)(page % 4 + 1)), "each byte is as it was");
-    must(window_free(window, WINDOW_DROP), "window_free");
-    fixture_free(&fixture);
+    fixture_end(&fixture, window);
     munmap(at, (size_t)MANY * PAGE);
 }
 
@@ -320,8 +316,7 @@ static void goes_on_alone(void) {
     is_away = false;
     must(look(fixture.windows), "a look at the lender that is there again");
     check(counts_of(&fixture).pause == WINDOWS_LENDING && slots_of(&fixture) == PAGES - COUNT, "then the slots are released");
-    must(window_free(window, WINDOW_DROP), "window_free");
-    fixture_free(&fixture);
+    fixture_end(&fixture, window);
     munmap(at, (size_t)PAGES * PAGE);
 }
 
@@ -352,9 +347,7 @@ static void sleeps(void) {
     enum { MANY = 512, PERCENT = 5, SLOWNESS = 100 / PERCENT, HALF_A_SECOND = 500, SECOND = 1000000000 };
     const uint64_t credit_ns = 60 * (uint64_t)SECOND;
     const struct windows_config config = {.pins = WINDOWS_PINS_NEVER, .percent = PERCENT, .burst = PERCENT};
-    struct fixture fixture = fixture_make(&config, MANY);
-    uint8_t *at = memory(MANY);
-    struct window *window = window_over(&fixture, at, MANY);
+    FIXTURE(&config, MANY, MANY);
     fill(at, MANY, 4);
     check(slowness(&fixture, MANY) > SLOWNESS / 2, "looks sleep until their processor time is paid for");
     for (size_t page = 0; page < MANY; page++) check(are_bytes(at + page * PAGE, (int)(page % 4 + 1)), "each byte is as it was");
@@ -373,17 +366,14 @@ static void sleeps(void) {
     look_often(&fixture, 1);
     check(left - windows_budget_of(fixture.windows).credit_ns < SECOND / 5, "only what looks use is paid for by the credit");
     windows_pace(fixture.windows, 100, 100);
-    must(window_free(window, WINDOW_DROP), "window_free");
-    fixture_free(&fixture);
+    fixture_end(&fixture, window);
     munmap(at, (size_t)MANY * PAGE);
 }
 
 /* Without a share a thread uses what it likes, and no credit is kept. */
 static void never_sleeps(void) {
     enum { MANY = 512 };
-    struct fixture fixture = fixture_make(&never_pinned, MANY);
-    uint8_t *at = memory(MANY);
-    struct window *window = window_over(&fixture, at, MANY);
+    FIXTURE(&never_pinned, MANY, MANY);
     fill(at, MANY, 4);
     windows_pace(fixture.windows, 1, 1);
     windows_give_credit(fixture.windows, 1000);
@@ -391,8 +381,7 @@ static void never_sleeps(void) {
           "it has no share");
     check(look_until(&fixture, MANY) == MANY, "pages are lent");
     check(fixture.windows->budget.owed == 0, "nothing is owed");
-    must(window_free(window, WINDOW_DROP), "window_free");
-    fixture_free(&fixture);
+    fixture_end(&fixture, window);
     munmap(at, (size_t)MANY * PAGE);
 }
 
