@@ -11,8 +11,9 @@
  * So a write waits for nobody: to a lent page it costs the kernel's own copy. A page is held only for the moment in which it is
  * compared with its frame, byte by byte, and the frame is mapped. No lender is called meanwhile.
  *
- * windows_look, windows_attach, windows_detach, windows_taken_up and the calls for a budget are made by one thread at a time. All other calls may come from any
- * thread at any time, but windows_free. Nobody waits long: the lock inside is never held while a lender is called, nor over a long run of pages.
+ * windows_look, windows_attach, windows_detach, windows_taken_up and the calls for a budget are made by one thread at a time. All other
+ * calls may come from any thread at any time, but windows_free. Nobody waits long: the lock inside is never held while a lender is called,
+ * nor over a long run of pages.
  *
  * Callers must:
  * - not discard (madvise), map, unmap, move or protect a part of a window, but by window_discard, window_cut and window_forget. A

@@ -31,8 +31,8 @@ pub fn begin_law()
     ensures { BeginsHalf }
 {}
 
-/// Packets and ends of other sessions, and what is taken back of them, leave a session's half as it is, unless a packet takes the session up. The premise is that each
-/// session's client is its own, as `clients_law` of `host_sessions` has it.
+/// Packets and ends of other sessions, and what is taken back of them, leave a session's half as it is, unless a packet takes the session
+/// up. The premise is that each session's client is its own, as `clients_law` of `host_sessions` has it.
 pub fn others_law()
     ensures packets { OthersKeepHalf }
     ensures backs { BacksKeepHalf }
