@@ -59,20 +59,21 @@ PROGRAM = "crates/pageshare/out/pageshare"
 
 
 class Work(typing.NamedTuple):
-    """A step of a command: the words that run it, an option of the command that it takes, and after how many seconds it is ended, if at
-    all."""
+    """A step of a command: the words that run it, an option of the command that it takes, after how many seconds it is ended, if at all,
+    and whether it runs beside those that come after all such steps."""
 
     name: str
     words: list[str]
     takes: str = ""
     seconds: typing.Optional[int] = None
+    is_beside: bool = False
 
 
 LIBRARY = "out/libpageshare.a"
 COMMANDS = {
     "packages": [Work("packages", ["tools/packages.py"], seconds=1200)],
     "test": [
-        Work("rt ci", ["rt", "ci"], takes="--anew"),
+        Work("rt ci", ["tools/ci.py"], takes="--anew"),
         Work("runs", ["checks/quick.py", PROGRAM]),
         Work("libraries of C", ["tools/build.py", "--libraries"]),
         Work("frames of C", ["checks/frames.py"]),
@@ -85,18 +86,18 @@ COMMANDS = {
         Work("map of crates", ["tools/map.py", "--check"]),
     ],
     "edits": [Work("edits' test", ["checks/edits_test.py"]), Work("edits", ["checks/edits.py"], takes="--all")],
-    # (the proofs below come from `make test`; alone this step may take as long as that)
+    # (the proofs below come from `make test`; alone the first step may take as long as that. What runs beside others measures no time.)
     "check": [
         Work("libraries", ["tools/build.py", "--products"]),
         Work("builds", ["checks/builds.py"], seconds=1200),
-        Work("library", ["checks/embed.sh", LIBRARY], seconds=1200),
-        Work("journals", ["checks/embed.py", "100"], seconds=600),
+        Work("library", ["checks/embed.sh", LIBRARY], seconds=1800, is_beside=True),
+        Work("journals", ["checks/embed.py", "100"], seconds=900, is_beside=True),
+        Work("installed", ["checks/package.py", "--installed"], seconds=1200, is_beside=True),
+        Work("fleet", ["checks/fleet.py"], seconds=1200, is_beside=True),
+        Work("python", ["checks/python.py"], seconds=900, is_beside=True),
         Work("windows", ["checks/windows.py", LIBRARY, "5"], seconds=1200),
         Work("monitor", ["checks/guests.py", LIBRARY, "0"], seconds=300),
         Work("host", ["checks/host.py", "--gate"], seconds=2400),
-        Work("installed", ["checks/package.py", "--installed"], seconds=900),
-        Work("fleet", ["checks/fleet.py"], seconds=900),
-        Work("python", ["checks/python.py"], seconds=600),
     ],
 }
 # What each command takes from nothing, in processor minutes, on processors of 2.5 GHz; `check` after `make test`.
@@ -238,6 +239,13 @@ class Progress:
         return lines or [f"-- {it}" for it in self.last] + [f"FAILED: {self.name}: repeat it by `{' '.join(words)}`"]
 
 
+def wait_for(ran: subprocess.Popen[str]) -> float:
+    """Waits until a process has ended. Returns the processor seconds of it and of those that it waited for."""
+    _, status, used = os.wait4(ran.pid, 0)
+    ran.returncode = os.waitstatus_to_exitcode(status)
+    return float(used.ru_utime + used.ru_stime)
+
+
 def used_so_far() -> float:
     used = resource.getrusage(resource.RUSAGE_CHILDREN)
     return used.ru_utime + used.ru_stime
@@ -251,8 +259,9 @@ def end_group(ran: subprocess.Popen[str]) -> None:
         time.sleep(seconds)
 
 
-def run_step(work: Work, words: Sequence[str], log: TextIO) -> tuple[tuple[int, int, int], Progress]:
-    """Runs a step by these words. Returns how many passed, failed and were skipped by its last line; and what was heard of it."""
+def run_step(work: Work, words: Sequence[str], log: TextIO) -> tuple[tuple[int, int, int], Progress, float]:
+    """Runs a step by these words. Returns how many passed, failed and were skipped by its last line; what was heard of it; and the
+    processor seconds that it used."""
     counts, progress = None, Progress(work.name, log)
     how: dict[str, typing.Any] = {"stdin": subprocess.DEVNULL, "stdout": subprocess.PIPE, "stderr": subprocess.STDOUT, "text": True}
     how |= {"errors": "replace", "cwd": TOP, "env": {**os.environ, "RT_JOBS": str(lanes())}, "start_new_session": work.seconds is not None}
@@ -270,10 +279,11 @@ def run_step(work: Work, words: Sequence[str], log: TextIO) -> tuple[tuple[int, 
             raise
         finally:
             clock.cancel()
+        used = wait_for(ran)
     progress.end()
     passed, failed, skipped = counts or (0, 1, 0)
     # (programs that a step runs may leave out something of their own)
-    return (passed, max(failed, int(ran.returncode != 0)), max(skipped, len(progress.left_out))), progress
+    return (passed, max(failed, int(ran.returncode != 0)), max(skipped, len(progress.left_out))), progress, used
 
 
 def remove_libraries() -> None:
@@ -306,39 +316,68 @@ def words_of(work: Work, options: Sequence[str], keeps: bool) -> list[str]:
     return [*work.words, *(it for it in options if it == work.takes and (keeps or it != "--anew"))]
 
 
+class Run:
+    """What is known of a run of a command: when it began, the rows of its steps, and what they said."""
+
+    def __init__(self, command: str, options: Sequence[str], log: TextIO) -> None:
+        self.command, self.options, self.log = command, options, log
+        self.begun, self.watch, self.kit = time.time(), Watch(), load_kit()
+        self.rests = proved.sums_now(self.kit)
+        self.rows: list[list[str]] = []
+        self.sums = [0, 0, 0]
+        self.failures: list[str] = []
+        self.left_out: list[str] = []
+        self.lock = threading.Lock()
+
+    def run(self, work: Work) -> None:
+        """Runs a step, and notes what came of it."""
+        self.watch.phase, start = work.name, time.time()
+        words = words_of(work, self.options, proved.keeps(self.kit))
+        counts, heard, used = run_step(work, words, self.log)
+        proved.note_all(self.kit, heard.proved, self.rests)
+        wall = time.time() - start
+        with self.lock:
+            self.sums = [sum(pair) for pair in zip(self.sums, counts)]
+            self.failures += [*heard.cases, *heard.failures(words)] if counts[1] else []
+            self.left_out += heard.left_out
+            self.rows.append([self.command, "step", work.name, f"{start - self.begun:.0f}", f"{wall:.0f}", f"{used:.0f}", *map(str, counts)])
+            print(f"{work.name}: {counts[0]} passed and {counts[1]} failed in {wall:.0f} s", *heard.cases, sep="\n", flush=True)
+            # (once a step has ended, or beside one that runs no prover, nothing is put into the steps)
+            write_table(self.command, self.begun, self.rows, self.watch.steps)
+
+    def run_each(self, works: Sequence[Work]) -> None:
+        for work in works:
+            self.run(work)
+
+    def run_all(self) -> None:
+        """Runs the steps one after another. Those that may run beside others do so with those behind them."""
+        works = COMMANDS[self.command]
+        beside = [it for it in works if it.is_beside]
+        first = works[: works.index(beside[0])] if beside else works
+        self.run_each(first)
+        others = threading.Thread(target=self.run_each, args=(beside,))
+        others.start()
+        self.run_each(works[len(first) + len(beside) :])
+        others.join()
+
+
 def run_command(command: str, options: Sequence[str]) -> int:
-    begun, watch, sums = time.time(), Watch(), [0, 0, 0]
-    rows: list[list[str]] = []
-    failures: list[str] = []
-    left_out: list[str] = []
-    minutes, kit = MINUTES[command], load_kit()
-    rests = proved.sums_now(kit)
+    minutes = MINUTES[command]
     print(f"make {command}: from nothing this takes some {minutes} processor minutes, {minutes / lanes():.0f} minutes here")
     if command == "test":
         remove_libraries()
     TABLE.parent.mkdir(exist_ok=True)
-    watch.start()
     with open(TABLE.parent / f"gate-{command}.log", "w", encoding="utf-8") as log:
-        for work in COMMANDS[command]:
-            watch.phase, start, before = work.name, time.time(), used_so_far()
-            words = words_of(work, options, proved.keeps(kit))
-            counts, heard = run_step(work, words, log)
-            proved.note_all(kit, heard.proved, rests)
-            sums = [sum(pair) for pair in zip(sums, counts)]
-            failures += [*heard.cases, *heard.failures(words)] if counts[1] else []
-            left_out += heard.left_out
-            wall, used = time.time() - start, used_so_far() - before
-            rows.append([command, "step", work.name, f"{start - begun:.0f}", f"{wall:.0f}", f"{used:.0f}", *map(str, counts)])
-            print(f"{work.name}: {counts[0]} passed and {counts[1]} failed in {wall:.0f} s", *heard.cases, sep="\n", flush=True)
-            # (once a step has ended no prover runs, so nothing is put into the steps meanwhile)
-            write_table(command, begun, rows, watch.steps)
-    watch.is_over.set()
-    watch.join()
-    print(f"make {command} took {time.time() - begun:.0f} s, and {used_so_far() / 60:.0f} processor minutes")
-    ends = "".join(f"{it}\n" for it in [*left_out, *failures])
+        run = Run(command, options, log)
+        run.watch.start()
+        run.run_all()
+    run.watch.is_over.set()
+    run.watch.join()
+    print(f"make {command} took {time.time() - run.begun:.0f} s, and {used_so_far() / 60:.0f} processor minutes")
+    ends = "".join(f"{it}\n" for it in [*run.left_out, *run.failures])
     failed_file(command).write_text(ends)
     print(ends, end="")
-    return close(sums[0], sums[1], sums[2] if command == "check" else sums[2] or None)
+    return close(run.sums[0], run.sums[1], run.sums[2] if command == "check" else run.sums[2] or None)
 
 
 def show() -> list[list[str]]:
