@@ -28,11 +28,13 @@ PREFIXES = ("PAGESHARE_ERROR_", "PAGESHARE_", "PAGESHARE_HOST_ERROR_", "PAGESHAR
 NOT_OF_C = {"FAULT_ANSWER"}
 # Functions that return the numbers of an enum of C, and what the header writes before each name.
 NUMBERS = {
-    "crates/page_lender/src/packed.rt number_of": "PAGESHARE_WINDOW_", "crates/pageshare_window_c/src/order.rt number_of": "PAGESHARE_WINDOW_",
+    r"crates/page_lender/src/packed.rt number\w*": "PAGESHARE_WINDOW_", "crates/pageshare_window_c/src/order.rt number_of": "PAGESHARE_WINDOW_",
     "crates/pageshare_window_c/src/holds.rt step_number": "PAGESHARE_WINDOW_HOLD_",
     "crates/pageshare_window_c/src/finds.rt step_number": "PAGESHARE_WINDOW_FIND_",
     "crates/pageshare_window_c/src/part.rt part_number": "PAGESHARE_WINDOW_",
 }
+# The names of C that aren't spelled as the library's. What has none is no number of its own.
+SPELLED = {"Frame": "", "Off": "SHOWN", "InPlace": "HOMING_IN_PLACE", "Elsewhere": "HOMING", "TakeHome(true)": "COPY_IN_PLACE"}
 # The structs of C for each of the others.
 STRUCTS = {
     "Answer": "pageshare_answer", "Totals": "pageshare_totals", "PageName": "pageshare_page_name", "Lending": "pageshare_lending",
@@ -56,7 +58,7 @@ TYPES = {"bool": "bool", "u8": "uint8_t", "u16": "uint16_t", "u32": "uint32_t", 
 STRUCT = re.compile(r"#\[repr\(C\)\]\n(?:[ #/][^\n]*\n)*(?:pub(?:\(crate\))? )?struct (\w+)[^{\n]*\{\n((?:[^}\n][^\n]*\n)*)\}")
 STATUS = re.compile(r"^pub const (\w+): u32 = (\d+);$", re.M)
 ENUMERATOR = re.compile(r"^\s*(PAGESHARE_\w+) = (\d+)\b", re.M)
-ARM = re.compile(r"^ +\w+::(\w+)(\([^)]*\))? => (\d+),$", re.M)
+ARM = re.compile(r"^ +\w+::(\w+)(\([^)]*\))? => (\d+)(?: \+ target\.number\(\))?,$", re.M)
 MEMBER = re.compile(r"^\s*(?:pub(?:\(crate\))? )?(\w+): ([^\n]+?),$", re.M)
 
 
@@ -91,12 +93,14 @@ def compare_numbers(tally: Tally) -> None:
     of_c = dict(pair for header in HEADERS for pair in ENUMERATOR.findall((TOP / header).read_text()))
     for place, prefix in NUMBERS.items():
         file, function = place.split()
-        body = re.search(rf"fn {function}\(.*?\n}}\n", (TOP / file).read_text(), re.S)
-        arms = ARM.findall(body[0]) if body else []
+        bodies = re.findall(rf"fn {function}\(.*?\n(?:    )?}}\n", (TOP / file).read_text(), re.S)
+        arms = [arm for body in bodies for arm in ARM.findall(body)]
         tally.case(place, [] if arms else ["it has no numbers"])
         for name, inside, number in arms:
-            spelled = re.sub(r"(?<=[a-z])(?=[A-Z])", "_", name).upper().removeprefix("FIND_") + ("_IN_PLACE" if "true" in inside else "")
-            tally.equal(f"{name}{inside} in {file}", of_c.get(prefix + spelled), number)
+            plain = re.sub(r"(?<=[a-z])(?=[A-Z])", "_", name).upper().removeprefix("FIND_")
+            spelled = SPELLED.get(name + inside, SPELLED.get(name, plain))
+            if spelled:
+                tally.equal(f"{name}{inside} in {file}", of_c.get(prefix + spelled), number)
 
 
 def main() -> int:

@@ -206,7 +206,7 @@ static struct came put_back(struct hold *hold, const struct pageshare_window_row
 static void note_end(struct hold *hold, size_t i, bool is_done) {
     struct windows *windows = hold->window->windows;
     const page_entry *page = page_of(hold, i);
-    bool is_zeros = belief_of(page) == PAGESHARE_WINDOW_EQUAL_ZEROS;
+    bool is_zeros = belief_of(page) == (PAGESHARE_WINDOW_EQUAL | PAGESHARE_WINDOW_ZEROS);
     bool is_given = is_zeros || is_lent(page);
     if (is_zeros) {
         note_zero(hold->window, hold->first + i, true);
@@ -305,7 +305,7 @@ static void settle(struct hold *hold) {
 static bool seems_equal(const struct window *window, size_t number) {
     const struct windows *windows = window->windows;
     const page_entry *page = &window->pages[number];
-    if (belief_of(page) == PAGESHARE_WINDOW_ZEROS) return is_zero(address_of(window, number));
+    if (belief_of(page) == (PAGESHARE_WINDOW_READY | PAGESHARE_WINDOW_ZEROS)) return is_zero(address_of(window, number));
     return page->frame < windows->lender.frame_count && windows->frames_at != NULL &&
            are_equal(address_of(window, number), windows->frames_at + bytes_of(page->frame));
 }
@@ -372,7 +372,8 @@ static bool order_hold(struct window *window, size_t number, enum wish wish, boo
     if (is_zeros && !may_give_back(window, number)) return false;
     if (is_zeros && !pageshare_window_choose(page, part_counts(window, number), &facts, true)) return false;
     enum pageshare_window_order order = order_of(window, number);
-    bool is_hold = order == (is_zeros ? PAGESHARE_WINDOW_HOLD_ZEROS : PAGESHARE_WINDOW_HOLD);
+    const unsigned target = is_zeros ? PAGESHARE_WINDOW_ZEROS : 0;
+    bool is_hold = order == (PAGESHARE_WINDOW_HOLD | target);
     bool is_equal = is_hold && is_there && seems_equal(window, number);
     if (is_equal && !part_of(window, number)->whole) return true;
     if (is_hold) note_order(window, number, false);
@@ -612,7 +613,7 @@ static void take_loans(struct window *window, struct batch *batch, const struct 
         uint32_t number = batch->pages[i];
         if (are_got) take_loan(window, number, &loans[i]);
         else note_order(window, number, false);
-        if (belief_of(&window->pages[number]) == PAGESHARE_WINDOW_LOANED) batch->pages[kept++] = number;
+        if (belief_of(&window->pages[number]) == PAGESHARE_WINDOW_READY) batch->pages[kept++] = number;
     }
     unlock_set(window->windows);
     if (window->windows->frames_fall) turn_round(batch->pages, kept);

@@ -195,41 +195,37 @@ struct pageshare_window_taken {
  */
 bool pageshare_window_find_numbers(const struct pageshare_window_taken *taken, size_t windows, uint32_t count, uint32_t *base);
 
-/* What is believed of a page. A slot is the host's name for a loan; a frame has a number in the host's file. */
+/*
+ * What is believed of a page. A slot is the host's name for a loan; a frame has a number in the host's file. From READY to LETTING_GO the page is
+ * on its way to a target: the frame of its loan, or zeros.
+ */
 enum pageshare_window_belief {
     PAGESHARE_WINDOW_PRIVATE = 0,         /* nothing is lent of it, and nothing is asked */
     PAGESHARE_WINDOW_CHOSEN = 1,          /* it is to be lent */
     PAGESHARE_WINDOW_COPIED = 2,          /* its bytes are in the lender's buffer */
-    PAGESHARE_WINDOW_LOANED = 3,          /* the host gave a slot with a frame */
+    PAGESHARE_WINDOW_READY = 3,           /* its target is known: the host gave a slot with a frame, or it may be zeros */
     PAGESHARE_WINDOW_HELD = 4,            /* the same, and writes wait */
-    PAGESHARE_WINDOW_EQUAL = 5,           /* it was equal to the frame, and writes wait */
-    PAGESHARE_WINDOW_LETTING_GO = 6,      /* it isn't to be shown, and writes may wait; then its slot is to be released */
+    PAGESHARE_WINDOW_EQUAL = 5,           /* it was equal to its target, and writes wait */
+    PAGESHARE_WINDOW_LETTING_GO = 6,      /* it isn't to show its target, and writes may wait; then a slot is to be released */
     PAGESHARE_WINDOW_SHOWN = 7,           /* the frame was mapped in its place */
     PAGESHARE_WINDOW_HOMING_IN_PLACE = 8, /* the same, and it is to get a copy of its own where it is */
     PAGESHARE_WINDOW_HOMING = 9,          /* the same, and it may get other memory */
     PAGESHARE_WINDOW_LEAVING = 10,        /* it shows no frame, and its slot is to be released */
-    PAGESHARE_WINDOW_ZEROS = 11,          /* its memory is to be given back, if it is zeros */
-    PAGESHARE_WINDOW_HELD_ZEROS = 12,     /* the same, and writes wait */
-    PAGESHARE_WINDOW_EQUAL_ZEROS = 13,    /* it was zeros, and writes wait */
-    PAGESHARE_WINDOW_PUTTING_BACK = 14    /* it isn't to be given back, and writes may wait */
+    PAGESHARE_WINDOW_ZEROS = 16           /* besides, from READY to LETTING_GO: its target is zeros */
 };
 
-/* What is to be done with a page. */
+/* What is to be done with a page. From HOLD to LET_GO PAGESHARE_WINDOW_ZEROS is added where the page's target is zeros. */
 enum pageshare_window_order {
-    PAGESHARE_WINDOW_WAIT = 0,           /* nothing */
-    PAGESHARE_WINDOW_COPY = 1,           /* copy it to the lender's buffer */
-    PAGESHARE_WINDOW_LEND = 2,           /* ask the host for a loan of what is in the buffer */
-    PAGESHARE_WINDOW_HOLD = 3,           /* let writes wait */
-    PAGESHARE_WINDOW_COMPARE = 4,        /* compare it with its frame */
-    PAGESHARE_WINDOW_MAP = 5,            /* map its frame in its place, and let writes wait no longer */
-    PAGESHARE_WINDOW_LET_GO = 6,         /* let writes wait no longer */
-    PAGESHARE_WINDOW_COPY_IN_PLACE = 7,  /* give it a copy of its own where it is */
-    PAGESHARE_WINDOW_TAKE_HOME = 8,      /* give it other memory of its own, with what it shows */
-    PAGESHARE_WINDOW_RELEASE = 9,        /* say to the host that its slot isn't needed */
-    PAGESHARE_WINDOW_HOLD_ZEROS = 10,    /* let writes wait, since it may be zeros */
-    PAGESHARE_WINDOW_COMPARE_ZEROS = 11, /* compare it with zeros */
-    PAGESHARE_WINDOW_GIVE_BACK = 12,     /* give its memory back, which leaves zeros, and let writes wait no longer */
-    PAGESHARE_WINDOW_PUT_BACK = 13       /* let writes wait no longer: it keeps its memory */
+    PAGESHARE_WINDOW_WAIT = 0,          /* nothing */
+    PAGESHARE_WINDOW_COPY = 1,          /* copy it to the lender's buffer */
+    PAGESHARE_WINDOW_LEND = 2,          /* ask the host for a loan of what is in the buffer */
+    PAGESHARE_WINDOW_HOLD = 3,          /* let writes wait */
+    PAGESHARE_WINDOW_COMPARE = 4,       /* compare it with its target */
+    PAGESHARE_WINDOW_MAP = 5,           /* map its frame in its place, or give its memory back; and let writes wait no longer */
+    PAGESHARE_WINDOW_LET_GO = 6,        /* let writes wait no longer: it keeps its memory */
+    PAGESHARE_WINDOW_COPY_IN_PLACE = 7, /* give it a copy of its own where it is */
+    PAGESHARE_WINDOW_TAKE_HOME = 8,     /* give it other memory of its own, with what it shows */
+    PAGESHARE_WINDOW_RELEASE = 9        /* say to the host that its slot isn't needed */
 };
 
 /*

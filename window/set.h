@@ -58,7 +58,7 @@ static inline bool is_lent(const page_entry *page) {
 }
 /* Whether the host counts a slot for it. */
 static inline bool has_slot(const page_entry *page) {
-    return belief_of(page) >= PAGESHARE_WINDOW_LOANED && belief_of(page) <= PAGESHARE_WINDOW_LEAVING;
+    return belief_of(page) >= PAGESHARE_WINDOW_READY && belief_of(page) <= PAGESHARE_WINDOW_LEAVING;
 }
 /* Whether it shows a frame of a lender that is gone, as far as is known; or was given back as zeros, and has no memory since. */
 static inline bool shows_past(const page_entry *page) { return is_over(page) && is_same(page); }

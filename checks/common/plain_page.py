@@ -7,42 +7,39 @@ from __future__ import annotations
 import dataclasses
 from collections.abc import Iterable
 
-(PRIVATE, CHOSEN, COPIED, LOANED, HELD, EQUAL, LETTING_GO, SHOWN, HOMING_IN_PLACE, HOMING, LEAVING, ZEROS, HELD_ZEROS, EQUAL_ZEROS,
- PUTTING_BACK) = range(15)
-(WAIT, COPY, LEND, HOLD, COMPARE, MAP, LET_GO, COPY_IN_PLACE, TAKE_HOME, RELEASE, HOLD_ZEROS, COMPARE_ZEROS, GIVE_BACK, PUT_BACK) = range(14)
+PRIVATE, CHOSEN, COPIED, READY, HELD, EQUAL, LETTING_GO, SHOWN, HOMING_IN_PLACE, HOMING, LEAVING = range(11)
+WAIT, COPY, LEND, HOLD, COMPARE, MAP, LET_GO, COPY_IN_PLACE, TAKE_HOME, RELEASE = range(10)
+# What is added to both where a page's target is zeros, and not a frame.
+ZEROS = 16
 DONE, REFUSED, LENT, UNKNOWN = "done", "refused", "lent", "unknown"
 
+
+def either(rows: dict[int, int]) -> dict[int, int]:
+    """These rows for a page whose target is a frame, and for one whose target is zeros."""
+    return {before | target: after | target for target in (0, ZEROS) for before, after in rows.items()}
+
+
 # What is to be done with a page of which this is believed; and what is believed once that was done, or wasn't.
-DUE = {
-    CHOSEN: COPY, COPIED: LEND, LOANED: HOLD, HELD: COMPARE, EQUAL: MAP, LETTING_GO: LET_GO, HOMING_IN_PLACE: COPY_IN_PLACE, HOMING: TAKE_HOME,
-    LEAVING: RELEASE, ZEROS: HOLD_ZEROS, HELD_ZEROS: COMPARE_ZEROS, EQUAL_ZEROS: GIVE_BACK, PUTTING_BACK: PUT_BACK,
-}
+DUE = {CHOSEN: COPY, COPIED: LEND, HOMING_IN_PLACE: COPY_IN_PLACE, HOMING: TAKE_HOME, LEAVING: RELEASE} | either(
+    {READY: HOLD, HELD: COMPARE, EQUAL: MAP, LETTING_GO: LET_GO})
 IF_DONE = {
-    CHOSEN: COPIED, LOANED: HELD, HELD: EQUAL, EQUAL: SHOWN, LETTING_GO: LEAVING, HOMING_IN_PLACE: LEAVING, HOMING: LEAVING, LEAVING: PRIVATE,
-    ZEROS: HELD_ZEROS, HELD_ZEROS: EQUAL_ZEROS, EQUAL_ZEROS: PRIVATE, PUTTING_BACK: PRIVATE,
-}
-IF_REFUSED = {
-    CHOSEN: PRIVATE, COPIED: PRIVATE, LOANED: LEAVING, HELD: LETTING_GO, EQUAL: LETTING_GO, LETTING_GO: LETTING_GO, HOMING_IN_PLACE: SHOWN,
-    HOMING: SHOWN, LEAVING: LEAVING, ZEROS: PRIVATE, HELD_ZEROS: PUTTING_BACK, EQUAL_ZEROS: PUTTING_BACK, PUTTING_BACK: PUTTING_BACK,
-}
+    CHOSEN: COPIED, EQUAL: SHOWN, EQUAL | ZEROS: PRIVATE, LETTING_GO: LEAVING, LETTING_GO | ZEROS: PRIVATE, HOMING_IN_PLACE: LEAVING,
+    HOMING: LEAVING, LEAVING: PRIVATE,
+} | either({READY: HELD, HELD: EQUAL})
+# A page that isn't to show its target any more.
+DROPPED = {READY: LEAVING, READY | ZEROS: PRIVATE} | either({HELD: LETTING_GO, EQUAL: LETTING_GO})
+IF_REFUSED = {CHOSEN: PRIVATE, COPIED: PRIVATE, HOMING_IN_PLACE: SHOWN, HOMING: SHOWN, LEAVING: LEAVING} | DROPPED | either(
+    {LETTING_GO: LETTING_GO})
 # And if nothing is known of that: of copies to the buffer, comparisons and mappings it is, and without an answer an order to the host stays open.
-IF_UNKNOWN = {
-    LOANED: LETTING_GO, LETTING_GO: LETTING_GO, HOMING_IN_PLACE: SHOWN, HOMING: SHOWN, ZEROS: PUTTING_BACK, PUTTING_BACK: PUTTING_BACK,
-}
+IF_UNKNOWN = {HOMING_IN_PLACE: SHOWN, HOMING: SHOWN} | either({READY: LETTING_GO, LETTING_GO: LETTING_GO})
 # Once nothing may be lent of it any more; and once its content was given up.
-IF_BARRED = {
-    CHOSEN: PRIVATE, COPIED: PRIVATE, LOANED: LEAVING, HELD: LETTING_GO, EQUAL: LETTING_GO, ZEROS: PRIVATE, HELD_ZEROS: PUTTING_BACK,
-    EQUAL_ZEROS: PUTTING_BACK,
-}
-IF_GIVEN_UP = {
-    CHOSEN: PRIVATE, LOANED: LEAVING, HELD: LETTING_GO, EQUAL: LETTING_GO, SHOWN: LEAVING, HOMING_IN_PLACE: LEAVING, HOMING: LEAVING,
-    ZEROS: PRIVATE, HELD_ZEROS: PUTTING_BACK, EQUAL_ZEROS: PUTTING_BACK,
-}
-WITH_FRAME = {LOANED, HELD, EQUAL, SHOWN, HOMING_IN_PLACE, HOMING}
-WITH_SLOT = WITH_FRAME | {LETTING_GO, LEAVING}
+IF_BARRED = {CHOSEN: PRIVATE, COPIED: PRIVATE} | DROPPED
+IF_GIVEN_UP = {CHOSEN: PRIVATE, SHOWN: LEAVING, HOMING_IN_PLACE: LEAVING, HOMING: LEAVING} | DROPPED
 SHOWING = {SHOWN, HOMING_IN_PLACE, HOMING}
+WITH_FRAME = {READY, HELD, EQUAL, LETTING_GO} | SHOWING
+WITH_SLOT = WITH_FRAME | {LEAVING}
 # Writes to the page may wait.
-WAITING = {HELD, EQUAL, LETTING_GO, HELD_ZEROS, EQUAL_ZEROS, PUTTING_BACK}
+WAITING = set(either({HELD: HELD, EQUAL: EQUAL, LETTING_GO: LETTING_GO}))
 # Orders that are carried out at the host alone.
 AT_HOST = {LEND, RELEASE}
 FACTS = ("called", "pinned", "may_pin", "inherited", "locked", "leaves", "ended")
@@ -85,10 +82,10 @@ class Page:
 
     @staticmethod
     def of(slot: int, frame: int, clue: int, belief: int, looks: int) -> Page:
-        """The page of these 12 bytes. A number that no belief has is that of a private page."""
-        number = belief & 31
+        """The page of these 12 bytes. A stage that no belief has is that of a private page, and a target counts on the way to it alone."""
+        stage, target = belief & 15, belief & ZEROS if READY <= belief & 15 <= LETTING_GO else 0
         return Page(
-            number if number <= PUTTING_BACK else PRIVATE, slot, frame,
+            stage | target if stage <= LEAVING else PRIVATE, slot, frame,
             bool(looks & 1), bool(belief & 32), bool(belief & 64), bool(belief & 128), bool(looks & 2), bool(looks & 4), bool(looks & 8),
             clue & 0x7FFF, looks >> 4 & 3, looks >> 6, bool(clue & 0x8000),
         )
@@ -150,7 +147,7 @@ class Page:
         self.looks, self.asks, self.seen = 0, 0, False
 
     def believe(self, belief: int) -> None:
-        """This is believed from now on. A frame's number is kept only as long as the page may come to show it."""
+        """This is believed from now on. A frame's number is kept until writes wait no longer for what it may have come to show."""
         was, self.belief = self.belief, belief
         if belief in WITH_SLOT - WITH_FRAME:
             self.frame = 0
@@ -160,7 +157,7 @@ class Page:
     def choose(self, facts: Facts, is_zeros: bool) -> bool:
         if not self.is_free(facts):
             return False
-        self.believe(ZEROS if is_zeros else CHOSEN)
+        self.believe(READY | ZEROS if is_zeros else CHOSEN)
         return True
 
     def next(self, facts: Facts) -> int:
@@ -178,7 +175,7 @@ class Page:
 
     def take(self, outcome: str, slot: int = 0, frame: int = 0) -> bool:
         """What came of its order. Returns whether one is open that can have this outcome."""
-        then = {DONE: IF_DONE, REFUSED: IF_REFUSED, UNKNOWN: IF_UNKNOWN, LENT: {COPIED: LOANED}}[outcome]
+        then = {DONE: IF_DONE, REFUSED: IF_REFUSED, UNKNOWN: IF_UNKNOWN, LENT: {COPIED: READY}}[outcome]
         if not self.ordered or self.belief not in then:
             return False
         self.ordered = False
@@ -246,7 +243,7 @@ class Page:
         waits = self.belief in WAITING
         self.past, self.same = self.over, self.same or (self.over and self.belief in SHOWING)
         self.ordered = False
-        self.belief = PUTTING_BACK if waits else PRIVATE
+        self.belief = LETTING_GO | ZEROS if waits else PRIVATE
         self.forget()
 
 

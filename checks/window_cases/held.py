@@ -7,8 +7,7 @@ from typing import Optional
 
 from common.compared import Compared
 from common.plain_page import (
-    DONE, EQUAL, EQUAL_ZEROS, HELD, HELD_ZEROS, LOANED, LOCKED_FACTS, NONE, PRIVATE, REFUSED, SHOWN, UNKNOWN, WAITING, ZEROS, Facts,
-    Page, sums,
+    DONE, EQUAL, HELD, LOCKED_FACTS, NONE, PRIVATE, READY, REFUSED, SHOWN, UNKNOWN, WAITING, ZEROS, Facts, Page, sums,
 )
 from common.window_library import Library, values_of
 from harness import Tally
@@ -37,17 +36,17 @@ class Held:
         """The attempt to hold it came to this."""
         self.place = {NOT_TAKEN: FREE, WATCHED: GUARDED, TAKEN: GUARDED, TAKEN_ASIDE: ASIDE}[taking]
         self.here, self.aside = (None, self.stored) if taking == TAKEN_ASIDE else (self.stored, None)
-        if self.page.belief in (LOANED, ZEROS):
+        if self.page.belief in (READY, READY | ZEROS):
             self.page.take({NOT_TAKEN: REFUSED, WATCHED: UNKNOWN}.get(taking, DONE))
 
     def step(self) -> int:
         """What is done next with it."""
         if self.stuck:
             return OVER
-        at_once = {HELD: COMPARE, EQUAL: MAP, HELD_ZEROS: COMPARE_ZEROS}
+        at_once = {HELD: COMPARE, EQUAL: MAP, HELD | ZEROS: COMPARE_ZEROS}
         if self.page.belief in at_once:
             return at_once[self.page.belief]
-        if self.page.belief == EQUAL_ZEROS:
+        if self.page.belief == EQUAL | ZEROS:
             return {FREE: OVER, GUARDED: GIVE_BACK, ASIDE: END_WATCH, REPLACED: END_WATCH}[self.place]
         return {FREE: OVER, GUARDED: END_WATCH, ASIDE: PUT_BACK, REPLACED: END_WATCH}[self.place]
 
@@ -97,9 +96,9 @@ class Row:
     def some_page(self, place: int) -> Held:
         """A page that is ordered to be held: with a loan, or that may be zeros; or another one."""
         stored, frame = self.chance.randrange(2), self.chance.randrange(2)
-        belief = self.chance.choice([LOANED, LOANED, LOANED, LOANED, ZEROS, ZEROS, PRIVATE, SHOWN])
-        slot, number = (5, place + self.chance.choice([0, 0, 0, 7])) if belief in (LOANED, SHOWN) else (0, 0)
-        return Held(Page(belief, slot, number, ordered=belief in (LOANED, ZEROS)), stored, frame)
+        belief = self.chance.choice([READY, READY, READY, READY, READY | ZEROS, READY | ZEROS, PRIVATE, SHOWN])
+        slot, number = (5, place + self.chance.choice([0, 0, 0, 7])) if belief in (READY, SHOWN) else (0, 0)
+        return Held(Page(belief, slot, number, ordered=belief in (READY, READY | ZEROS)), stored, frame)
 
     def next(self, facts: Facts) -> tuple[int, int, int]:
         """The first step that is due of any page, in order, and how many pages in a row one call can do it with."""

@@ -11,9 +11,8 @@ from typing import Any, Optional
 
 from common.compared import Compared
 from common.plain_page import (
-    CHOSEN, COMPARE, COMPARE_ZEROS, COPIED, COPY_IN_PLACE, EQUAL, EQUAL_ZEROS, FACTS, GIVE_BACK, HELD, HELD_ZEROS, HOLD, HOLD_ZEROS, HOMING,
-    HOMING_IN_PLACE, LEND, LET_GO, LETTING_GO, LOANED, MAP, PRIVATE, PUT_BACK, PUTTING_BACK, RELEASE, SHOWING, SHOWN, TAKE_HOME, WITH_FRAME,
-    WITH_SLOT, ZEROS, Facts,
+    CHOSEN, COMPARE, COPIED, COPY_IN_PLACE, EQUAL, FACTS, HELD, HOLD, HOMING, HOMING_IN_PLACE, LEND, LET_GO, LETTING_GO, MAP, PRIVATE, READY,
+    RELEASE, SHOWING, SHOWN, TAKE_HOME, WITH_FRAME, WITH_SLOT, ZEROS, Facts,
 )
 from common.plain_windows import Event, Window, Windows
 from common.window_library import Library
@@ -24,21 +23,21 @@ PAGES, FIRST = 4, 1
 SEEDS, MOVES = 4, 20_000
 # The events for which an order stands, where that is done.
 EVENTS = {
-    HOLD: ["guard"], HOLD_ZEROS: ["guard"], MAP: ["map"], LET_GO: ["unguard"], PUT_BACK: ["unguard"], RELEASE: ["release"],
-    COMPARE_ZEROS: ["copy"],
+    HOLD: ["guard"], HOLD | ZEROS: ["guard"], MAP: ["map"], LET_GO: ["unguard"], LET_GO | ZEROS: ["unguard"], RELEASE: ["release"],
+    COMPARE | ZEROS: ["copy"],
 }
 LEAST = {"mapped": 50, "released": 100, "given back": 20, "home": 10, "withdrawn": 50, "in vain": 100, "splits": 10, "wholes": 10}
 
 
 def is_right(belief: int, frame: int, page: Window) -> bool:
     """Whether what is believed is right of a page."""
-    if belief in (PRIVATE, CHOSEN, COPIED, LOANED, ZEROS):
+    if belief in (PRIVATE, CHOSEN, COPIED, READY, READY | ZEROS):
         return page.held is None and not page.is_bare() and not page.guarded
-    if belief in (HELD, HELD_ZEROS, PUTTING_BACK):
+    if belief in (HELD, HELD | ZEROS, LETTING_GO | ZEROS):
         return page.held is None and not page.is_bare()
     if belief == EQUAL:
         return page.held == frame and not page.is_bare()
-    if belief == EQUAL_ZEROS:
+    if belief == EQUAL | ZEROS:
         return page.held is None and not page.is_bare() and page.copy == 0
     if belief in (SHOWN, HOMING, HOMING_IN_PLACE):
         return page.held == frame and not page.guarded
@@ -95,7 +94,7 @@ class Life:
             self.must(("write", number, shown))
             if order == TAKE_HOME:
                 self.note("uncover", place, False)
-        elif order == GIVE_BACK:
+        elif order == MAP | ZEROS:
             self.must(("discard", number))
             self.call("give_back", place, True)
         self.seen.equal(f"what the page shows after {order}", self.windows.shown(number), shown)
@@ -106,9 +105,9 @@ class Life:
         frame = self.pages[place].frame
         if order == COMPARE:
             return page.guarded and self.windows.frames[frame] == shown
-        if order == COMPARE_ZEROS:
+        if order == COMPARE | ZEROS:
             return page.guarded and shown == 0
-        return {MAP: page.frame_fresh, GIVE_BACK: page.copy_fresh}.get(order, True)
+        return {MAP: page.frame_fresh, MAP | ZEROS: page.copy_fresh}.get(order, True)
 
     def lends(self, place: int) -> bool:
         """A question for a loan, and what came of it. If its reply is lost the order stays open until the host has no loan for the page."""
@@ -151,7 +150,7 @@ class Life:
             return False
         self.carry_out(place, order)
         self.seen.holds("done", self.call("done", place))
-        name = {MAP: "mapped", GIVE_BACK: "given back", TAKE_HOME: "home", COPY_IN_PLACE: "home"}.get(order)
+        name = {MAP: "mapped", MAP | ZEROS: "given back", TAKE_HOME: "home", COPY_IN_PLACE: "home"}.get(order)
         self.tally[name or "other"] += 1
         return True
 

@@ -8,8 +8,8 @@
 /* Whether this may be believed of a page between looks: nothing that only a step of a look may believe. */
 static inline bool lasts(const page_entry *page) {
     unsigned belief = belief_of(page);
-    bool is_loan = belief == PAGESHARE_WINDOW_LOANED || belief == PAGESHARE_WINDOW_SHOWN || belief == PAGESHARE_WINDOW_LEAVING;
-    bool is_stuck = belief == PAGESHARE_WINDOW_LETTING_GO || belief == PAGESHARE_WINDOW_PUTTING_BACK;
+    bool is_loan = belief == PAGESHARE_WINDOW_READY || belief == PAGESHARE_WINDOW_SHOWN || belief == PAGESHARE_WINDOW_LEAVING;
+    bool is_stuck = (belief & ~(unsigned)PAGESHARE_WINDOW_ZEROS) == PAGESHARE_WINDOW_LETTING_GO;
     return !is_ordered(page) && (belief == PAGESHARE_WINDOW_PRIVATE || is_loan || is_stuck);
 }
 

@@ -812,7 +812,7 @@ static bool goes_on(const page_entry *page, struct pageshare_window_facts why) {
 /* What C reads in a page's bytes is what the library says: which pages show a frame, have a slot, or are held. */
 static void beliefs(void) {
     const struct pageshare_window_facts called = {.called = true}, leaves = {.leaves = true};
-    for (uint8_t belief = 0; belief <= PAGESHARE_WINDOW_PUTTING_BACK; belief++) {
+    for (uint8_t belief = 0; belief <= (PAGESHARE_WINDOW_LETTING_GO | PAGESHARE_WINDOW_ZEROS); belief++) {
         const page_entry page = {.slot = 5, .frame = 7, .belief = belief};
         bool waits = !goes_on(&page, called);
         check(belief_of(&page) == belief && !is_over(&page) && !is_ordered(&page), "a belief is read as it is");

@@ -14,7 +14,11 @@ use Rattle.window_domains.specs.Calls.{releases}
 use Rattle.page_lender.specs.Decisions.{account}
 use Rattle.page_lender.specs.Events.{Believes}
 use Rattle.page_lender.specs.declared.belief.Belief.{Belief}
-use Rattle.page_lender.specs.declared.belief.Belief.TheVariants.{Private, Chosen, Copied, Loaned, Held, Equal, LettingGo, Shown, Homing, Leaving, Zeros, HeldZeros, EqualZeros, PuttingBack}
+use Rattle.page_lender.specs.declared.belief.Belief.TheVariants.{Private, Chosen, Copied, Turning, Shown, Leaving}
+use Rattle.page_lender.specs.declared.belief.Stage.{Stage}
+use Rattle.page_lender.specs.declared.belief.Stage.TheVariants.{Ready, Held, Equal, LettingGo}
+use Rattle.page_lender.specs.declared.belief.Target.{Target}
+use Rattle.page_lender.specs.declared.belief.Target.TheVariants.{Frame, Zeros}
 
 -- `given` says which slot the domain has for each page, if any, and `slots` by which slot a page holds a frame, if by any. Each slot that the
 -- domain has for a page is held by the page's client. No two pages have one. A page holds a frame only by its own.
@@ -23,22 +27,23 @@ pub record Owns (d : DomainView) (client_of : ℕ → ℕ) (given slots : List (
   pub apart : (p q : ℕ) (slot : Slot) → slice_get given p ≡ Some (Some slot) → slice_get given q ≡ Some (Some slot) → p ≡ q
   pub own : (p : ℕ) (slot : Slot) → slice_get slots p ≡ Some (Some slot) → slice_get given p ≡ Some (Some slot)
 
--- by which slot a page holds a frame, where this is believed of it and the domain has this slot for it
+-- by which slot a page holds a frame that has come so far on its way to this target, where the domain has this slot for it
+abbrev pub HoldsAt : Stage → Target → Option Slot → Option Slot → Type 0
+HoldsAt Ready target given held = held ≡ None
+HoldsAt Held target given held = held ≡ None
+HoldsAt Equal (Frame slot n) given held = held ≡ given
+HoldsAt Equal Zeros given held = held ≡ None
+HoldsAt LettingGo (Frame slot n) given held = (held ≡ None) ⊎ (held ≡ given)
+HoldsAt LettingGo Zeros given held = held ≡ None
+
+-- and one of which this is believed
 abbrev pub HoldsBy : Belief → Option Slot → Option Slot → Type 0
 HoldsBy Private given held = held ≡ None
 HoldsBy Chosen given held = held ≡ None
 HoldsBy Copied given held = held ≡ None
-HoldsBy (Loaned slot n) given held = held ≡ None
-HoldsBy (Held slot n) given held = held ≡ None
-HoldsBy (Equal slot n) given held = held ≡ given
-HoldsBy (LettingGo slot) given held = (held ≡ None) ⊎ (held ≡ given)
-HoldsBy (Shown slot n) given held = held ≡ given
-HoldsBy (Homing slot n in_place) given held = held ≡ given
+HoldsBy (Turning stage target) given held = HoldsAt stage target given held
+HoldsBy (Shown slot n homing) given held = held ≡ given
 HoldsBy (Leaving slot) given held = (held ≡ None) ⊎ (held ≡ given)
-HoldsBy Zeros given held = held ≡ None
-HoldsBy HeldZeros given held = held ≡ None
-HoldsBy EqualZeros given held = held ≡ None
-HoldsBy PuttingBack given held = held ≡ None
 
 -- In every domain and mappings that agree, where what is believed of a page is right.
 abbrev pub SlotsByBelief : Type 0
@@ -47,21 +52,17 @@ SlotsByBelief =
     Agrees number d slots w → Owns d client_of given slots → Believes belief w p → slice_get given p ≡ Some own → slice_get slots p ≡ Some held → HoldsBy belief own held
 
 -- the slot that the domain has for the page, by the account that its lender gives
+abbrev pub HasFor : (Slot → ℕ) → Target → Option Slot → Type 0
+HasFor name (Frame slot n) own = option_map name own ≡ Some slot
+HasFor name Zeros own = own ≡ None
+
 abbrev pub HasBy : (Slot → ℕ) → Belief → Option Slot → Type 0
 HasBy name Private own = own ≡ None
 HasBy name Chosen own = own ≡ None
 HasBy name Copied own = own ≡ None
-HasBy name (Loaned slot n) own = option_map name own ≡ Some slot
-HasBy name (Held slot n) own = option_map name own ≡ Some slot
-HasBy name (Equal slot n) own = option_map name own ≡ Some slot
-HasBy name (LettingGo slot) own = option_map name own ≡ Some slot
-HasBy name (Shown slot n) own = option_map name own ≡ Some slot
-HasBy name (Homing slot n in_place) own = option_map name own ≡ Some slot
+HasBy name (Turning stage target) own = HasFor name target own
+HasBy name (Shown slot n homing) own = option_map name own ≡ Some slot
 HasBy name (Leaving slot) own = option_map name own ≡ Some slot
-HasBy name Zeros own = own ≡ None
-HasBy name HeldZeros own = own ≡ None
-HasBy name EqualZeros own = own ≡ None
-HasBy name PuttingBack own = own ≡ None
 
 -- Slots have numbers, by any numbering. Where the account is right of the number of the page's slot, so is this.
 abbrev pub AccountsByBelief : Type 0

@@ -1,11 +1,16 @@
 -- What is believed of one page, beside what is pending of it.
 use Rattle.std.proofs.Common.{◌≡◌, ◌∙◌, ℕ, Bool, true, false, cond, not, ◌&&◌, ◌||◌, inl, inr, Some, refl, ap, sym, subst}
 use Rattle.std.specs.Prelude.{slice_get}
-use Rattle.page_lender.specs.Decisions.{due, is_barred, is_given, is_private, prepared, touches}
+use Rattle.page_lender.specs.Decisions.{due, is_barred, is_given, is_private, order_at, order_home, prepared, touches}
 use Rattle.page_lender.specs.Events.{Believes, DoneByEvents, Done_is_true, Fits, done_events}
 use Rattle.page_lender.specs.Lender.{discarded_of, heard_of}
 use Rattle.page_lender.specs.declared.belief.Belief.{Belief}
-use Rattle.page_lender.specs.declared.belief.Belief.TheVariants.{Private, Chosen, Copied, Loaned, Held, Equal, LettingGo, Shown, Homing, Leaving, Zeros, HeldZeros, EqualZeros, PuttingBack}
+use Rattle.page_lender.specs.declared.belief.Belief.TheVariants.{Private, Chosen, Copied, Turning, Shown, Leaving}
+use Rattle.page_lender.specs.declared.belief.Homing.{Homing}
+use Rattle.page_lender.specs.declared.belief.Homing.TheVariants.{Off, InPlace, Elsewhere}
+use Rattle.page_lender.specs.declared.belief.Stage.{Stage}
+use Rattle.page_lender.specs.declared.belief.Stage.TheVariants.{Ready, Held, Equal, LettingGo}
+use Rattle.page_lender.specs.declared.belief.Target.{Target}
 use Rattle.page_lender.specs.declared.order.Notice.{Notice}
 use Rattle.page_lender.specs.declared.order.Notice.TheVariants.{Written, Discarded}
 use Rattle.page_lender.specs.declared.order.Order.{Order}
@@ -52,17 +57,21 @@ given_not_private : (b : Belief) (order : Order) → order ≡ due b → is_give
 given_not_private Private order e g = let its : is_given (due Private) ≡ true = subst (λ o. is_given o ≡ true) e g in cc
 given_not_private Chosen order e g = refl
 given_not_private Copied order e g = refl
-given_not_private (Loaned slot n) order e g = refl
-given_not_private (Held slot n) order e g = refl
-given_not_private (Equal slot n) order e g = refl
-given_not_private (LettingGo slot) order e g = refl
-given_not_private (Shown slot n) order e g = refl
-given_not_private (Homing slot n in_place) order e g = refl
+given_not_private (Turning stage target) order e g = refl
+given_not_private (Shown slot n homing) order e g = refl
 given_not_private (Leaving slot) order e g = refl
-given_not_private Zeros order e g = refl
-given_not_private HeldZeros order e g = refl
-given_not_private EqualZeros order e g = refl
-given_not_private PuttingBack order e g = refl
+
+-- an order of a page on its way touches the page, and so does one to give a page a copy of its own
+pub turning_touches : (stage : Stage) (target : Target) → touches (order_at stage target) ≡ true
+turning_touches Ready target = refl
+turning_touches Held target = refl
+turning_touches Equal target = refl
+turning_touches LettingGo target = refl
+
+home_touches : (homing : Homing) → is_given (order_home homing) ≡ true → touches (order_home homing) ≡ true
+home_touches Off g = cc
+home_touches InPlace g = refl
+home_touches Elsewhere g = refl
 
 -- an order that is given and doesn't touch its page: what is heard of the page changes nothing that is believed
 heard_same : (b : Belief) (notice : Notice) → is_given (due b) ≡ true → touches (due b) ≡ false → heard_of b notice ≡ b
@@ -70,19 +79,10 @@ heard_same Private notice g t = cc
 heard_same Chosen notice g t = cc
 heard_same Copied Written g t = refl
 heard_same Copied Discarded g t = refl
-heard_same (Loaned slot n) notice g t = cc
-heard_same (Held slot n) notice g t = cc
-heard_same (Equal slot n) notice g t = cc
-heard_same (LettingGo slot) notice g t = cc
-heard_same (Shown slot n) notice g t = cc
-heard_same (Homing slot n true) notice g t = cc
-heard_same (Homing slot n false) notice g t = cc
+heard_same (Turning stage target) notice g t = let no_touch : true ≡ false = sym (turning_touches stage target) ∙ t in cc
+heard_same (Shown slot n homing) notice g t = let no_touch : true ≡ false = sym (home_touches homing g) ∙ t in cc
 heard_same (Leaving slot) Written g t = refl
 heard_same (Leaving slot) Discarded g t = refl
-heard_same Zeros notice g t = cc
-heard_same HeldZeros notice g t = cc
-heard_same EqualZeros notice g t = cc
-heard_same PuttingBack notice g t = cc
 
 -- an open order that isn't busy doesn't touch
 idle_order : (b : Belief) (ordered : Bool) → ordered ≡ true → (ordered && touches (due b)) ≡ false → touches (due b) ≡ false

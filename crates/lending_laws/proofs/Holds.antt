@@ -2,7 +2,9 @@
 use Rattle.std.proofs.Common.{◌≡◌, ◌∙◌, ℕ, ◌+◌, Bool, true, false, List, Some, refl, ap, sym, subst}
 use Rattle.std.specs.Prelude.{option_map}
 use Rattle.page_lender.specs.declared.belief.Belief.{Belief}
-use Rattle.page_lender.specs.declared.belief.Belief.TheVariants.{Held}
+use Rattle.page_lender.specs.declared.belief.Belief.TheVariants.{Turning}
+use Rattle.page_lender.specs.declared.belief.Stage.TheVariants.{Held}
+use Rattle.page_lender.specs.declared.belief.Target.TheVariants.{Frame}
 use Rattle.window_events.specs.Windows.{shown_in}
 use Rattle.window_pages.specs.Bytes.{belief_of}
 use Rattle.window_pages.specs.declared.page.WindowPage.{WindowPage}
@@ -130,7 +132,7 @@ compared_zeros frames b place its is_done x z s d (ends_watch spot) = cc
 pub each_comparison_is_true : EachComparisonIsTrue
 each_comparison_is_true number frames first count i m place spot next slot n y page h d e g f =
     let r : Reads m.world (first + i) (number spot.content) = held_reads number frames first count i m place spot h in
-    let same : frames n ≡ spot.content = memory_own frames h.page place spot h.course (frames n) (compared_memory frames (Held slot n) place Compare true spot next refl refl d) in
+    let same : frames n ≡ spot.content = memory_own frames h.page place spot h.course (frames n) (compared_memory frames (Turning Held (Frame slot n)) place Compare true spot next refl refl d) in
     (g, f ∙ ap (λ v. Some v) (h.agrees.numbered n y f ∙ ap number same ∙ sym (page_shows m.world (first + i) (number spot.content) page r e)))
 
 pub each_zero_is_true : EachZeroIsTrue

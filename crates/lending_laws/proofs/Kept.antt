@@ -13,7 +13,9 @@ use Rattle.window_events.proofs.Whole.{right_at, start_whole}
 use Rattle.page_lender.specs.Decisions.{waiting}
 use Rattle.page_lender.specs.Events.{Believes, DoneByEvents, Fits, done_events}
 use Rattle.page_lender.specs.declared.belief.Belief.{Belief}
-use Rattle.page_lender.specs.declared.belief.Belief.TheVariants.{Private, PuttingBack}
+use Rattle.page_lender.specs.declared.belief.Belief.TheVariants.{Private, Turning}
+use Rattle.page_lender.specs.declared.belief.Stage.TheVariants.{LettingGo}
+use Rattle.page_lender.specs.declared.belief.Target.TheVariants.{Zeros}
 use Rattle.page_lender.specs.declared.order.Order.{Order}
 use Rattle.page_lender.specs.declared.order.Outcome.TheVariants.{Done}
 use Rattle.page_lender.proofs.Kept.{kept_by_guest, kept_by_others}
@@ -171,8 +173,8 @@ happens_kept first count old new h c = record {
 left_fits : (belief : Belief) (frames : List ℕ) (stands : Bool) (page : Page) → Fits belief page → Fits (left_alone belief) (left_page frames stands page)
 left_fits belief frames stands page f = pick (waiting belief) refl where
   pick : (b : Bool) → waiting belief ≡ b → Fits (left_alone belief) (left_page frames stands page)
-  pick true e = subst (λ b. Fits (cond b PuttingBack Private) (left_page frames stands page)) (sym e) (record { holds = refl; view = refl; waits = λ h. cc; copy = refl })
-  pick false e = subst (λ b. Fits (cond b PuttingBack Private) (left_page frames stands page)) (sym e) (record { holds = refl; view = refl; waits = λ h. ap (λ g. g && stands) (f.waits e); copy = refl })
+  pick true e = subst (λ b. Fits (cond b (Turning LettingGo Zeros) Private) (left_page frames stands page)) (sym e) (record { holds = refl; view = refl; waits = λ h. cc; copy = refl })
+  pick false e = subst (λ b. Fits (cond b (Turning LettingGo Zeros) Private) (left_page frames stands page)) (sym e) (record { holds = refl; view = refl; waits = λ h. ap (λ g. g && stands) (f.waits e); copy = refl })
 
 -- it is right over the next one's frames
 left_is_right : (frames next : List ℕ) (stands : Bool) (page : Page) → IsRight frames page → IsRight next (left_page frames stands page)

@@ -7,11 +7,17 @@ use Rattle.window_events.specs.Windows.{Mappings, own_content, shown_in, step}
 use Rattle.window_events.specs.declared.event.Event.{Event}
 use Rattle.window_events.specs.declared.event.Event.TheVariants.{Write, Guard, Unguard, Copy, Lend, Map, Release, Trim, Discard}
 use Rattle.window_events.specs.declared.page.Page.{Page}
-use Rattle.page_lender.specs.Decisions.{due}
+use Rattle.page_lender.specs.Decisions.{due, order_at, order_home}
 use Rattle.page_lender.specs.Events.{Believes, Done_is_true, Fits, done_events, is_of}
 use Rattle.page_lender.proofs.Kept.{kept_by_others}
 use Rattle.page_lender.specs.declared.belief.Belief.{Belief}
-use Rattle.page_lender.specs.declared.belief.Belief.TheVariants.{Private, Chosen, Copied, Loaned, Held, Equal, LettingGo, Shown, Homing, Leaving, Zeros, HeldZeros, EqualZeros, PuttingBack}
+use Rattle.page_lender.specs.declared.belief.Belief.TheVariants.{Private, Chosen, Copied, Turning, Shown, Leaving}
+use Rattle.page_lender.specs.declared.belief.Homing.{Homing}
+use Rattle.page_lender.specs.declared.belief.Homing.TheVariants.{Off, InPlace, Elsewhere}
+use Rattle.page_lender.specs.declared.belief.Stage.{Stage}
+use Rattle.page_lender.specs.declared.belief.Stage.TheVariants.{Ready, Held, Equal, LettingGo}
+use Rattle.page_lender.specs.declared.belief.Target.{Target}
+use Rattle.page_lender.specs.declared.belief.Target.TheVariants.{Frame, Zeros}
 use Rattle.page_lender.specs.declared.order.Order.{Order}
 use Rattle.lending_laws.specs.Histories.{Reads, stored_after}
 use Rattle.lending_laws.proofs.Pages.{event_reads}
@@ -34,17 +40,14 @@ pub done_apart : (q p x : ℕ) (order : Order) → nat_eq q p ≡ false → Apar
 done_apart q p x Order.Wait d = tt
 done_apart q p x Order.Copy d = tt
 done_apart q p x Order.Lend d = tt
-done_apart q p x Order.Hold d = (d, tt)
-done_apart q p x (Order.Compare n) d = (d, (d, tt))
-done_apart q p x (Order.Map n) d = (d, tt)
-done_apart q p x Order.LetGo d = (d, tt)
-done_apart q p x Order.CopyInPlace d = (d, tt)
-done_apart q p x Order.TakeHome d = (d, tt)
+done_apart q p x (Order.Hold target) d = (d, tt)
+done_apart q p x (Order.Compare (Frame slot n)) d = (d, (d, tt))
+done_apart q p x (Order.Compare Zeros) d = (d, tt)
+done_apart q p x (Order.Map (Frame slot n)) d = (d, tt)
+done_apart q p x (Order.Map Zeros) d = (d, tt)
+done_apart q p x (Order.LetGo target) d = (d, tt)
+done_apart q p x (Order.TakeHome in_place) d = (d, tt)
 done_apart q p x (Order.Release slot) d = (d, tt)
-done_apart q p x Order.HoldZeros d = (d, tt)
-done_apart q p x Order.CompareZeros d = (d, tt)
-done_apart q p x Order.GiveBack d = (d, tt)
-done_apart q p x Order.PutBack d = (d, tt)
 
 -- events that store nothing in page p
 abbrev pub Quiet : ℕ → List Event → Type 0
@@ -104,22 +107,25 @@ discard_reads : (w : Mappings) (p x : ℕ) → 0 ≡ x → Reads w p x → Reads
 discard_reads w p x e r =
     played_one w (Discard p) p x (subst (λ v. Reads (unwrap_or (step w (Discard p)) w) p v) (stored_again (is_some (step w (Discard p))) (nat_eq p p) x 0 e) (event_reads w p x (Discard p) r))
 
-due_zeros : (b : Belief) → Order.GiveBack ≡ due b → b ≡ EqualZeros
+turning_zeros : (stage : Stage) (target : Target) → Order.Map Zeros ≡ order_at stage target → Turning stage target ≡ Turning Equal Zeros
+turning_zeros Ready target e = cc
+turning_zeros Held target e = cc
+turning_zeros Equal (Frame slot n) e = cc
+turning_zeros Equal Zeros e = refl
+turning_zeros LettingGo target e = cc
+
+home_zeros : (homing : Homing) → Order.Map Zeros ≡ order_home homing → ⊥
+home_zeros Off e = cc
+home_zeros InPlace e = cc
+home_zeros Elsewhere e = cc
+
+due_zeros : (b : Belief) → Order.Map Zeros ≡ due b → b ≡ Turning Equal Zeros
 due_zeros Private e = cc
 due_zeros Chosen e = cc
 due_zeros Copied e = cc
-due_zeros (Loaned slot n) e = cc
-due_zeros (Held slot n) e = cc
-due_zeros (Equal slot n) e = cc
-due_zeros (LettingGo slot) e = cc
-due_zeros (Shown slot n) e = cc
-due_zeros (Homing slot n true) e = cc
-due_zeros (Homing slot n false) e = cc
+due_zeros (Turning stage target) e = turning_zeros stage target e
+due_zeros (Shown slot n homing) e = absurd (home_zeros homing e)
 due_zeros (Leaving slot) e = cc
-due_zeros Zeros e = cc
-due_zeros HeldZeros e = cc
-due_zeros EqualZeros e = refl
-due_zeros PuttingBack e = cc
 
 -- a page that is there reads what it shows
 pub page_shows : (w : Mappings) (p x : ℕ) (page : Page) → Reads w p x → slice_get w.pages p ≡ Some page → shown_in w.frames page.view ≡ x
@@ -129,11 +135,11 @@ page_shows w p x page r e =
     ap (λ q. shown_in w.frames q.view) (sym same) ∙ r.shows
 
 -- memory that is given back was found to be zeros, and its guard stood
-was_zeros : (w : Mappings) (p x : ℕ) (b : Belief) (page : Page) → Reads w p x → slice_get w.pages p ≡ Some page → Believes b w p → Order.GiveBack ≡ due b → page.copy_fresh ≡ true → 0 ≡ x
+was_zeros : (w : Mappings) (p x : ℕ) (b : Belief) (page : Page) → Reads w p x → slice_get w.pages p ≡ Some page → Believes b w p → Order.Map Zeros ≡ due b → page.copy_fresh ≡ true → 0 ≡ x
 was_zeros w p x b page r e f d fresh =
     let found : slice_get w.pages p ≡ Some r.page = r.there in
     let same : page ≡ r.page = cc in
-    let fits : Fits EqualZeros page = subst (λ v. Fits v page) (due_zeros b d) (fits_at p b w page f e) in
+    let fits : Fits (Turning Equal Zeros) page = subst (λ v. Fits v page) (due_zeros b d) (fits_at p b w page f e) in
     r.right.copied 0 (subst (λ q. q.copy_fresh ≡ true) same fresh) (subst (λ q. q.copy ≡ Some 0) same fits.copy) ∙ r.last
 
 -- an order that is carried out, and truly so, leaves what its page reads
@@ -142,14 +148,11 @@ pub done_reads : (w : Mappings) (p x : ℕ) (b : Belief) (page : Page) (order : 
 done_reads w p x b page Order.Wait r e f d t = r
 done_reads w p x b page Order.Copy r e f d t = r
 done_reads w p x b page Order.Lend r e f d t = r
-done_reads w p x b page Order.Hold r e f d t = quiet_reads p x (Guard p ∷ []) w (refl, tt) r
-done_reads w p x b page (Order.Compare n) r e f d t = quiet_reads p x (Copy p ∷ Lend p n ∷ []) w (refl, (refl, tt)) r
-done_reads w p x b page (Order.Map n) r e f d t = quiet_reads p x (Map p ∷ []) w (refl, tt) r
-done_reads w p x b page Order.LetGo r e f d t = quiet_reads p x (Unguard p ∷ []) w (refl, tt) r
-done_reads w p x b page Order.CopyInPlace r e f d t = write_reads w p x (shown_in w.frames page.view) (page_shows w p x page r e) r
-done_reads w p x b page Order.TakeHome r e f d t = write_reads w p x (shown_in w.frames page.view) (page_shows w p x page r e) r
+done_reads w p x b page (Order.Hold target) r e f d t = quiet_reads p x (Guard p ∷ []) w (refl, tt) r
+done_reads w p x b page (Order.Compare (Frame slot n)) r e f d t = quiet_reads p x (Copy p ∷ Lend p n ∷ []) w (refl, (refl, tt)) r
+done_reads w p x b page (Order.Compare Zeros) r e f d t = quiet_reads p x (Copy p ∷ []) w (refl, tt) r
+done_reads w p x b page (Order.Map (Frame slot n)) r e f d t = quiet_reads p x (Map p ∷ []) w (refl, tt) r
+done_reads w p x b page (Order.Map Zeros) r e f d t = discard_reads w p x (was_zeros w p x b page r e f d t) r
+done_reads w p x b page (Order.LetGo target) r e f d t = quiet_reads p x (Unguard p ∷ []) w (refl, tt) r
+done_reads w p x b page (Order.TakeHome in_place) r e f d t = write_reads w p x (shown_in w.frames page.view) (page_shows w p x page r e) r
 done_reads w p x b page (Order.Release slot) r e f d t = quiet_reads p x (Release p ∷ []) w (refl, tt) r
-done_reads w p x b page Order.HoldZeros r e f d t = quiet_reads p x (Guard p ∷ []) w (refl, tt) r
-done_reads w p x b page Order.CompareZeros r e f d t = quiet_reads p x (Copy p ∷ []) w (refl, tt) r
-done_reads w p x b page Order.GiveBack r e f d t = discard_reads w p x (was_zeros w p x b page r e f d t) r
-done_reads w p x b page Order.PutBack r e f d t = quiet_reads p x (Unguard p ∷ []) w (refl, tt) r

@@ -13,6 +13,7 @@ use Rattle.window_events.specs.declared.page.View.{View}
 use Rattle.window_events.specs.declared.page.View.TheVariants.{Own, Over}
 use Rattle.page_lender.specs.Events.{Believes, done_events}
 use Rattle.page_lender.specs.declared.belief.Belief.TheVariants.{Private}
+use Rattle.page_lender.specs.declared.belief.Target.TheVariants.{Frame, Zeros}
 use Rattle.page_lender.specs.declared.order.Order.{Order}
 use Rattle.page_lender.proofs.Kept.{set_own}
 use Rattle.window_pages.specs.Bytes.{belief_of, known_of}
@@ -165,50 +166,39 @@ abbrev pub is_mapping : Order → Bool
 is_mapping Order.Wait = false
 is_mapping Order.Copy = false
 is_mapping Order.Lend = false
-is_mapping Order.Hold = false
-is_mapping (Order.Compare n) = false
-is_mapping (Order.Map n) = true
-is_mapping Order.LetGo = false
-is_mapping Order.CopyInPlace = false
-is_mapping Order.TakeHome = false
+is_mapping (Order.Hold target) = false
+is_mapping (Order.Compare target) = false
+is_mapping (Order.Map (Frame slot n)) = true
+is_mapping (Order.Map Zeros) = false
+is_mapping (Order.LetGo target) = false
+is_mapping (Order.TakeHome in_place) = false
 is_mapping (Order.Release slot) = false
-is_mapping Order.HoldZeros = false
-is_mapping Order.CompareZeros = false
-is_mapping Order.GiveBack = false
-is_mapping Order.PutBack = false
 
 -- the events of page q's order don't map page p, unless it is that page's mapping
 done_no_map : (p q x : ℕ) (order : Order) → (is_mapping order ≡ true → nat_eq q p ≡ false) → NoMap p (done_events q x order)
 done_no_map p q x Order.Wait n = tt
 done_no_map p q x Order.Copy n = tt
 done_no_map p q x Order.Lend n = tt
-done_no_map p q x Order.Hold n = (refl, tt)
-done_no_map p q x (Order.Compare m) n = (refl, (refl, tt))
-done_no_map p q x (Order.Map m) n = (n refl, tt)
-done_no_map p q x Order.LetGo n = (refl, tt)
-done_no_map p q x Order.CopyInPlace n = (refl, tt)
-done_no_map p q x Order.TakeHome n = (refl, tt)
+done_no_map p q x (Order.Hold target) n = (refl, tt)
+done_no_map p q x (Order.Compare (Frame slot m)) n = (refl, (refl, tt))
+done_no_map p q x (Order.Compare Zeros) n = (refl, tt)
+done_no_map p q x (Order.Map (Frame slot m)) n = (n refl, tt)
+done_no_map p q x (Order.Map Zeros) n = (refl, tt)
+done_no_map p q x (Order.LetGo target) n = (refl, tt)
+done_no_map p q x (Order.TakeHome in_place) n = (refl, tt)
 done_no_map p q x (Order.Release slot) n = (refl, tt)
-done_no_map p q x Order.HoldZeros n = (refl, tt)
-done_no_map p q x Order.CompareZeros n = (refl, tt)
-done_no_map p q x Order.GiveBack n = (refl, tt)
-done_no_map p q x Order.PutBack n = (refl, tt)
 
-mapping_is : (order : Order) → is_mapping order ≡ true → (n : ℕ) × (order ≡ Order.Map n)
+mapping_is : (order : Order) → is_mapping order ≡ true → (slot : ℕ) × (n : ℕ) × (order ≡ Order.Map (Frame slot n))
 mapping_is Order.Wait e = cc
 mapping_is Order.Copy e = cc
 mapping_is Order.Lend e = cc
-mapping_is Order.Hold e = cc
-mapping_is (Order.Compare m) e = cc
-mapping_is (Order.Map m) e = (m, refl)
-mapping_is Order.LetGo e = cc
-mapping_is Order.CopyInPlace e = cc
-mapping_is Order.TakeHome e = cc
+mapping_is (Order.Hold target) e = cc
+mapping_is (Order.Compare target) e = cc
+mapping_is (Order.Map (Frame slot m)) e = (slot, m, refl)
+mapping_is (Order.Map Zeros) e = cc
+mapping_is (Order.LetGo target) e = cc
+mapping_is (Order.TakeHome in_place) e = cc
 mapping_is (Order.Release slot) e = cc
-mapping_is Order.HoldZeros e = cc
-mapping_is Order.CompareZeros e = cc
-mapping_is Order.GiveBack e = cc
-mapping_is Order.PutBack e = cc
 
 others_no_map : (p : ℕ) (e : Event) → IsOthers p e → is_map p e ≡ false
 others_no_map p (Write q x) o = refl
@@ -226,7 +216,7 @@ others_no_map p (Discard q) o = refl
 
 -- no mapping is untold
 abbrev pub IsNotMapped : Pending → Type 0
-IsNotMapped pending = (n : ℕ) → pending ≡ CarriedOut (Order.Map n) → ⊥
+IsNotMapped pending = (slot n : ℕ) → pending ≡ CarriedOut (Order.Map (Frame slot n)) → ⊥
 
 pub record AreNoted (first : ℕ) (m : Moment) : Type 0 where
   pub noted : (i : ℕ) (x : WindowPage) → slice_get m.pages i ≡ Some x → bare_at m.world (first + i) ≡ true → IsNotMapped (m.orders i) → (known_of x).over ≡ true
@@ -273,9 +263,9 @@ call_over p w x y before next (notes old new pending k) b o =
 
 -- an order that was carried out is still pending after a call
 still_mapped : (p : ℕ) (w : Mappings) (x y : WindowPage) (before next : Pending) → Calls p w x before y next → IsFine p (belief_of x) (known_of x).ordered w before → IsNotMapped next → IsNotMapped before
-still_mapped p w x y before next c f n m e =
-    let g : IsFine p (belief_of x) (known_of x).ordered w (CarriedOut (Order.Map m)) = subst (λ v. IsFine p (belief_of x) (known_of x).ordered w v) e f in
-    n m ((call_unmoved p w x y before next (Order.Map m) c g.0).pending ∙ e)
+still_mapped p w x y before next c f n slot m e =
+    let g : IsFine p (belief_of x) (known_of x).ordered w (CarriedOut (Order.Map (Frame slot m))) = subst (λ v. IsFine p (belief_of x) (known_of x).ordered w v) e f in
+    n slot m ((call_unmoved p w x y before next (Order.Map (Frame slot m)) c g.0).pending ∙ e)
 
 one_noted : (first k : ℕ) (y z : WindowPage) (old new : Moment) → OneChanges k y z old.pages new.pages → new.world ≡ old.world → ((j : ℕ) → (j ≡ k → ⊥) → new.orders j ≡ old.orders j) → AreNoted first old →
     (bare_at old.world (first + k) ≡ true → IsNotMapped (new.orders k) → (known_of z).over ≡ true) → AreNoted first new
@@ -301,13 +291,13 @@ calls_noted first count k old new f h c =
     (h.noted k c.before c.pages.before s (still_mapped (first + k) old.world c.before c.after (old.orders k) c.pending c.call fine (subst (λ v. IsNotMapped v) c.orders.own n))))
 
 -- what is pending is an untold mapping, or isn't
-told_over : (pending : Pending) (over : Bool) → ((n : ℕ) → pending ≡ CarriedOut (Order.Map n) → over ≡ true) → (IsNotMapped pending → over ≡ true) → over ≡ true
-told_over Nothing over yet h = h (λ n e. cc)
-told_over (Given order) over yet h = h (λ n e. cc)
+told_over : (pending : Pending) (over : Bool) → ((slot n : ℕ) → pending ≡ CarriedOut (Order.Map (Frame slot n)) → over ≡ true) → (IsNotMapped pending → over ≡ true) → over ≡ true
+told_over Nothing over yet h = h (λ slot n e. cc)
+told_over (Given order) over yet h = h (λ slot n e. cc)
 told_over (CarriedOut order) over yet h = pick (is_mapping order) refl where
   pick : (b : Bool) → is_mapping order ≡ b → over ≡ true
-  pick true e = let is = mapping_is order e in yet is.0 (ap (λ v. CarriedOut v) is.1)
-  pick false e = h (λ n s. let same : order ≡ Order.Map n = cc in not_both (is_mapping order) e (ap (λ v. is_mapping v) same))
+  pick true e = let is = mapping_is order e in yet is.0 is.1 (ap (λ v. CarriedOut v) is.2)
+  pick false e = h (λ slot n s. let same : order ≡ Order.Map (Frame slot n) = cc in not_both (is_mapping order) e (ap (λ v. is_mapping v) same))
 
 told_noted : (may_give : (ℕ → Bool) → ℕ → Bool) (first k : ℕ) (old new : Moment) → AreNoted first old → IsToldAt may_give k old new → AreNoted first new
 told_noted may_give first k old new h c =
@@ -322,9 +312,9 @@ carried_noted first count k old new h c = record { noted = λ i x e s n. pick i 
       let is : i ≡ k = eqb-true i k t in
       let at_k : IsNotMapped (CarriedOut c.order) = subst (λ v. IsNotMapped v) c.orders.own (subst (λ j. IsNotMapped (new.orders j)) is n) in
       let none : NoMap (first + i) (done_events (first + k) (shown_in old.world.frames c.page.view) c.order) =
-      done_no_map (first + i) (first + k) (shown_in old.world.frames c.page.view) c.order (λ m. let its = mapping_is c.order m in absurd (at_k its.0 (ap (λ v. CarriedOut v) its.1))) in
+      done_no_map (first + i) (first + k) (shown_in old.world.frames c.page.view) c.order (λ m. let its = mapping_is c.order m in absurd (at_k its.0 its.1 (ap (λ v. CarriedOut v) its.2))) in
       h.noted i x e (played_bare (first + i) (done_events (first + k) (shown_in old.world.frames c.page.view) c.order) old.world none s)
-      (λ m f. let given : old.orders i ≡ Given c.order = ap (λ j. old.orders j) is ∙ c.given in let other : Given c.order ≡ CarriedOut (Order.Map m) = sym given ∙ f in cc)
+      (λ slot m f. let given : old.orders i ≡ Given c.order = ap (λ j. old.orders j) is ∙ c.given in let other : Given c.order ≡ CarriedOut (Order.Map (Frame slot m)) = sym given ∙ f in cc)
   pick i x e s n false t =
       let ne : i ≡ k → ⊥ = eqb-false i k t in
       let differ : nat_eq (first + k) (first + i) ≡ false = differs (first + k) (first + i) (λ f. ne (omega (arith, f))) in

@@ -319,17 +319,12 @@ after_had : (slots : ℕ → ℕ → Bool) (m s : ℕ) (order : Order) (outcome 
 after_had slots m s Order.Wait outcome g e = inl e
 after_had slots m s Order.Copy outcome g e = inl e
 after_had slots m s Order.Lend outcome g e = lent_had slots m s outcome g e
-after_had slots m s Order.Hold outcome g e = inl e
-after_had slots m s (Order.Compare n) outcome g e = inl e
-after_had slots m s (Order.Map n) outcome g e = inl e
-after_had slots m s Order.LetGo outcome g e = inl e
-after_had slots m s Order.CopyInPlace outcome g e = inl e
-after_had slots m s Order.TakeHome outcome g e = inl e
+after_had slots m s (Order.Hold target) outcome g e = inl e
+after_had slots m s (Order.Compare target) outcome g e = inl e
+after_had slots m s (Order.Map target) outcome g e = inl e
+after_had slots m s (Order.LetGo target) outcome g e = inl e
+after_had slots m s (Order.TakeHome in_place) outcome g e = inl e
 after_had slots m s (Order.Release slot) outcome g e = inl (released_had (slots m) slot s outcome e)
-after_had slots m s Order.HoldZeros outcome g e = inl e
-after_had slots m s Order.CompareZeros outcome g e = inl e
-after_had slots m s Order.GiveBack outcome g e = inl e
-after_had slots m s Order.PutBack outcome g e = inl e
 
 told_had : (m i : ℕ) (old new : Process) → IsToldIn true m i old new → HadOrFree m old new
 told_had m i old new c slot e = after_had old.slots m slot c.told.order c.told.outcome c.apart (ap (λ v. v slot) (sym c.told.slots) ∙ e)

@@ -2,11 +2,18 @@
 use Rattle.std.proofs.Common.{◌≡◌, ◌∙◌, ℕ, zero, suc, ◌+◌, Bool, true, false, cond, not, ◌&&◌, List, inl, inr, Option, Some, None, refl, ap, sym, subst}
 use Rattle.std.specs.Prelude.{nat_eq, option_and_then, replicate, slice_get}
 use Rattle.std.proofs.lemmas.Bool.{eq-eqb, eqb-false, eqb-true}
-use Rattle.page_lender.specs.Decisions.{account, account_then, due, is_barred, is_private, touches, waiting}
+use Rattle.page_lender.specs.Decisions.{account, account_then, due, is_barred, is_private, order_at, order_home, touches, waiting}
 use Rattle.page_lender.specs.Events.{Fits}
 use Rattle.page_lender.specs.Lender.{discarded_of}
+use Rattle.page_lender.proofs.Outcomes.{dropped_account}
 use Rattle.page_lender.specs.declared.belief.Belief.{Belief}
-use Rattle.page_lender.specs.declared.belief.Belief.TheVariants.{Private, Chosen, Copied, Loaned, Held, Equal, LettingGo, Shown, Homing, Leaving, Zeros, HeldZeros, EqualZeros, PuttingBack}
+use Rattle.page_lender.specs.declared.belief.Belief.TheVariants.{Private, Chosen, Copied, Turning, Shown, Leaving}
+use Rattle.page_lender.specs.declared.belief.Homing.{Homing}
+use Rattle.page_lender.specs.declared.belief.Homing.TheVariants.{Off, InPlace, Elsewhere}
+use Rattle.page_lender.specs.declared.belief.Stage.{Stage}
+use Rattle.page_lender.specs.declared.belief.Stage.TheVariants.{Ready, Held, Equal, LettingGo}
+use Rattle.page_lender.specs.declared.belief.Target.{Target}
+use Rattle.page_lender.specs.declared.belief.Target.TheVariants.{Zeros}
 use Rattle.page_lender.specs.declared.order.Order.{Order}
 use Rattle.page_lender.specs.declared.order.Outcome.{Outcome}
 use Rattle.page_lender.specs.declared.order.Outcome.TheVariants.{Done, Lent, Refused, Unknown}
@@ -21,7 +28,7 @@ use Rattle.window_pages.specs.Lives.{OneChanges, WasDetached}
 use Rattle.window_pages.specs.declared.page.WindowPage.{WindowPage}
 use Rattle.lending_laws.specs.Histories.{Begins, Calls, CallsAt, CarriedOut, Given, GivesWhatItMay, IsTold, IsToldAt, Moment, NextComes, Pending, begins, calls, carries_out, chooses, gives_up, happens, hears, is_told, next_comes, notes, only_free, orders, slots_after, with_slot, without_slot}
 use Rattle.lending_laws.specs.Slots.{EachSlotIsOnes, NoSlotIsLost, NoneIsReleasedShown, slot_of}
-use Rattle.lending_laws.proofs.Beliefs.{IsFine, fits_at}
+use Rattle.lending_laws.proofs.Beliefs.{IsFine, fits_at, turning_touches}
 use Rattle.lending_laws.proofs.Kept.{IsKept, history_kept}
 
 -- ---- how one page's account changes, and the slots with it
@@ -35,6 +42,18 @@ free_slot : (b : Bool) → not b ≡ true → b ≡ false
 free_slot true e = cc
 free_slot false e = refl
 
+-- an outcome of an order at the page leaves the account
+same_account : (order : Order) (outcome : Outcome) (old new : Option ℕ) (slots : ℕ → Bool) → touches order ≡ true → new ≡ account_then order outcome old → Turns old new slots (slots_after order outcome slots)
+same_account Order.Wait outcome old new slots t e = cc
+same_account Order.Copy outcome old new slots t e = stays e refl
+same_account Order.Lend outcome old new slots t e = cc
+same_account (Order.Hold target) outcome old new slots t e = stays e refl
+same_account (Order.Compare target) outcome old new slots t e = stays e refl
+same_account (Order.Map target) outcome old new slots t e = stays e refl
+same_account (Order.LetGo target) outcome old new slots t e = stays e refl
+same_account (Order.TakeHome in_place) outcome old new slots t e = stays e refl
+same_account (Order.Release slot) outcome old new slots t e = cc
+
 told_turns : (b : Belief) (outcome : Outcome) (new : Option ℕ) (slots : ℕ → Bool) → new ≡ account_then (due b) outcome (account b) → GivesWhatItMay only_free slots outcome →
     Turns (account b) new slots (slots_after (due b) outcome slots)
 told_turns Private outcome new slots e g = stays e refl
@@ -43,21 +62,14 @@ told_turns Copied Done new slots e g = stays e refl
 told_turns Copied (Lent slot n) new slots e g = gains slot refl e (free_slot (slots slot) g) refl
 told_turns Copied Refused new slots e g = stays e refl
 told_turns Copied Unknown new slots e g = stays e refl
-told_turns (Loaned slot n) outcome new slots e g = stays e refl
-told_turns (Held slot n) outcome new slots e g = stays e refl
-told_turns (Equal slot n) outcome new slots e g = stays e refl
-told_turns (LettingGo slot) outcome new slots e g = stays e refl
-told_turns (Shown slot n) outcome new slots e g = stays e refl
-told_turns (Homing slot n true) outcome new slots e g = stays e refl
-told_turns (Homing slot n false) outcome new slots e g = stays e refl
+told_turns (Turning stage target) outcome new slots e g = same_account (order_at stage target) outcome (account (Turning stage target)) new slots (turning_touches stage target) e
+told_turns (Shown slot n Off) outcome new slots e g = stays e refl
+told_turns (Shown slot n InPlace) outcome new slots e g = stays e refl
+told_turns (Shown slot n Elsewhere) outcome new slots e g = stays e refl
 told_turns (Leaving slot) Done new slots e g = loses slot refl e refl
 told_turns (Leaving slot) (Lent other n) new slots e g = stays e refl
 told_turns (Leaving slot) Refused new slots e g = stays e refl
 told_turns (Leaving slot) Unknown new slots e g = stays e refl
-told_turns Zeros outcome new slots e g = stays e refl
-told_turns HeldZeros outcome new slots e g = stays e refl
-told_turns EqualZeros outcome new slots e g = stays e refl
-told_turns PuttingBack outcome new slots e g = stays e refl
 
 -- ---- one page changes
 
@@ -166,34 +178,18 @@ chosen_account Private true true = refl
 chosen_account Private true false = refl
 chosen_account Chosen rest z = refl
 chosen_account Copied rest z = refl
-chosen_account (Loaned slot n) rest z = refl
-chosen_account (Held slot n) rest z = refl
-chosen_account (Equal slot n) rest z = refl
-chosen_account (LettingGo slot) rest z = refl
-chosen_account (Shown slot n) rest z = refl
-chosen_account (Homing slot n in_place) rest z = refl
+chosen_account (Turning stage target) rest z = refl
+chosen_account (Shown slot n homing) rest z = refl
 chosen_account (Leaving slot) rest z = refl
-chosen_account Zeros rest z = refl
-chosen_account HeldZeros rest z = refl
-chosen_account EqualZeros rest z = refl
-chosen_account PuttingBack rest z = refl
 
 discarded_account : (b : Belief) (busy : Bool) → account (cond busy b (discarded_of b)) ≡ account b
 discarded_account b true = refl
 discarded_account Private false = refl
 discarded_account Chosen false = refl
 discarded_account Copied false = refl
-discarded_account (Loaned slot n) false = refl
-discarded_account (Held slot n) false = refl
-discarded_account (Equal slot n) false = refl
-discarded_account (LettingGo slot) false = refl
-discarded_account (Shown slot n) false = refl
-discarded_account (Homing slot n in_place) false = refl
+discarded_account (Turning stage target) false = dropped_account stage target
+discarded_account (Shown slot n homing) false = refl
 discarded_account (Leaving slot) false = refl
-discarded_account Zeros false = refl
-discarded_account HeldZeros false = refl
-discarded_account EqualZeros false = refl
-discarded_account PuttingBack false = refl
 
 call_account : (p : ℕ) (w : Mappings) (x y : WindowPage) (before next : Pending) → Calls p w x before y next → account (belief_of y) ≡ account (belief_of x)
 call_account p w x y before next (chooses old new part after is_zeros bars pending h) =
@@ -245,7 +241,7 @@ no_ones pages slots p s = record {
 
 left_account : (b : Belief) → account (left_alone b) ≡ None
 left_account b = pick (waiting b) where
-  pick : (t : Bool) → account (cond t PuttingBack Private) ≡ None
+  pick : (t : Bool) → account (cond t (Turning LettingGo Zeros) Private) ≡ None
   pick true = refl
   pick false = refl
 
@@ -273,22 +269,24 @@ no_slot_is_lost first count m (next_comes old new h c) = next_ones first count o
 
 -- ---- a release
 
+turning_releases : (stage : Stage) (target : Target) (slot : ℕ) → Order.Release slot ≡ order_at stage target → ⊥
+turning_releases Ready target slot e = cc
+turning_releases Held target slot e = cc
+turning_releases Equal target slot e = cc
+turning_releases LettingGo target slot e = cc
+
+home_releases : (homing : Homing) (slot : ℕ) → Order.Release slot ≡ order_home homing → ⊥
+home_releases Off slot e = cc
+home_releases InPlace slot e = cc
+home_releases Elsewhere slot e = cc
+
 pub releases_own : (b : Belief) (slot : ℕ) → Order.Release slot ≡ due b → b ≡ Leaving slot
 releases_own Private slot e = cc
 releases_own Chosen slot e = cc
 releases_own Copied slot e = cc
-releases_own (Loaned its n) slot e = cc
-releases_own (Held its n) slot e = cc
-releases_own (Equal its n) slot e = cc
-releases_own (LettingGo its) slot e = cc
-releases_own (Shown its n) slot e = cc
-releases_own (Homing its n true) slot e = cc
-releases_own (Homing its n false) slot e = cc
+releases_own (Turning stage target) slot e = absurd (turning_releases stage target slot e)
+releases_own (Shown its n homing) slot e = absurd (home_releases homing slot e)
 releases_own (Leaving its) slot e = let same : slot ≡ its = cc in ap (λ v. Leaving v) (sym same)
-releases_own Zeros slot e = cc
-releases_own HeldZeros slot e = cc
-releases_own EqualZeros slot e = cc
-releases_own PuttingBack slot e = cc
 
 unbared : (view : View) → not (is_bare view) ≡ true → is_bare view ≡ false
 unbared (Own x) e = refl

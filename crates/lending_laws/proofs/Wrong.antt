@@ -2,7 +2,10 @@
 use Rattle.std.proofs.Common.{◌≡◌, ℕ, zero, suc, true, false, [], ◌∷◌, Option, Some, None, refl, subst}
 use Rattle.page_lender.specs.Events.{Believes, DoneByEvents, Fits, StaysRight}
 use Rattle.page_lender.specs.declared.belief.Belief.{Belief}
-use Rattle.page_lender.specs.declared.belief.Belief.TheVariants.{Private, Equal, Shown, PuttingBack}
+use Rattle.page_lender.specs.declared.belief.Belief.TheVariants.{Private, Turning, Shown}
+use Rattle.page_lender.specs.declared.belief.Homing.TheVariants.{Off}
+use Rattle.page_lender.specs.declared.belief.Stage.TheVariants.{Equal, LettingGo}
+use Rattle.page_lender.specs.declared.belief.Target.TheVariants.{Frame, Zeros}
 use Rattle.page_lender.specs.declared.order.Order.TheVariants as Order
 use Rattle.page_lender.specs.declared.order.Outcome.TheVariants.{Done}
 use Rattle.window_events.specs.Windows.{Mappings}
@@ -44,25 +47,25 @@ of_one belief page b =
     let same : b.page ≡ page = cc in
     subst (λ x. Fits belief x) same b.fits
 
-pub forgets_a_stuck_page : StaysRight PuttingBack Private → ⊥
+pub forgets_a_stuck_page : StaysRight (Turning LettingGo Zeros) Private → ⊥
 forgets_a_stuck_page h =
-    let right = h (one (held_page None)) 0 (believes PuttingBack (held_page None) (record { holds = refl; view = refl; waits = λ e. cc; copy = refl })) in
+    let right = h (one (held_page None)) 0 (believes (Turning LettingGo Zeros) (held_page None) (record { holds = refl; view = refl; waits = λ e. cc; copy = refl })) in
     let free : true ≡ false = (of_one Private (held_page None) right).waits refl in
     cc
 
 pub maps_after_discard : MapsAfterDiscard → ⊥
 maps_after_discard h =
-    let possible = h (one (held_page (Some 0))) 0 (believes (Equal 7 0) (held_page (Some 0)) (record { holds = refl; view = refl; waits = λ e. cc; copy = refl })) in
+    let possible = h (one (held_page (Some 0))) 0 (believes (Turning Equal (Frame 7 0)) (held_page (Some 0)) (record { holds = refl; view = refl; waits = λ e. cc; copy = refl })) in
     cc
 
-pub takes_for_another : DoneByEvents (Equal 7 0) Order.Hold Done (Shown 7 0) → ⊥
+pub takes_for_another : DoneByEvents (Turning Equal (Frame 7 0)) (Order.Hold (Frame 7 0)) Done (Shown 7 0 Off) → ⊥
 takes_for_another h =
-    let right = (h (one (held_page (Some 0))) 0 true (believes (Equal 7 0) (held_page (Some 0)) (record { holds = refl; view = refl; waits = λ e. cc; copy = refl })) tt).right in
-    let free : true ≡ false = (of_one (Shown 7 0) (held_page (Some 0)) right).waits refl in
+    let right = (h (one (held_page (Some 0))) 0 true (believes (Turning Equal (Frame 7 0)) (held_page (Some 0)) (record { holds = refl; view = refl; waits = λ e. cc; copy = refl })) tt).right in
+    let free : true ≡ false = (of_one (Shown 7 0 Off) (held_page (Some 0)) right).waits refl in
     cc
 
-pub tells_of_another : IsTold Done (Order.Map 0) (CarriedOut Order.Hold) → ⊥
+pub tells_of_another : IsTold Done (Order.Map (Frame 7 0)) (CarriedOut (Order.Hold (Frame 7 0))) → ⊥
 tells_of_another t = cc
 
-pub tells_too_early : IsTold Done (Order.Map 0) (Given (Order.Map 0)) → ⊥
+pub tells_too_early : IsTold Done (Order.Map (Frame 7 0)) (Given (Order.Map (Frame 7 0))) → ⊥
 tells_too_early t = cc

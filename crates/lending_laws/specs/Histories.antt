@@ -4,9 +4,10 @@ use Rattle.page_lender.specs.Decisions.{can_be_done, is_busy, is_given}
 use Rattle.page_lender.specs.Events.{Believes, Done_is_true, HeardRightly, done_events}
 use Rattle.page_lender.specs.declared.bars.Bars.{Bars}
 use Rattle.page_lender.specs.declared.belief.Belief.TheVariants.{Private}
+use Rattle.page_lender.specs.declared.belief.Target.TheVariants.{Frame}
 use Rattle.page_lender.specs.declared.order.Notice.{Notice}
 use Rattle.page_lender.specs.declared.order.Order.{Order}
-use Rattle.page_lender.specs.declared.order.Order.TheVariants.{Wait, Copy, Lend, Hold, Compare, Map, LetGo, CopyInPlace, TakeHome, Release, HoldZeros, CompareZeros, GiveBack, PutBack}
+use Rattle.page_lender.specs.declared.order.Order.TheVariants.{Wait, Copy, Lend, Hold, Compare, Map, LetGo, TakeHome, Release}
 use Rattle.page_lender.specs.declared.order.Outcome.{Outcome}
 use Rattle.page_lender.specs.declared.order.Outcome.TheVariants.{Done, Lent, Refused, Unknown}
 use Rattle.window_events.specs.Played.{played}
@@ -148,17 +149,12 @@ abbrev pub slots_after : Order → Outcome → (ℕ → Bool) → ℕ → Bool
 slots_after Wait outcome slots = slots
 slots_after Copy outcome slots = slots
 slots_after Lend outcome slots = lent_slots outcome slots
-slots_after Hold outcome slots = slots
-slots_after (Compare n) outcome slots = slots
-slots_after (Map n) outcome slots = slots
-slots_after LetGo outcome slots = slots
-slots_after CopyInPlace outcome slots = slots
-slots_after TakeHome outcome slots = slots
+slots_after (Hold target) outcome slots = slots
+slots_after (Compare target) outcome slots = slots
+slots_after (Map target) outcome slots = slots
+slots_after (LetGo target) outcome slots = slots
+slots_after (TakeHome in_place) outcome slots = slots
 slots_after (Release slot) outcome slots = released_slots slot outcome slots
-slots_after HoldZeros outcome slots = slots
-slots_after CompareZeros outcome slots = slots
-slots_after GiveBack outcome slots = slots
-slots_after PutBack outcome slots = slots
 
 -- a host may give any slot, or only one that it hasn't given
 abbrev pub any_slot : (ℕ → Bool) → ℕ → Bool
@@ -185,7 +181,7 @@ pub record IsToldAt (may_give : (ℕ → Bool) → ℕ → Bool) (i : ℕ) (old 
   pub outcome : Outcome
   pub told : IsTold outcome order (old.orders i)
   pub done : Lends (IsDone outcome) no_bars before after part part_after
-  pub noted : (n : ℕ) → old.orders i ≡ CarriedOut (Map n) → (known_of before).over ≡ true
+  pub noted : (slot n : ℕ) → old.orders i ≡ CarriedOut (Map (Frame slot n)) → (known_of before).over ≡ true
   pub gives : GivesWhatItMay may_give old.slots outcome
   pub orders : OneIs i Nothing old.orders new.orders
   pub slots : new.slots ≡ slots_after order outcome old.slots

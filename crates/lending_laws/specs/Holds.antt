@@ -4,7 +4,9 @@ use Rattle.page_holds.specs.Bytes.{place_in}
 use Rattle.page_holds.specs.RowLaws.{RowCourse}
 use Rattle.page_lender.specs.Events.{Done_is_true}
 use Rattle.page_lender.specs.declared.belief.Belief.{Belief}
-use Rattle.page_lender.specs.declared.belief.Belief.TheVariants.{Held}
+use Rattle.page_lender.specs.declared.belief.Belief.TheVariants.{Turning}
+use Rattle.page_lender.specs.declared.belief.Stage.TheVariants.{Held}
+use Rattle.page_lender.specs.declared.belief.Target.TheVariants.{Frame, Zeros}
 use Rattle.page_lender.specs.declared.order.Order.TheVariants as Order
 use Rattle.window_events.specs.Windows.{Mappings, shown}
 use Rattle.window_events.specs.declared.page.Page.{Page}
@@ -42,22 +44,22 @@ EachHoldReadsTheSame =
 abbrev pub EachComparisonIsTrue : Type 0
 EachComparisonIsTrue =
     (number : List ℕ → ℕ) (frames : ℕ → List ℕ) (first count i : ℕ) (m : Moment) (place : HeldPlace) (spot next : Spot) (slot n y : ℕ) (page : Page) →
-    IsHeldIn number frames first count i m place spot → Did frames (Held slot n) place Compare true spot next → slice_get m.world.pages (first + i) ≡ Some page →
-    page.guarded ≡ true → slice_get m.world.frames n ≡ Some y → Done_is_true (Order.Compare n) m.world page
+    IsHeldIn number frames first count i m place spot → Did frames (Turning Held (Frame slot n)) place Compare true spot next → slice_get m.world.pages (first + i) ≡ Some page →
+    page.guarded ≡ true → slice_get m.world.frames n ≡ Some y → Done_is_true (Order.Compare (Frame slot n)) m.world page
 
 -- So is one with zeros, where a page of zeros has the number 0.
 abbrev pub EachZeroIsTrue : Type 0
 EachZeroIsTrue =
     (number : List ℕ → ℕ) (frames : ℕ → List ℕ) (first count i : ℕ) (m : Moment) (place : HeldPlace) (spot next : Spot) (belief : Belief) (page : Page) →
     number zeros ≡ 0 → IsHeldIn number frames first count i m place spot → Did frames belief place CompareZeros true spot next →
-    slice_get m.world.pages (first + i) ≡ Some page → page.guarded ≡ true → Done_is_true Order.CompareZeros m.world page
+    slice_get m.world.pages (first + i) ≡ Some page → page.guarded ≡ true → Done_is_true (Order.Compare Zeros) m.world page
 
 -- And the other way round, where no two contents have one number: a comparison that is true of the order says equal of the page's memory.
 abbrev pub EachTruthIsInBytes : Type 0
 EachTruthIsInBytes =
     (number : List ℕ → ℕ) (frames : ℕ → List ℕ) (first count i : ℕ) (m : Moment) (place : HeldPlace) (spot : Spot) (slot n : ℕ) (page : Page) (bytes : List ℕ) →
     ((a b : List ℕ) → number a ≡ number b → a ≡ b) → IsHeldIn number frames first count i m place spot → slice_get m.world.pages (first + i) ≡ Some page →
-    Done_is_true (Order.Compare n) m.world page → memory place spot ≡ Some bytes → Did frames (Held slot n) place Compare true spot spot
+    Done_is_true (Order.Compare (Frame slot n)) m.world page → memory place spot ≡ Some bytes → Did frames (Turning Held (Frame slot n)) place Compare true spot spot
 
 -- No step of a hold changes what was stored last, in bytes: so both agree after it, as long as no call and no order of the history stores anything.
 abbrev pub EachStepAgrees : Type 0

@@ -2,6 +2,7 @@
 use Rattle.std.specs.Prelude.{◌≡◌, ℕ, ◌+◌, ◌<◌, ◌≤◌, Bool, true, List, [], ◌∷◌, length, replicate, Some, None, slice_get, slice_index, unwrap_or}
 use Rattle.page_lender.specs.Decisions.{due}
 use Rattle.page_lender.specs.Events.{Believes, Done_is_true, done_events}
+use Rattle.page_lender.specs.declared.belief.Target.TheVariants.{Frame}
 use Rattle.page_lender.specs.declared.order.Order.{Order}
 use Rattle.page_lender.specs.declared.order.Order.TheVariants.{Map}
 use Rattle.page_lender.specs.declared.order.Outcome.TheVariants.{Done}
@@ -52,7 +53,7 @@ abbrev pub EachFrameIsNoted : Type 0
 EachFrameIsNoted =
     (may_give : (ℕ → Bool) → ℕ → Bool) (first count : ℕ) (m : Moment) → History may_give first count m → (i : ℕ) (x : WindowPage) (page : Page) →
     slice_get m.pages i ≡ Some x → slice_get m.world.pages (first + i) ≡ Some page → is_bare page.view ≡ true →
-    ((n : ℕ) → m.orders i ≡ CarriedOut (Map n) → ⊥) → (known_of x).over ≡ true
+    ((slot n : ℕ) → m.orders i ≡ CarriedOut (Map (Frame slot n)) → ⊥) → (known_of x).over ≡ true
 
 -- what was stored last in a page after a list of events
 abbrev pub stored_by : Mappings → List Event → ℕ → ℕ → ℕ

@@ -1,7 +1,9 @@
 -- Windows and a process that are wrong, and what a lender would do that maps after a discard.
 use Rattle.std.specs.Prelude.{◌≡◌, ℕ, Bool, false, List, [], ◌∷◌, None, unwrap_or}
 use Rattle.page_lender.specs.Events.{Believes}
-use Rattle.page_lender.specs.declared.belief.Belief.TheVariants.{Equal}
+use Rattle.page_lender.specs.declared.belief.Belief.TheVariants.{Turning}
+use Rattle.page_lender.specs.declared.belief.Stage.TheVariants.{Equal}
+use Rattle.page_lender.specs.declared.belief.Target.TheVariants.{Frame}
 use Rattle.window_events.specs.Played.{refused_from}
 use Rattle.window_events.specs.Windows.{Mappings, step}
 use Rattle.window_events.specs.declared.event.Event.TheVariants.{Discard, Map}
@@ -39,4 +41,4 @@ one_forgotten = new_page ∷ []
 
 -- a page that was found equal to its frame may be mapped, also after it was discarded
 abbrev pub MapsAfterDiscard : Type 0
-MapsAfterDiscard = (w : Mappings) (p : ℕ) → Believes (Equal 7 0) w p → refused_from 0 (unwrap_or (step w (Discard p)) w) (Map p ∷ []) ≡ None
+MapsAfterDiscard = (w : Mappings) (p : ℕ) → Believes (Turning Equal (Frame 7 0)) w p → refused_from 0 (unwrap_or (step w (Discard p)) w) (Map p ∷ []) ≡ None

@@ -13,6 +13,9 @@ ghost use Rattle.lending_laws.specs.Slots.{EachSlotIsOnes, NoSlotIsLost, NoneIsR
 ghost use Rattle.lending_laws.specs.Wrong.{MapsAfterDiscard, given_to_each, one_forgotten, slot_7, two_given};
 ghost use Rattle.page_lender.specs.Events.{DoneByEvents, StaysRight};
 ghost use Rattle.page_lender.specs.declared.belief.Belief.TheVariants as Belief;
+ghost use Rattle.page_lender.specs.declared.belief.Homing.TheVariants.{Off};
+ghost use Rattle.page_lender.specs.declared.belief.Stage.TheVariants.{Equal, LettingGo};
+ghost use Rattle.page_lender.specs.declared.belief.Target.TheVariants.{Frame, Zeros};
 ghost use Rattle.page_lender.specs.declared.order.Order.TheVariants as Order;
 ghost use Rattle.page_lender.specs.declared.order.Outcome.TheVariants as Outcome;
 
@@ -90,9 +93,9 @@ pub fn wrong_windows()
     ensures gives_twice { EachSlotIsOnes two_given slot_7 → ⊥ }
     ensures gives_two_windows { EachSlotIsOneWindows given_to_each → ⊥ }
     ensures forgets_a_slot { EachSlotIsOnes one_forgotten slot_7 → ⊥ }
-    ensures forgets_a_stuck_page { StaysRight Belief.PuttingBack Belief.Private → ⊥ }
+    ensures forgets_a_stuck_page { StaysRight (Belief.Turning LettingGo Zeros) Belief.Private → ⊥ }
     ensures maps_after_discard { MapsAfterDiscard → ⊥ }
-    ensures takes_for_another { DoneByEvents (Belief.Equal 7 0) Order.Hold Outcome.Done (Belief.Shown 7 0) → ⊥ }
-    ensures tells_of_another { IsTold Outcome.Done (Order.Map 0) (CarriedOut Order.Hold) → ⊥ }
-    ensures tells_too_early { IsTold Outcome.Done (Order.Map 0) (Given (Order.Map 0)) → ⊥ }
+    ensures takes_for_another { DoneByEvents (Belief.Turning Equal (Frame 7 0)) (Order.Hold (Frame 7 0)) Outcome.Done (Belief.Shown 7 0 Off) → ⊥ }
+    ensures tells_of_another { IsTold Outcome.Done (Order.Map (Frame 7 0)) (CarriedOut (Order.Hold (Frame 7 0))) → ⊥ }
+    ensures tells_too_early { IsTold Outcome.Done (Order.Map (Frame 7 0)) (Given (Order.Map (Frame 7 0))) → ⊥ }
 {}

@@ -1,16 +1,20 @@
 -- The bytes of a page in a hold are its own, whatever course the hold takes.
-use Rattle.std.proofs.Common.{◌≡◌, ◌∙◌, ℕ, Bool, true, false, List, Option, Some, None, refl, ap, sym, subst}
+use Rattle.std.proofs.Common.{◌≡◌, ◌∙◌, ℕ, Bool, true, false, List, Option, Some, None, refl, ap, sym}
 use Rattle.std.specs.Prelude.{unwrap_or, if◌then◌else◌}
-use Rattle.page_lender.specs.Decisions.{KeepsLoan, AtEqual, AtEqualZeros, due, led_to, prepared, stage_of, waiting}
+use Rattle.page_lender.specs.Decisions.{prepared, waiting}
+use Rattle.page_lender.specs.Lender.{done_of}
 use Rattle.page_lender.specs.declared.bars.Bars.{Bars}
 use Rattle.page_lender.specs.declared.belief.Belief.{Belief}
-use Rattle.page_lender.specs.declared.belief.Belief.TheVariants.{Private, Chosen, Copied, Loaned, Held, Equal, LettingGo, Shown, Homing, Leaving, Zeros, HeldZeros, EqualZeros, PuttingBack}
+use Rattle.page_lender.specs.declared.belief.Belief.TheVariants.{Private, Chosen, Copied, Turning, Shown, Leaving}
+use Rattle.page_lender.specs.declared.belief.Stage.TheVariants.{Ready, Held, Equal, LettingGo}
+use Rattle.page_lender.specs.declared.belief.Target.{Target}
+use Rattle.page_lender.specs.declared.belief.Target.TheVariants.{Frame, Zeros}
 use Rattle.page_lender.specs.declared.order.Outcome.{Outcome}
 use Rattle.page_lender.specs.declared.order.Outcome.TheVariants.{Done, Refused as NotDone}
 use Rattle.window_pages.specs.Bytes.{belief_of, known_of}
 use Rattle.window_pages.specs.declared.page.WindowPage.{WindowPage}
 use Rattle.page_holds.specs.Laws.{Course, EachHoldIsRight, asks, begins, comes_out, writes}
-use Rattle.page_holds.specs.Memory.{Did, Spot, begun, compares, compares_zeros, is_at_place, is_held, ends_watch, gives_back, maps, puts_back, refuses, rests, zeros}
+use Rattle.page_holds.specs.Memory.{Did, Spot, begun, bytes_of, compares, compares_zeros, is_at_place, is_held, ends_watch, gives_back, maps, puts_back, refuses, rests, zeros}
 use Rattle.page_holds.specs.Steps.{asks_for, outcome_for, place_after, place_of, step_of}
 use Rattle.page_holds.specs.declared.place.HeldPlace.{HeldPlace}
 use Rattle.page_holds.specs.declared.place.HeldPlace.TheVariants.{Free, Guarded, Aside, Replaced}
@@ -18,71 +22,41 @@ use Rattle.page_holds.specs.declared.place.HoldStep.{HoldStep}
 use Rattle.page_holds.specs.declared.place.HoldStep.TheVariants.{Compare, CompareZeros}
 use Rattle.page_holds.specs.declared.place.Taking.{Taking}
 use Rattle.page_holds.specs.declared.place.Taking.TheVariants.{Refused as NotTaken, Watched, Guarded as TakenGuarded, Aside as TakenAside}
-use Rattle.page_holds.proofs.Kept.{Lies, Right, Turned, fallback_finds_none, found_of, finds, finds_none, is_compared, lies_after, memory_is, not_found, prepared_found, stays, turned, turns}
+use Rattle.page_holds.proofs.Kept.{Lies, Right, Turned, done_found, found_of, is_compared, lies_after, memory_is, prepared_found, stays, turned, turns}
 
 -- a belief that no comparison led to has found what it had found
 found_before : (frames : ℕ → List ℕ) (outcome : Option Outcome) (b y : Belief) (bytes : List ℕ) → is_compared b ≡ false → Turned outcome b y →
     found_of frames y ≡ Some bytes → found_of frames b ≡ Some bytes
 found_before frames outcome b y bytes c (stays e) f = ap (λ z. found_of frames z) (sym e) ∙ f
-found_before frames outcome b y bytes c (turns its o s k) f = absurd (not_found frames y bytes (ap (λ z. finds z) s ∙ finds_none b its c) f)
+found_before frames outcome b y bytes c (turns its o s) f = done_found frames b its bytes c (ap (λ z. found_of frames z) (sym s) ∙ f)
 
-same_second : (p q : ℕ × ℕ) → Some p ≡ Some q → p.1 ≡ q.1
-same_second p q e = let same : p ≡ q = cc in ap (λ z. z.1) same
+-- a comparison that says equal has found the target's bytes
+same_found : (frames : ℕ → List ℕ) (its : Target) (y : Belief) (outcome : Outcome) (bytes : List ℕ) → outcome ≡ Done → y ≡ done_of (Turning Held its) outcome →
+    found_of frames y ≡ Some bytes → bytes ≡ bytes_of frames its
+same_found frames its y outcome bytes o s f =
+    let is : y ≡ Turning Equal its = s ∙ ap (λ z. done_of (Turning Held its) z) o in
+    let got : Some (bytes_of frames its) ≡ Some bytes = ap (λ z. found_of frames z) (sym is) ∙ f in
+    cc
 
--- a comparison with a frame that says equal has found that frame's bytes
-frame_found : (frames : ℕ → List ℕ) (slot n : ℕ) (y : Belief) (bytes : List ℕ) → stage_of y ≡ AtEqual → KeepsLoan (Held slot n) Done y →
-    found_of frames y ≡ Some bytes → bytes ≡ frames n
-frame_found frames slot n Private bytes s k f = cc
-frame_found frames slot n Chosen bytes s k f = cc
-frame_found frames slot n Copied bytes s k f = cc
-frame_found frames slot n (Loaned its m) bytes s k f = cc
-frame_found frames slot n (Held its m) bytes s k f = cc
-frame_found frames slot n (Equal its m) bytes s k f =
-    let got : frames m ≡ bytes = cc in
-    sym got ∙ ap (λ z. frames z) (sym (same_second (slot, n) (its, m) (k.same its m refl)))
-frame_found frames slot n (LettingGo its) bytes s k f = cc
-frame_found frames slot n (Shown its m) bytes s k f = cc
-frame_found frames slot n (Homing its m in_place) bytes s k f = cc
-frame_found frames slot n (Leaving its) bytes s k f = cc
-frame_found frames slot n Zeros bytes s k f = cc
-frame_found frames slot n HeldZeros bytes s k f = cc
-frame_found frames slot n EqualZeros bytes s k f = cc
-frame_found frames slot n PuttingBack bytes s k f = cc
-
--- one with zeros has found zeros
-zeros_found : (frames : ℕ → List ℕ) (y : Belief) (bytes : List ℕ) → stage_of y ≡ AtEqualZeros → found_of frames y ≡ Some bytes → bytes ≡ zeros
-zeros_found frames Private bytes s f = cc
-zeros_found frames Chosen bytes s f = cc
-zeros_found frames Copied bytes s f = cc
-zeros_found frames (Loaned its m) bytes s f = cc
-zeros_found frames (Held its m) bytes s f = cc
-zeros_found frames (Equal its m) bytes s f = cc
-zeros_found frames (LettingGo its) bytes s f = cc
-zeros_found frames (Shown its m) bytes s f = cc
-zeros_found frames (Homing its m in_place) bytes s f = cc
-zeros_found frames (Leaving its) bytes s f = cc
-zeros_found frames Zeros bytes s f = cc
-zeros_found frames HeldZeros bytes s f = cc
-zeros_found frames EqualZeros bytes s f = cc
-zeros_found frames PuttingBack bytes s f = cc
-
--- a comparison that says no has found nothing
-differs_found : (frames : ℕ → List ℕ) (b y : Belief) (its : Outcome) (bytes : List ℕ) → Some NotDone ≡ Some its → stage_of y ≡ led_to (due b) its →
+-- one that says no has found nothing
+differs_found : (frames : ℕ → List ℕ) (its : Target) (y : Belief) (outcome : Outcome) (bytes : List ℕ) → Some NotDone ≡ Some outcome → y ≡ done_of (Turning Held its) outcome →
     found_of frames y ≡ Some bytes → ⊥
-differs_found frames b y its bytes o s f =
-    let is : its ≡ NotDone = cc in
-    not_found frames y bytes (ap (λ z. finds z) (s ∙ ap (λ z. led_to (due b) z) is) ∙ fallback_finds_none (due b)) f
+differs_found frames its y outcome bytes o s f =
+    let was : outcome ≡ NotDone = cc in
+    let is : y ≡ Turning LettingGo its = s ∙ ap (λ z. done_of (Turning Held its) z) was in
+    let none : found_of frames (Turning LettingGo its) ≡ Some bytes = ap (λ z. found_of frames z) (sym is) ∙ f in
+    cc
 
 -- a page that was held, and is compared with its frame
 held_right : (frames : ℕ → List ℕ) (slot n : ℕ) (y : Belief) (place : HeldPlace) (step : HoldStep) (is_done : Bool) (spot next : Spot) → Compare ≡ step →
-    Did frames (Held slot n) place step is_done spot next → Turned (outcome_for step (Held slot n) is_done) (Held slot n) y → Right frames (Held slot n) place spot →
+    Did frames (Turning Held (Frame slot n)) place step is_done spot next → Turned (outcome_for step (Turning Held (Frame slot n)) is_done) (Turning Held (Frame slot n)) y → Right frames (Turning Held (Frame slot n)) place spot →
     (bytes : List ℕ) → found_of frames y ≡ Some bytes → bytes ≡ next.content
-held_right frames slot n y place its is_done x z e d (stays q) r bytes f = let none : found_of frames (Held slot n) ≡ Some bytes = ap (λ v. found_of frames v) (sym q) ∙ f in cc
-held_right frames slot n y place its is_done x z e (refuses step spot) (turns o q s k) r bytes f =
-    absurd (differs_found frames (Held slot n) y o bytes (ap (λ v. outcome_for v (Held slot n) false) e ∙ q) s f)
-held_right frames slot n y place its is_done x z e (compares spot m) (turns o q s k) r bytes f =
+held_right frames slot n y place its is_done x z e d (stays q) r bytes f = let none : found_of frames (Turning Held (Frame slot n)) ≡ Some bytes = ap (λ v. found_of frames v) (sym q) ∙ f in cc
+held_right frames slot n y place its is_done x z e (refuses step spot) (turns o q s) r bytes f =
+    absurd (differs_found frames (Frame slot n) y o bytes (ap (λ v. outcome_for v (Turning Held (Frame slot n)) false) e ∙ q) s f)
+held_right frames slot n y place its is_done x z e (compares spot m) (turns o q s) r bytes f =
     let is : o ≡ Done = cc in
-    let same : bytes ≡ frames n = frame_found frames slot n y bytes (s ∙ ap (λ v. led_to (due (Held slot n)) v) is) (subst (λ v. KeepsLoan (Held slot n) v y) is k) f in
+    let same : bytes ≡ frames n = same_found frames (Frame slot n) y o bytes is s f in
     same ∙ memory_is place spot (frames n) r.lies m
 held_right frames slot n y place its is_done x z e (rests spot) t r bytes f = cc
 held_right frames slot n y place its is_done x z e (compares_zeros spot m) t r bytes f = cc
@@ -93,14 +67,14 @@ held_right frames slot n y place its is_done x z e (ends_watch spot) t r bytes f
 
 -- one that is compared with zeros
 zeros_right : (frames : ℕ → List ℕ) (y : Belief) (place : HeldPlace) (step : HoldStep) (is_done : Bool) (spot next : Spot) → CompareZeros ≡ step →
-    Did frames HeldZeros place step is_done spot next → Turned (outcome_for step HeldZeros is_done) HeldZeros y → Right frames HeldZeros place spot →
+    Did frames (Turning Held Zeros) place step is_done spot next → Turned (outcome_for step (Turning Held Zeros) is_done) (Turning Held Zeros) y → Right frames (Turning Held Zeros) place spot →
     (bytes : List ℕ) → found_of frames y ≡ Some bytes → bytes ≡ next.content
-zeros_right frames y place its is_done x z e d (stays q) r bytes f = let none : found_of frames HeldZeros ≡ Some bytes = ap (λ v. found_of frames v) (sym q) ∙ f in cc
-zeros_right frames y place its is_done x z e (refuses step spot) (turns o q s k) r bytes f =
-    absurd (differs_found frames HeldZeros y o bytes (ap (λ v. outcome_for v HeldZeros false) e ∙ q) s f)
-zeros_right frames y place its is_done x z e (compares_zeros spot m) (turns o q s k) r bytes f =
+zeros_right frames y place its is_done x z e d (stays q) r bytes f = let none : found_of frames (Turning Held Zeros) ≡ Some bytes = ap (λ v. found_of frames v) (sym q) ∙ f in cc
+zeros_right frames y place its is_done x z e (refuses step spot) (turns o q s) r bytes f =
+    absurd (differs_found frames Zeros y o bytes (ap (λ v. outcome_for v (Turning Held Zeros) false) e ∙ q) s f)
+zeros_right frames y place its is_done x z e (compares_zeros spot m) (turns o q s) r bytes f =
     let is : o ≡ Done = cc in
-    zeros_found frames y bytes (s ∙ ap (λ v. led_to (due HeldZeros) v) is) f ∙ memory_is place spot zeros r.lies m
+    same_found frames Zeros y o bytes is s f ∙ memory_is place spot zeros r.lies m
 zeros_right frames y place its is_done x z e (rests spot) t r bytes f = cc
 zeros_right frames y place its is_done x z e (compares spot m) t r bytes f = cc
 zeros_right frames y place its is_done x z e (maps spot) t r bytes f = cc
@@ -132,17 +106,13 @@ found_right : (frames : ℕ → List ℕ) (b y : Belief) (place : HeldPlace) (is
 found_right frames Private y place is_done x z d t r bytes f = others_right frames Private y place is_done x z refl d t r bytes f
 found_right frames Chosen y place is_done x z d t r bytes f = others_right frames Chosen y place is_done x z refl d t r bytes f
 found_right frames Copied y place is_done x z d t r bytes f = others_right frames Copied y place is_done x z refl d t r bytes f
-found_right frames (Loaned slot n) y place is_done x z d t r bytes f = others_right frames (Loaned slot n) y place is_done x z refl d t r bytes f
-found_right frames (Held slot n) y place is_done x z d t r bytes f = held_right frames slot n y place Compare is_done x z refl d t r bytes f
-found_right frames (Equal slot n) y place is_done x z d t r bytes f = others_right frames (Equal slot n) y place is_done x z refl d t r bytes f
-found_right frames (LettingGo slot) y place is_done x z d t r bytes f = others_right frames (LettingGo slot) y place is_done x z refl d t r bytes f
-found_right frames (Shown slot n) y place is_done x z d t r bytes f = others_right frames (Shown slot n) y place is_done x z refl d t r bytes f
-found_right frames (Homing slot n in_place) y place is_done x z d t r bytes f = others_right frames (Homing slot n in_place) y place is_done x z refl d t r bytes f
+found_right frames (Turning Ready its) y place is_done x z d t r bytes f = others_right frames (Turning Ready its) y place is_done x z refl d t r bytes f
+found_right frames (Turning Held (Frame slot n)) y place is_done x z d t r bytes f = held_right frames slot n y place Compare is_done x z refl d t r bytes f
+found_right frames (Turning Held Zeros) y place is_done x z d t r bytes f = zeros_right frames y place CompareZeros is_done x z refl d t r bytes f
+found_right frames (Turning Equal its) y place is_done x z d t r bytes f = others_right frames (Turning Equal its) y place is_done x z refl d t r bytes f
+found_right frames (Turning LettingGo its) y place is_done x z d t r bytes f = others_right frames (Turning LettingGo its) y place is_done x z refl d t r bytes f
+found_right frames (Shown slot n homing) y place is_done x z d t r bytes f = others_right frames (Shown slot n homing) y place is_done x z refl d t r bytes f
 found_right frames (Leaving slot) y place is_done x z d t r bytes f = others_right frames (Leaving slot) y place is_done x z refl d t r bytes f
-found_right frames Zeros y place is_done x z d t r bytes f = others_right frames Zeros y place is_done x z refl d t r bytes f
-found_right frames HeldZeros y place is_done x z d t r bytes f = zeros_right frames y place CompareZeros is_done x z refl d t r bytes f
-found_right frames EqualZeros y place is_done x z d t r bytes f = others_right frames EqualZeros y place is_done x z refl d t r bytes f
-found_right frames PuttingBack y place is_done x z d t r bytes f = others_right frames PuttingBack y place is_done x z refl d t r bytes f
 
 stepped : (frames : ℕ → List ℕ) (b y : Belief) (place : HeldPlace) (is_done : Bool) (spot next : Spot) → Did frames b place (step_of b place) is_done spot next →
     Turned (outcome_for (step_of b place) b is_done) b y → Right frames b place spot → Right frames y (place_after (step_of b place) place is_done) next
@@ -157,22 +127,32 @@ begun_lies Watched bytes = refl
 begun_lies TakenGuarded bytes = refl
 begun_lies TakenAside bytes = (refl, refl)
 
--- of a page to which no write waits nothing is found yet
+-- a page to which no write waits is found equal to nothing, and isn't compared now
+quiet_found : (frames : ℕ → List ℕ) (b : Belief) (bytes : List ℕ) → waiting b ≡ false → found_of frames b ≡ Some bytes → ⊥
+quiet_found frames Private bytes h f = cc
+quiet_found frames Chosen bytes h f = cc
+quiet_found frames Copied bytes h f = cc
+quiet_found frames (Turning Ready its) bytes h f = cc
+quiet_found frames (Turning Held its) bytes h f = cc
+quiet_found frames (Turning Equal its) bytes h f = cc
+quiet_found frames (Turning LettingGo its) bytes h f = cc
+quiet_found frames (Shown slot n homing) bytes h f = cc
+quiet_found frames (Leaving slot) bytes h f = cc
+
+quiet_compared : (b : Belief) → waiting b ≡ false → is_compared b ≡ false
+quiet_compared Private h = refl
+quiet_compared Chosen h = refl
+quiet_compared Copied h = refl
+quiet_compared (Turning Ready its) h = refl
+quiet_compared (Turning Held its) h = cc
+quiet_compared (Turning Equal its) h = refl
+quiet_compared (Turning LettingGo its) h = refl
+quiet_compared (Shown slot n homing) h = refl
+quiet_compared (Leaving slot) h = refl
+
+-- so nothing is found once its hold began
 begun_found : (frames : ℕ → List ℕ) (b y : Belief) (outcome : Option Outcome) (bytes : List ℕ) → waiting b ≡ false → Turned outcome b y → found_of frames y ≡ Some bytes → ⊥
-begun_found frames Private y o bytes h t f = let none : found_of frames Private ≡ Some bytes = found_before frames o Private y bytes refl t f in cc
-begun_found frames Chosen y o bytes h t f = let none : found_of frames Chosen ≡ Some bytes = found_before frames o Chosen y bytes refl t f in cc
-begun_found frames Copied y o bytes h t f = let none : found_of frames Copied ≡ Some bytes = found_before frames o Copied y bytes refl t f in cc
-begun_found frames (Loaned slot n) y o bytes h t f = let none : found_of frames (Loaned slot n) ≡ Some bytes = found_before frames o (Loaned slot n) y bytes refl t f in cc
-begun_found frames (Held slot n) y o bytes h t f = cc
-begun_found frames (Equal slot n) y o bytes h t f = cc
-begun_found frames (LettingGo slot) y o bytes h t f = cc
-begun_found frames (Shown slot n) y o bytes h t f = let none : found_of frames (Shown slot n) ≡ Some bytes = found_before frames o (Shown slot n) y bytes refl t f in cc
-begun_found frames (Homing slot n in_place) y o bytes h t f = let none : found_of frames (Homing slot n in_place) ≡ Some bytes = found_before frames o (Homing slot n in_place) y bytes refl t f in cc
-begun_found frames (Leaving slot) y o bytes h t f = let none : found_of frames (Leaving slot) ≡ Some bytes = found_before frames o (Leaving slot) y bytes refl t f in cc
-begun_found frames Zeros y o bytes h t f = let none : found_of frames Zeros ≡ Some bytes = found_before frames o Zeros y bytes refl t f in cc
-begun_found frames HeldZeros y o bytes h t f = cc
-begun_found frames EqualZeros y o bytes h t f = cc
-begun_found frames PuttingBack y o bytes h t f = cc
+begun_found frames b y o bytes h t f = quiet_found frames b bytes h (found_before frames o b y bytes (quiet_compared b h) t f)
 
 written_lies : (place : HeldPlace) (spot : Spot) (bytes : List ℕ) → is_at_place place ≡ true → Lies place (record spot { content = bytes; here = Some bytes })
 written_lies Free spot bytes e = refl
@@ -184,17 +164,12 @@ written_found : (frames : ℕ → List ℕ) (b : Belief) (bytes : List ℕ) → 
 written_found frames Private bytes h f = cc
 written_found frames Chosen bytes h f = cc
 written_found frames Copied bytes h f = cc
-written_found frames (Loaned slot n) bytes h f = cc
-written_found frames (Held slot n) bytes h f = cc
-written_found frames (Equal slot n) bytes h f = cc
-written_found frames (LettingGo slot) bytes h f = cc
-written_found frames (Shown slot n) bytes h f = cc
-written_found frames (Homing slot n in_place) bytes h f = cc
+written_found frames (Turning Ready its) bytes h f = cc
+written_found frames (Turning Held its) bytes h f = cc
+written_found frames (Turning Equal its) bytes h f = cc
+written_found frames (Turning LettingGo its) bytes h f = cc
+written_found frames (Shown slot n homing) bytes h f = cc
 written_found frames (Leaving slot) bytes h f = cc
-written_found frames Zeros bytes h f = cc
-written_found frames HeldZeros bytes h f = cc
-written_found frames EqualZeros bytes h f = cc
-written_found frames PuttingBack bytes h f = cc
 
 -- what an order makes of a belief
 asked : (frames : ℕ → List ℕ) (b y : Belief) (ordered : Bool) (bars : Bars) (bytes : List ℕ) → y ≡ (if ordered then b else prepared bars b) → found_of frames y ≡ Some bytes →

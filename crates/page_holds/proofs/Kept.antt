@@ -1,17 +1,23 @@
 -- What is believed of a page in a hold fits its bytes, whatever comes of a step.
 use Rattle.std.proofs.Common.{◌≡◌, ◌∙◌, ℕ, Bool, true, false, List, Option, Some, None, refl, ap, sym}
-use Rattle.std.specs.Prelude.{unwrap_or, if◌then◌else◌}
-use Rattle.page_lender.specs.Decisions.{KeepsLoan, Stage, AtPrivate, AtChosen, AtCopied, AtLoaned, AtHeld, AtEqual, AtLettingGo, AtShown, AtHoming, AtLeaving, AtZeros, AtHeldZeros, AtEqualZeros, AtPuttingBack, aim, doubt, due, fallback, is_barred, led_to, must_own, prepared, stage_of}
+use Rattle.std.specs.Prelude.{option_map, unwrap_or, if◌then◌else◌}
+use Rattle.page_lender.specs.Decisions.{dropped, equal_to, is_barred, prepared, unshown, waiting}
+use Rattle.page_lender.specs.Lender.{done_of, doubted, doubted_at, given, home, obeyed, obeyed_at, refused, shown_as}
 use Rattle.page_lender.specs.declared.bars.Bars.{Bars}
 use Rattle.page_lender.specs.declared.belief.Belief.{Belief}
-use Rattle.page_lender.specs.declared.belief.Belief.TheVariants.{Private, Chosen, Copied, Loaned, Held, Equal, LettingGo, Shown, Homing, Leaving, Zeros, HeldZeros, EqualZeros, PuttingBack}
-use Rattle.page_lender.specs.declared.order.Order.{Order}
+use Rattle.page_lender.specs.declared.belief.Belief.TheVariants.{Private, Chosen, Copied, Turning, Shown, Leaving}
+use Rattle.page_lender.specs.declared.belief.Homing.{Homing}
+use Rattle.page_lender.specs.declared.belief.Homing.TheVariants.{Off, InPlace, Elsewhere}
+use Rattle.page_lender.specs.declared.belief.Stage.{Stage}
+use Rattle.page_lender.specs.declared.belief.Stage.TheVariants.{Ready, Held, Equal, LettingGo}
+use Rattle.page_lender.specs.declared.belief.Target.{Target}
+use Rattle.page_lender.specs.declared.belief.Target.TheVariants.{Frame, Zeros}
 use Rattle.page_lender.specs.declared.order.Outcome.{Outcome}
 use Rattle.page_lender.specs.declared.order.Outcome.TheVariants.{Done, Lent, Unknown, Refused as NotDone}
 use Rattle.window_pages.specs.Bytes.{belief_of, known_of}
 use Rattle.window_pages.specs.declared.counts.PartCounts.{PartCounts}
 use Rattle.window_pages.specs.declared.page.WindowPage.{WindowPage}
-use Rattle.page_holds.specs.Memory.{Did, Spot, compares, compares_zeros, ends_watch, gives_back, maps, memory, puts_back, refuses, rests, target, zeros}
+use Rattle.page_holds.specs.Memory.{Did, Spot, bytes_of, compares, compares_zeros, ends_watch, gives_back, maps, memory, puts_back, refuses, rests, target, zeros}
 use Rattle.page_holds.specs.Steps.{Took, is_taken, parted, place_after, step_of, still_watched, zeros_parted}
 use Rattle.page_holds.specs.declared.place.HeldPlace.{HeldPlace}
 use Rattle.page_holds.specs.declared.place.HeldPlace.TheVariants.{Free, Guarded, Aside, Replaced}
@@ -20,20 +26,7 @@ use Rattle.page_holds.specs.declared.place.HoldStep.TheVariants.{Over, Compare, 
 
 -- the bytes that the page was found to have
 abbrev pub found_of : (ℕ → List ℕ) → Belief → Option (List ℕ)
-found_of frames Private = None
-found_of frames Chosen = None
-found_of frames Copied = None
-found_of frames (Loaned slot n) = None
-found_of frames (Held slot n) = None
-found_of frames (Equal slot n) = Some (frames n)
-found_of frames (LettingGo slot) = None
-found_of frames (Shown slot n) = None
-found_of frames (Homing slot n in_place) = None
-found_of frames (Leaving slot) = None
-found_of frames Zeros = None
-found_of frames HeldZeros = None
-found_of frames EqualZeros = Some zeros
-found_of frames PuttingBack = None
+found_of frames belief = option_map (bytes_of frames) (equal_to belief)
 
 -- where its bytes are
 abbrev pub Lies : HeldPlace → Spot → Type 0
@@ -50,7 +43,7 @@ pub record Right (frames : ℕ → List ℕ) (belief : Belief) (place : HeldPlac
 -- what a taken outcome makes of a belief
 pub data Turned (outcome : Option Outcome) (before after : Belief) : Type 0 where
   stays : after ≡ before → Turned outcome before after
-  turns : (its : Outcome) → outcome ≡ Some its → stage_of after ≡ led_to (due before) its → KeepsLoan before its after → Turned outcome before after
+  turns : (its : Outcome) → outcome ≡ Some its → after ≡ done_of before its → Turned outcome before after
 
 pub turned : (outcome : Option Outcome) (old new : WindowPage) (part after : PartCounts) → Took outcome old new part after → Turned outcome (belief_of old) (belief_of new)
 turned outcome old new part after t = pick outcome (is_taken outcome (known_of old)) refl t where
@@ -59,159 +52,130 @@ turned outcome old new part after t = pick outcome (is_taken outcome (known_of o
   pick None true e t = cc
   pick (Some its) true e t =
       let h = t.done its refl e in
-      turns its refl h.lender.stage h.lender.loan
+      turns its refl h.lender.belief
 
--- stages at which bytes were found
-abbrev pub finds : Stage → Bool
-finds AtPrivate = false
-finds AtChosen = false
-finds AtCopied = false
-finds AtLoaned = false
-finds AtHeld = false
-finds AtEqual = true
-finds AtLettingGo = false
-finds AtShown = false
-finds AtHoming = false
-finds AtLeaving = false
-finds AtZeros = false
-finds AtHeldZeros = false
-finds AtEqualZeros = true
-finds AtPuttingBack = false
+unshown_finds : (frames : ℕ → List ℕ) (its : Target) (bytes : List ℕ) → found_of frames (unshown its) ≡ Some bytes → ⊥
+unshown_finds frames (Frame slot n) bytes f = cc
+unshown_finds frames Zeros bytes f = cc
 
-pub not_found : (frames : ℕ → List ℕ) (b : Belief) (bytes : List ℕ) → finds (stage_of b) ≡ false → found_of frames b ≡ Some bytes → ⊥
-not_found frames Private bytes e f = cc
-not_found frames Chosen bytes e f = cc
-not_found frames Copied bytes e f = cc
-not_found frames (Loaned slot n) bytes e f = cc
-not_found frames (Held slot n) bytes e f = cc
-not_found frames (Equal slot n) bytes e f = cc
-not_found frames (LettingGo slot) bytes e f = cc
-not_found frames (Shown slot n) bytes e f = cc
-not_found frames (Homing slot n in_place) bytes e f = cc
-not_found frames (Leaving slot) bytes e f = cc
-not_found frames Zeros bytes e f = cc
-not_found frames HeldZeros bytes e f = cc
-not_found frames EqualZeros bytes e f = cc
-not_found frames PuttingBack bytes e f = cc
+shown_finds : (frames : ℕ → List ℕ) (its : Target) (bytes : List ℕ) → found_of frames (shown_as its) ≡ Some bytes → ⊥
+shown_finds frames (Frame slot n) bytes f = cc
+shown_finds frames Zeros bytes f = cc
 
-pub fallback_finds_none : (order : Order) → finds (fallback order) ≡ false
-fallback_finds_none Order.Wait = refl
-fallback_finds_none Order.Copy = refl
-fallback_finds_none Order.Lend = refl
-fallback_finds_none Order.Hold = refl
-fallback_finds_none (Order.Compare n) = refl
-fallback_finds_none (Order.Map n) = refl
-fallback_finds_none Order.LetGo = refl
-fallback_finds_none Order.CopyInPlace = refl
-fallback_finds_none Order.TakeHome = refl
-fallback_finds_none (Order.Release slot) = refl
-fallback_finds_none Order.HoldZeros = refl
-fallback_finds_none Order.CompareZeros = refl
-fallback_finds_none Order.GiveBack = refl
-fallback_finds_none Order.PutBack = refl
+home_finds : (frames : ℕ → List ℕ) (homing : Homing) (slot n : ℕ) (bytes : List ℕ) → found_of frames (home homing slot n) ≡ Some bytes → ⊥
+home_finds frames Off slot n bytes f = cc
+home_finds frames InPlace slot n bytes f = cc
+home_finds frames Elsewhere slot n bytes f = cc
 
-pub doubt_finds_none : (order : Order) → finds (doubt order) ≡ false
-doubt_finds_none Order.Wait = refl
-doubt_finds_none Order.Copy = refl
-doubt_finds_none Order.Lend = refl
-doubt_finds_none Order.Hold = refl
-doubt_finds_none (Order.Compare n) = refl
-doubt_finds_none (Order.Map n) = refl
-doubt_finds_none Order.LetGo = refl
-doubt_finds_none Order.CopyInPlace = refl
-doubt_finds_none Order.TakeHome = refl
-doubt_finds_none (Order.Release slot) = refl
-doubt_finds_none Order.HoldZeros = refl
-doubt_finds_none Order.CompareZeros = refl
-doubt_finds_none Order.GiveBack = refl
-doubt_finds_none Order.PutBack = refl
+dropped_finds : (frames : ℕ → List ℕ) (stage : Stage) (its : Target) (bytes : List ℕ) → found_of frames (dropped stage its) ≡ Some bytes → ⊥
+dropped_finds frames Ready its bytes f = unshown_finds frames its bytes f
+dropped_finds frames Held its bytes f = cc
+dropped_finds frames Equal its bytes f = cc
+dropped_finds frames LettingGo its bytes f = cc
 
 -- only a comparison finds bytes
+abbrev pub is_compared_at : Stage → Bool
+is_compared_at Ready = false
+is_compared_at Held = true
+is_compared_at Equal = false
+is_compared_at LettingGo = false
+
 abbrev pub is_compared : Belief → Bool
 is_compared Private = false
 is_compared Chosen = false
 is_compared Copied = false
-is_compared (Loaned slot n) = false
-is_compared (Held slot n) = true
-is_compared (Equal slot n) = false
-is_compared (LettingGo slot) = false
-is_compared (Shown slot n) = false
-is_compared (Homing slot n in_place) = false
+is_compared (Turning stage its) = is_compared_at stage
+is_compared (Shown slot n homing) = false
 is_compared (Leaving slot) = false
-is_compared Zeros = false
-is_compared HeldZeros = true
-is_compared EqualZeros = false
-is_compared PuttingBack = false
 
-aim_finds_none : (b : Belief) → is_compared b ≡ false → finds (aim (due b)) ≡ false
-aim_finds_none Private e = refl
-aim_finds_none Chosen e = refl
-aim_finds_none Copied e = refl
-aim_finds_none (Loaned slot n) e = refl
-aim_finds_none (Held slot n) e = cc
-aim_finds_none (Equal slot n) e = refl
-aim_finds_none (LettingGo slot) e = refl
-aim_finds_none (Shown slot n) e = refl
-aim_finds_none (Homing slot n true) e = refl
-aim_finds_none (Homing slot n false) e = refl
-aim_finds_none (Leaving slot) e = refl
-aim_finds_none Zeros e = refl
-aim_finds_none HeldZeros e = cc
-aim_finds_none EqualZeros e = refl
-aim_finds_none PuttingBack e = refl
+turning_finds : (frames : ℕ → List ℕ) (stage : Stage) (its : Target) (bytes : List ℕ) → is_compared_at stage ≡ false → found_of frames (obeyed_at stage its) ≡ Some bytes → ⊥
+turning_finds frames Ready its bytes e f = cc
+turning_finds frames Held its bytes e f = cc
+turning_finds frames Equal its bytes e f = shown_finds frames its bytes f
+turning_finds frames LettingGo its bytes e f = unshown_finds frames its bytes f
 
-pub finds_none : (b : Belief) (its : Outcome) → is_compared b ≡ false → finds (led_to (due b) its) ≡ false
-finds_none b Done e = aim_finds_none b e
-finds_none b (Lent slot n) e = aim_finds_none b e
-finds_none b NotDone e = fallback_finds_none (due b)
-finds_none b Unknown e = doubt_finds_none (due b)
+obeyed_finds : (frames : ℕ → List ℕ) (b : Belief) (bytes : List ℕ) → is_compared b ≡ false → found_of frames (obeyed b) ≡ Some bytes → ⊥
+obeyed_finds frames Private bytes e f = cc
+obeyed_finds frames Chosen bytes e f = cc
+obeyed_finds frames Copied bytes e f = cc
+obeyed_finds frames (Turning stage its) bytes e f = turning_finds frames stage its bytes e f
+obeyed_finds frames (Shown slot n homing) bytes e f = home_finds frames homing slot n bytes f
+obeyed_finds frames (Leaving slot) bytes e f = cc
+
+given_found : (frames : ℕ → List ℕ) (b : Belief) (slot n : ℕ) (bytes : List ℕ) → found_of frames (given b slot n) ≡ Some bytes → found_of frames b ≡ Some bytes
+given_found frames Private slot n bytes f = f
+given_found frames Chosen slot n bytes f = f
+given_found frames Copied slot n bytes f = f
+given_found frames (Turning stage its) slot n bytes f = f
+given_found frames (Shown old m homing) slot n bytes f = f
+given_found frames (Leaving old) slot n bytes f = f
+
+refused_finds : (frames : ℕ → List ℕ) (b : Belief) (bytes : List ℕ) → found_of frames (refused b) ≡ Some bytes → ⊥
+refused_finds frames Private bytes f = cc
+refused_finds frames Chosen bytes f = cc
+refused_finds frames Copied bytes f = cc
+refused_finds frames (Turning stage its) bytes f = dropped_finds frames stage its bytes f
+refused_finds frames (Shown slot n homing) bytes f = cc
+refused_finds frames (Leaving slot) bytes f = cc
+
+doubted_turning : (frames : ℕ → List ℕ) (stage : Stage) (its : Target) (bytes : List ℕ) → found_of frames (Turning (doubted_at stage) its) ≡ Some bytes → found_of frames (Turning stage its) ≡ Some bytes
+doubted_turning frames Ready its bytes f = f
+doubted_turning frames Held its bytes f = f
+doubted_turning frames Equal its bytes f = f
+doubted_turning frames LettingGo its bytes f = f
+
+doubted_found : (frames : ℕ → List ℕ) (b : Belief) (bytes : List ℕ) → found_of frames (doubted b) ≡ Some bytes → found_of frames b ≡ Some bytes
+doubted_found frames Private bytes f = f
+doubted_found frames Chosen bytes f = f
+doubted_found frames Copied bytes f = f
+doubted_found frames (Turning stage its) bytes f = doubted_turning frames stage its bytes f
+doubted_found frames (Shown slot n homing) bytes f = f
+doubted_found frames (Leaving slot) bytes f = f
+
+pub done_found : (frames : ℕ → List ℕ) (b : Belief) (its : Outcome) (bytes : List ℕ) → is_compared b ≡ false → found_of frames (done_of b its) ≡ Some bytes → found_of frames b ≡ Some bytes
+done_found frames b Done bytes e f = absurd (obeyed_finds frames b bytes e f)
+done_found frames b (Lent slot n) bytes e f = given_found frames b slot n bytes f
+done_found frames b NotDone bytes e f = absurd (refused_finds frames b bytes f)
+done_found frames b Unknown bytes e f = doubted_found frames b bytes f
 
 -- bars that are looked at find nothing
 pub prepared_found : (frames : ℕ → List ℕ) (b : Belief) (bars : Bars) (bytes : List ℕ) → found_of frames (prepared bars b) ≡ Some bytes → found_of frames b ≡ Some bytes
 prepared_found frames Private bars bytes f = f
 prepared_found frames Chosen bars bytes f = pick (is_barred bars) f where
   pick : (t : Bool) → found_of frames (if t then Private else Chosen) ≡ Some bytes → found_of frames Chosen ≡ Some bytes
-  pick true f = cc
+  pick true f = f
   pick false f = f
 prepared_found frames Copied bars bytes f = pick (is_barred bars) f where
   pick : (t : Bool) → found_of frames (if t then Private else Copied) ≡ Some bytes → found_of frames Copied ≡ Some bytes
-  pick true f = cc
+  pick true f = f
   pick false f = f
-prepared_found frames (Loaned slot n) bars bytes f = pick (is_barred bars) f where
-  pick : (t : Bool) → found_of frames (if t then Leaving slot else Loaned slot n) ≡ Some bytes → found_of frames (Loaned slot n) ≡ Some bytes
-  pick true f = cc
+prepared_found frames (Turning stage its) bars bytes f = pick (is_barred bars) f where
+  pick : (t : Bool) → found_of frames (if t then dropped stage its else Turning stage its) ≡ Some bytes → found_of frames (Turning stage its) ≡ Some bytes
+  pick true f = absurd (dropped_finds frames stage its bytes f)
   pick false f = f
-prepared_found frames (Held slot n) bars bytes f = pick (is_barred bars) f where
-  pick : (t : Bool) → found_of frames (if t then LettingGo slot else Held slot n) ≡ Some bytes → found_of frames (Held slot n) ≡ Some bytes
-  pick true f = cc
-  pick false f = f
-prepared_found frames (Equal slot n) bars bytes f = pick (is_barred bars) f where
-  pick : (t : Bool) → found_of frames (if t then LettingGo slot else Equal slot n) ≡ Some bytes → found_of frames (Equal slot n) ≡ Some bytes
-  pick true f = cc
-  pick false f = f
-prepared_found frames (LettingGo slot) bars bytes f = f
-prepared_found frames (Shown slot n) bars bytes f = pick (must_own bars) f where
-  pick : (t : Bool) → found_of frames (if t then Homing slot n bars.pinned else Shown slot n) ≡ Some bytes → found_of frames (Shown slot n) ≡ Some bytes
-  pick true f = cc
-  pick false f = cc
-prepared_found frames (Homing slot n in_place) bars bytes f = pick (must_own bars) f where
-  pick : (t : Bool) → found_of frames (if t then Homing slot n bars.pinned else Shown slot n) ≡ Some bytes → found_of frames (Homing slot n in_place) ≡ Some bytes
-  pick true f = cc
-  pick false f = cc
+prepared_found frames (Shown slot n homing) bars bytes f = f
 prepared_found frames (Leaving slot) bars bytes f = f
-prepared_found frames Zeros bars bytes f = pick (is_barred bars) f where
-  pick : (t : Bool) → found_of frames (if t then Private else Zeros) ≡ Some bytes → found_of frames Zeros ≡ Some bytes
-  pick true f = cc
-  pick false f = f
-prepared_found frames HeldZeros bars bytes f = pick (is_barred bars) f where
-  pick : (t : Bool) → found_of frames (if t then PuttingBack else HeldZeros) ≡ Some bytes → found_of frames HeldZeros ≡ Some bytes
-  pick true f = cc
-  pick false f = f
-prepared_found frames EqualZeros bars bytes f = pick (is_barred bars) f where
-  pick : (t : Bool) → found_of frames (if t then PuttingBack else EqualZeros) ≡ Some bytes → found_of frames EqualZeros ≡ Some bytes
-  pick true f = cc
-  pick false f = f
-prepared_found frames PuttingBack bars bytes f = f
+
+-- How a page of which this is believed is held: it rests, and no write to it waits; it is let go; it is compared; or it was found equal.
+pub data Holds : Belief → Type 0 where
+  rests_so : (b : Belief) → waiting b ≡ false → ((at : HeldPlace) → step_of b at ≡ parted at) → Holds b
+  is_let_go : (its : Target) → Holds (Turning LettingGo its)
+  is_held_so : (its : Target) → Holds (Turning Held its)
+  is_equal : (its : Target) → Holds (Turning Equal its)
+
+turning_holds : (stage : Stage) (its : Target) → Holds (Turning stage its)
+turning_holds Ready its = rests_so (Turning Ready its) refl (λ at. refl)
+turning_holds Held its = is_held_so its
+turning_holds Equal its = is_equal its
+turning_holds LettingGo its = is_let_go its
+
+pub holds : (b : Belief) → Holds b
+holds Private = rests_so Private refl (λ at. refl)
+holds Chosen = rests_so Chosen refl (λ at. refl)
+holds Copied = rests_so Copied refl (λ at. refl)
+holds (Turning stage its) = turning_holds stage its
+holds (Shown slot n homing) = rests_so (Shown slot n homing) refl (λ at. refl)
+holds (Leaving slot) = rests_so (Leaving slot) refl (λ at. refl)
 
 -- the page's memory has its bytes
 pub memory_is : (place : HeldPlace) (spot : Spot) (bytes : List ℕ) → Lies place spot → memory place spot ≡ Some bytes → bytes ≡ spot.content
@@ -226,68 +190,40 @@ parted_maps Guarded e = cc
 parted_maps Aside e = cc
 parted_maps Replaced e = cc
 
-zeros_parted_maps : (place : HeldPlace) → zeros_parted place ≡ Map → ⊥
-zeros_parted_maps Free e = cc
-zeros_parted_maps Guarded e = cc
-zeros_parted_maps Aside e = cc
-zeros_parted_maps Replaced e = cc
-
 parted_gives : (place : HeldPlace) → parted place ≡ GiveBack → ⊥
 parted_gives Free e = cc
 parted_gives Guarded e = cc
 parted_gives Aside e = cc
 parted_gives Replaced e = cc
 
+parted_ends : parted Aside ≡ EndWatch → ⊥
+parted_ends e = cc
+
 -- what is mapped was found equal
-map_found : (frames : ℕ → List ℕ) (b : Belief) (place : HeldPlace) → step_of b place ≡ Map → found_of frames b ≡ Some (target frames b)
-map_found frames Private place e = absurd (parted_maps place e)
-map_found frames Chosen place e = absurd (parted_maps place e)
-map_found frames Copied place e = absurd (parted_maps place e)
-map_found frames (Loaned slot n) place e = absurd (parted_maps place e)
-map_found frames (Held slot n) place e = cc
-map_found frames (Equal slot n) place e = refl
-map_found frames (LettingGo slot) place e = absurd (parted_maps place e)
-map_found frames (Shown slot n) place e = absurd (parted_maps place e)
-map_found frames (Homing slot n in_place) place e = absurd (parted_maps place e)
-map_found frames (Leaving slot) place e = absurd (parted_maps place e)
-map_found frames Zeros place e = absurd (parted_maps place e)
-map_found frames HeldZeros place e = cc
-map_found frames EqualZeros place e = absurd (zeros_parted_maps place e)
-map_found frames PuttingBack place e = absurd (parted_maps place e)
+map_found : (frames : ℕ → List ℕ) (b : Belief) (place : HeldPlace) → Holds b → step_of b place ≡ Map → found_of frames b ≡ Some (target frames b)
+map_found frames b place (rests_so its w p) e = absurd (parted_maps place (sym (p place) ∙ e))
+map_found frames b place (is_let_go its) e = absurd (parted_maps place e)
+map_found frames b place (is_held_so (Frame slot n)) e = cc
+map_found frames b place (is_held_so Zeros) e = cc
+map_found frames b place (is_equal its) e = refl
 
 -- what is given back was found to be zeros
-given_found : (frames : ℕ → List ℕ) (b : Belief) (place : HeldPlace) → step_of b place ≡ GiveBack → found_of frames b ≡ Some zeros
-given_found frames Private place e = absurd (parted_gives place e)
-given_found frames Chosen place e = absurd (parted_gives place e)
-given_found frames Copied place e = absurd (parted_gives place e)
-given_found frames (Loaned slot n) place e = absurd (parted_gives place e)
-given_found frames (Held slot n) place e = cc
-given_found frames (Equal slot n) place e = cc
-given_found frames (LettingGo slot) place e = absurd (parted_gives place e)
-given_found frames (Shown slot n) place e = absurd (parted_gives place e)
-given_found frames (Homing slot n in_place) place e = absurd (parted_gives place e)
-given_found frames (Leaving slot) place e = absurd (parted_gives place e)
-given_found frames Zeros place e = absurd (parted_gives place e)
-given_found frames HeldZeros place e = cc
-given_found frames EqualZeros place e = refl
-given_found frames PuttingBack place e = absurd (parted_gives place e)
+given_back_found : (frames : ℕ → List ℕ) (b : Belief) (place : HeldPlace) → Holds b → step_of b place ≡ GiveBack → found_of frames b ≡ Some zeros
+given_back_found frames b place (rests_so its w p) e = absurd (parted_gives place (sym (p place) ∙ e))
+given_back_found frames b place (is_let_go its) e = absurd (parted_gives place e)
+given_back_found frames b place (is_held_so (Frame slot n)) e = cc
+given_back_found frames b place (is_held_so Zeros) e = cc
+given_back_found frames b place (is_equal (Frame slot n)) e = cc
+given_back_found frames b place (is_equal Zeros) e = refl
 
 -- an empty place is left only to a page that was found to be zeros
-aside_found : (frames : ℕ → List ℕ) (b : Belief) → step_of b Aside ≡ EndWatch → found_of frames b ≡ Some zeros
-aside_found frames Private e = cc
-aside_found frames Chosen e = cc
-aside_found frames Copied e = cc
-aside_found frames (Loaned slot n) e = cc
-aside_found frames (Held slot n) e = cc
-aside_found frames (Equal slot n) e = cc
-aside_found frames (LettingGo slot) e = cc
-aside_found frames (Shown slot n) e = cc
-aside_found frames (Homing slot n in_place) e = cc
-aside_found frames (Leaving slot) e = cc
-aside_found frames Zeros e = cc
-aside_found frames HeldZeros e = cc
-aside_found frames EqualZeros e = refl
-aside_found frames PuttingBack e = cc
+aside_found : (frames : ℕ → List ℕ) (b : Belief) → Holds b → step_of b Aside ≡ EndWatch → found_of frames b ≡ Some zeros
+aside_found frames b (rests_so its w p) e = absurd (parted_ends (sym (p Aside) ∙ e))
+aside_found frames b (is_let_go its) e = cc
+aside_found frames b (is_held_so (Frame slot n)) e = cc
+aside_found frames b (is_held_so Zeros) e = cc
+aside_found frames b (is_equal (Frame slot n)) e = cc
+aside_found frames b (is_equal Zeros) e = refl
 
 parted_puts : (place : HeldPlace) → parted place ≡ PutBack → place ≡ Aside
 parted_puts Free e = cc
@@ -302,32 +238,24 @@ zeros_parted_puts Aside e = cc
 zeros_parted_puts Replaced e = cc
 
 -- only what is aside is put back
-put_from_aside : (b : Belief) (place : HeldPlace) → step_of b place ≡ PutBack → place ≡ Aside
-put_from_aside Private place e = parted_puts place e
-put_from_aside Chosen place e = parted_puts place e
-put_from_aside Copied place e = parted_puts place e
-put_from_aside (Loaned slot n) place e = parted_puts place e
-put_from_aside (Held slot n) place e = cc
-put_from_aside (Equal slot n) place e = cc
-put_from_aside (LettingGo slot) place e = parted_puts place e
-put_from_aside (Shown slot n) place e = parted_puts place e
-put_from_aside (Homing slot n in_place) place e = parted_puts place e
-put_from_aside (Leaving slot) place e = parted_puts place e
-put_from_aside Zeros place e = parted_puts place e
-put_from_aside HeldZeros place e = cc
-put_from_aside EqualZeros place e = zeros_parted_puts place e
-put_from_aside PuttingBack place e = parted_puts place e
+put_from_aside : (b : Belief) (place : HeldPlace) → Holds b → step_of b place ≡ PutBack → place ≡ Aside
+put_from_aside b place (rests_so its w p) e = parted_puts place (sym (p place) ∙ e)
+put_from_aside b place (is_let_go its) e = parted_puts place e
+put_from_aside b place (is_held_so (Frame slot n)) e = cc
+put_from_aside b place (is_held_so Zeros) e = cc
+put_from_aside b place (is_equal (Frame slot n)) e = cc
+put_from_aside b place (is_equal Zeros) e = zeros_parted_puts place e
 
 still_lies : (frames : ℕ → List ℕ) (b : Belief) (place : HeldPlace) (spot : Spot) → step_of b place ≡ EndWatch → Right frames b place spot → Lies (still_watched place) spot
 still_lies frames b Free spot e r = r.lies
 still_lies frames b Guarded spot e r = r.lies
-still_lies frames b Aside spot e r = ap (λ z. unwrap_or z zeros) r.lies.0 ∙ r.found zeros (aside_found frames b e)
+still_lies frames b Aside spot e r = ap (λ z. unwrap_or z zeros) r.lies.0 ∙ r.found zeros (aside_found frames b (holds b) e)
 still_lies frames b Replaced spot e r = r.lies
 
 left_lies : (frames : ℕ → List ℕ) (b : Belief) (place : HeldPlace) (spot : Spot) → step_of b place ≡ EndWatch → Right frames b place spot → unwrap_or spot.here zeros ≡ spot.content
 left_lies frames b Free spot e r = ap (λ z. unwrap_or z zeros) r.lies
 left_lies frames b Guarded spot e r = ap (λ z. unwrap_or z zeros) r.lies
-left_lies frames b Aside spot e r = ap (λ z. unwrap_or z zeros) r.lies.0 ∙ r.found zeros (aside_found frames b e)
+left_lies frames b Aside spot e r = ap (λ z. unwrap_or z zeros) r.lies.0 ∙ r.found zeros (aside_found frames b (holds b) e)
 left_lies frames b Replaced spot e r = r.lies
 
 put_lies : (place : HeldPlace) (spot : Spot) → place ≡ Aside → Lies place spot → spot.aside ≡ Some spot.content
@@ -353,7 +281,7 @@ lies_after frames b place its is_done x y e (refuses step spot) r = refused_lies
 lies_after frames b place its is_done x y e (rests spot) r = r.lies
 lies_after frames b place its is_done x y e (compares spot m) r = r.lies
 lies_after frames b place its is_done x y e (compares_zeros spot m) r = r.lies
-lies_after frames b place its is_done x y e (maps spot) r = r.found (target frames b) (map_found frames b place e)
-lies_after frames b place its is_done x y e (gives_back spot) r = r.found zeros (given_found frames b place e)
-lies_after frames b place its is_done x y e (puts_back spot) r = put_lies place spot (put_from_aside b place e) r.lies
+lies_after frames b place its is_done x y e (maps spot) r = r.found (target frames b) (map_found frames b place (holds b) e)
+lies_after frames b place its is_done x y e (gives_back spot) r = r.found zeros (given_back_found frames b place (holds b) e)
+lies_after frames b place its is_done x y e (puts_back spot) r = put_lies place spot (put_from_aside b place (holds b) e) r.lies
 lies_after frames b place its is_done x y e (ends_watch spot) r = ap (λ z. Some z) (left_lies frames b place spot e r)

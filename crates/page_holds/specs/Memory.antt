@@ -1,7 +1,11 @@
 -- Where the bytes of a page are while it is held, and what steps do with them.
 use Rattle.std.specs.Prelude.{◌≡◌, ℕ, Bool, true, false, List, replicate, Option, Some, None, unwrap_or}
 use Rattle.page_lender.specs.declared.belief.Belief.{Belief}
-use Rattle.page_lender.specs.declared.belief.Belief.TheVariants.{Private, Chosen, Copied, Loaned, Held, Equal, LettingGo, Shown, Homing, Leaving, Zeros, HeldZeros, EqualZeros, PuttingBack}
+use Rattle.page_lender.specs.declared.belief.Belief.TheVariants.{Private, Chosen, Copied, Turning, Shown, Leaving}
+use Rattle.page_lender.specs.declared.belief.Stage.{Stage}
+use Rattle.page_lender.specs.declared.belief.Stage.TheVariants.{Ready, Held, Equal, LettingGo}
+use Rattle.page_lender.specs.declared.belief.Target.{Target}
+use Rattle.page_lender.specs.declared.belief.Target.TheVariants.{Frame, Zeros}
 use Rattle.page_holds.specs.declared.place.HeldPlace.{HeldPlace}
 use Rattle.page_holds.specs.declared.place.HeldPlace.TheVariants.{Free, Guarded, Aside, Replaced}
 use Rattle.page_holds.specs.declared.place.HoldStep.{HoldStep}
@@ -33,21 +37,17 @@ memory Aside spot = spot.aside
 memory Replaced spot = spot.here
 
 -- the bytes that are to be shown in place of the page's memory: its frame's, or zeros
+abbrev pub bytes_of : (ℕ → List ℕ) → Target → List ℕ
+bytes_of frames (Frame slot n) = frames n
+bytes_of frames Zeros = zeros
+
 abbrev pub target : (ℕ → List ℕ) → Belief → List ℕ
 target frames Private = zeros
 target frames Chosen = zeros
 target frames Copied = zeros
-target frames (Loaned slot n) = frames n
-target frames (Held slot n) = frames n
-target frames (Equal slot n) = frames n
-target frames (LettingGo slot) = zeros
-target frames (Shown slot n) = frames n
-target frames (Homing slot n in_place) = frames n
+target frames (Turning stage its) = bytes_of frames its
+target frames (Shown slot n homing) = frames n
 target frames (Leaving slot) = zeros
-target frames Zeros = zeros
-target frames HeldZeros = zeros
-target frames EqualZeros = zeros
-target frames PuttingBack = zeros
 
 -- What the system did in a step with a page of which this is believed and whose memory is there: what it refuses changes nothing. Where nothing is
 -- at a page's place when its watch ends, anyone who reads it finds zeros.
@@ -62,21 +62,19 @@ pub data Did (frames : ℕ → List ℕ) (belief : Belief) (place : HeldPlace) :
   ends_watch : (spot : Spot) → Did frames belief place EndWatch true spot (record spot { here = Some (unwrap_or spot.here zeros) })
 
 -- writes to the page wait for certain, since it was held
+abbrev pub is_held_at : Stage → Bool
+is_held_at Ready = false
+is_held_at Held = true
+is_held_at Equal = true
+is_held_at LettingGo = false
+
 abbrev pub is_held : Belief → Bool
 is_held Private = false
 is_held Chosen = false
 is_held Copied = false
-is_held (Loaned slot n) = false
-is_held (Held slot n) = true
-is_held (Equal slot n) = true
-is_held (LettingGo slot) = false
-is_held (Shown slot n) = false
-is_held (Homing slot n in_place) = false
+is_held (Turning stage target) = is_held_at stage
+is_held (Shown slot n homing) = false
 is_held (Leaving slot) = false
-is_held Zeros = false
-is_held HeldZeros = true
-is_held EqualZeros = true
-is_held PuttingBack = false
 
 -- its memory is at its place, so that its guest may write it there
 abbrev pub is_at_place : HeldPlace → Bool

@@ -2,7 +2,11 @@
 use Rattle.std.specs.Prelude.{◌≡◌, Bool, true, false, if◌then◌else◌, Option, Some, None}
 use Rattle.page_lender.specs.Decisions.{waiting}
 use Rattle.page_lender.specs.declared.belief.Belief.{Belief}
-use Rattle.page_lender.specs.declared.belief.Belief.TheVariants.{Private, Chosen, Copied, Loaned, Held, Equal, LettingGo, Shown, Homing, Leaving, Zeros, HeldZeros, EqualZeros, PuttingBack}
+use Rattle.page_lender.specs.declared.belief.Belief.TheVariants.{Private, Chosen, Copied, Turning, Shown, Leaving}
+use Rattle.page_lender.specs.declared.belief.Stage.{Stage}
+use Rattle.page_lender.specs.declared.belief.Stage.TheVariants.{Ready, Held, Equal, LettingGo}
+use Rattle.page_lender.specs.declared.belief.Target.{Target}
+use Rattle.page_lender.specs.declared.belief.Target.TheVariants.{Frame, Zeros}
 use Rattle.page_lender.specs.declared.order.Outcome.{Outcome}
 use Rattle.page_lender.specs.declared.order.Outcome.TheVariants.{Done, Unknown, Refused as NotDone}
 use Rattle.page_lender.specs.Calls.{IsDone}
@@ -34,21 +38,19 @@ place_of TakenGuarded = Guarded
 place_of TakenAside = Aside
 
 -- the page is to be held
+abbrev pub is_ready : Stage → Bool
+is_ready Ready = true
+is_ready Held = false
+is_ready Equal = false
+is_ready LettingGo = false
+
 abbrev pub is_to_hold : Belief → Bool
 is_to_hold Private = false
 is_to_hold Chosen = false
 is_to_hold Copied = false
-is_to_hold (Loaned slot n) = true
-is_to_hold (Held slot n) = false
-is_to_hold (Equal slot n) = false
-is_to_hold (LettingGo slot) = false
-is_to_hold (Shown slot n) = false
-is_to_hold (Homing slot n in_place) = false
+is_to_hold (Turning stage target) = is_ready stage
+is_to_hold (Shown slot n homing) = false
 is_to_hold (Leaving slot) = false
-is_to_hold Zeros = true
-is_to_hold HeldZeros = false
-is_to_hold EqualZeros = false
-is_to_hold PuttingBack = false
 
 -- the outcome that is taken when a hold begins
 abbrev pub asks_for : Belief → Taking → Option Outcome
@@ -68,22 +70,31 @@ zeros_parted Guarded = GiveBack
 zeros_parted Aside = EndWatch
 zeros_parted Replaced = EndWatch
 
+-- with one that was held
+abbrev pub compared : Target → HoldStep
+compared (Frame slot n) = Compare
+compared Zeros = CompareZeros
+
+-- with one that was found equal to its target
+abbrev pub shown_step : Target → HeldPlace → HoldStep
+shown_step (Frame slot n) place = Map
+shown_step Zeros place = zeros_parted place
+
+-- with one that has come so far on its way to a target
+abbrev pub step_at : Stage → Target → HeldPlace → HoldStep
+step_at Ready target place = parted place
+step_at Held target place = compared target
+step_at Equal target place = shown_step target place
+step_at LettingGo target place = parted place
+
 -- with a page of which this is believed
 abbrev pub step_of : Belief → HeldPlace → HoldStep
 step_of Private place = parted place
 step_of Chosen place = parted place
 step_of Copied place = parted place
-step_of (Loaned slot n) place = parted place
-step_of (Held slot n) place = Compare
-step_of (Equal slot n) place = Map
-step_of (LettingGo slot) place = parted place
-step_of (Shown slot n) place = parted place
-step_of (Homing slot n in_place) place = parted place
+step_of (Turning stage target) place = step_at stage target place
+step_of (Shown slot n homing) place = parted place
 step_of (Leaving slot) place = parted place
-step_of Zeros place = parted place
-step_of HeldZeros place = CompareZeros
-step_of EqualZeros place = zeros_parted place
-step_of PuttingBack place = parted place
 
 -- where the memory is of a page for which threads may wait still: if nothing is at its place, zeros come there
 abbrev pub still_watched : HeldPlace → HeldPlace

@@ -9,28 +9,8 @@ ghost use Rattle.window_pages.specs.Known.{bars_of, lender_of};
 
 use crate::place::is_to_hold;
 use crate::{HeldPlace, HoldStep, Taking};
-use page_lender::{Bars, Belief, Outcome, PageLender};
+use page_lender::{Belief, Outcome};
 use window_pages::{PartCounts, WindowFacts, WindowPage, next, take};
-
-// Returns whether writes to a page may wait of which this is believed.
-fn waits(belief: Belief) -> bool
-    ensures { result ≡ waiting belief }
-{
-    let bars = Bars {
-        called: false,
-        pinned: false,
-        inherited: false,
-        locked: false,
-        left: false,
-        ended: false,
-    };
-    let lender = PageLender {
-        belief,
-        ordered: false,
-        bars,
-    };
-    lender.is_held()
-}
 
 // Returns the outcome of a page's order that was done, or wasn't.
 fn said(is_done: bool) -> Outcome
@@ -68,8 +48,8 @@ impl HoldStep {
             HoldStep::CompareZeros => Some(said(is_done)),
             HoldStep::Map => Some(said(is_done)),
             HoldStep::GiveBack => (!is_done).then_some(Outcome::Refused),
-            HoldStep::PutBack => (!is_done && waits(belief)).then_some(Outcome::Refused),
-            HoldStep::EndWatch => waits(belief).then_some(said(is_done)),
+            HoldStep::PutBack => (!is_done && belief.waits()).then_some(Outcome::Refused),
+            HoldStep::EndWatch => belief.waits().then_some(said(is_done)),
         }
     }
 
@@ -140,7 +120,7 @@ pub fn step(
     ensures page { waiting (belief_of page.old) ≡ false → page.new ≡ page.old }
     ensures part { waiting (belief_of page.old) ≡ false → part.new ≡ part.old }
 {
-    if waits(page.known().belief) {
+    if page.known().belief.waits() {
         next(page, part, facts);
     }
     place.step(page.known().belief)

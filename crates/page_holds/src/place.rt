@@ -1,8 +1,8 @@
 //! Where the memory of a page is while the page is held, and what is done next.
 ghost use Rattle.std.specs.Prelude.{◌≡◌};
-ghost use Rattle.page_holds.specs.Steps.{is_to_hold, outcome_of, parted, place_of, step_of, zeros_parted};
+ghost use Rattle.page_holds.specs.Steps.{compared, is_ready, is_to_hold, outcome_of, parted, place_of, shown_step, step_at, step_of, zeros_parted};
 
-use page_lender::{Belief, Outcome};
+use page_lender::{Belief, Outcome, Stage, Target};
 
 /// What came of an attempt to hold a page.
 #[derive(Clone, Copy, Debug, PartialEq, Eq)]
@@ -100,6 +100,28 @@ impl HeldPlace {
         }
     }
 
+    // Returns what is done next with a page that was found equal to this target.
+    fn shown(self, target: Target) -> HoldStep
+        ensures { result ≡ shown_step target self }
+    {
+        match target {
+            Target::Frame(_, _) => HoldStep::Map,
+            Target::Zeros => self.zeros_parted(),
+        }
+    }
+
+    // Returns what is done next with a page that has come so far on its way to this target.
+    fn turning(self, stage: Stage, target: Target) -> HoldStep
+        ensures { result ≡ step_at stage target self }
+    {
+        match stage {
+            Stage::Ready => self.parted(),
+            Stage::Held => compared(target),
+            Stage::Equal => self.shown(target),
+            Stage::LettingGo => self.parted(),
+        }
+    }
+
     /// Returns what is done next with a page whose memory is there, and of which this is believed.
     pub fn step(self, belief: Belief) -> HoldStep
         ensures { result ≡ step_of belief self }
@@ -108,18 +130,32 @@ impl HeldPlace {
             Belief::Private => self.parted(),
             Belief::Chosen => self.parted(),
             Belief::Copied => self.parted(),
-            Belief::Loaned(_, _) => self.parted(),
-            Belief::Held(_, _) => HoldStep::Compare,
-            Belief::Equal(_, _) => HoldStep::Map,
-            Belief::LettingGo(_) => self.parted(),
-            Belief::Shown(_, _) => self.parted(),
-            Belief::Homing(_, _, _) => self.parted(),
+            Belief::Turning(stage, target) => self.turning(stage, target),
+            Belief::Shown(_, _, _) => self.parted(),
             Belief::Leaving(_) => self.parted(),
-            Belief::Zeros => self.parted(),
-            Belief::HeldZeros => HoldStep::CompareZeros,
-            Belief::EqualZeros => self.zeros_parted(),
-            Belief::PuttingBack => self.parted(),
         }
+    }
+}
+
+// Returns what is done next with a page that was held.
+fn compared(target: Target) -> HoldStep
+    ensures { result ≡ compared target }
+{
+    match target {
+        Target::Frame(_, _) => HoldStep::Compare,
+        Target::Zeros => HoldStep::CompareZeros,
+    }
+}
+
+// Returns whether a page is to be held that has come so far on its way to a target.
+fn is_ready(stage: Stage) -> bool
+    ensures { result ≡ is_ready stage }
+{
+    match stage {
+        Stage::Ready => true,
+        Stage::Held => false,
+        Stage::Equal => false,
+        Stage::LettingGo => false,
     }
 }
 
@@ -131,16 +167,8 @@ pub(crate) fn is_to_hold(belief: Belief) -> bool
         Belief::Private => false,
         Belief::Chosen => false,
         Belief::Copied => false,
-        Belief::Loaned(_, _) => true,
-        Belief::Held(_, _) => false,
-        Belief::Equal(_, _) => false,
-        Belief::LettingGo(_) => false,
-        Belief::Shown(_, _) => false,
-        Belief::Homing(_, _, _) => false,
+        Belief::Turning(stage, _) => is_ready(stage),
+        Belief::Shown(_, _, _) => false,
         Belief::Leaving(_) => false,
-        Belief::Zeros => true,
-        Belief::HeldZeros => false,
-        Belief::EqualZeros => false,
-        Belief::PuttingBack => false,
     }
 }

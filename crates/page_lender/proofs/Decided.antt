@@ -1,5 +1,5 @@
 -- What the lender decides is events that are possible, and what it believes then is right.
-use Rattle.std.proofs.Common.{◌≡◌, ℕ, Bool, true, false, cond, not, ◌&&◌, ◌||◌, List, [], ◌∷◌, Some, None, refl, ap, sym, ◌∙◌, subst}
+use Rattle.std.proofs.Common.{◌≡◌, ℕ, Bool, true, false, cond, not, ◌&&◌, ◌||◌, List, [], ◌∷◌, Option, Some, None, refl, ap, sym, ◌∙◌, subst}
 use Rattle.std.specs.Prelude.{slice_get, slice_set, nat_eq, option_map, option_and_then, is_none}
 use Rattle.std.specs.Option.{option_map_or}
 use Rattle.std.proofs.lemmas.Bool.{eq-eqb}
@@ -10,12 +10,18 @@ use Rattle.window_events.specs.declared.event.Event.TheVariants.{Write, Guard, U
 use Rattle.window_events.specs.declared.page.Page.{Page}
 use Rattle.window_events.specs.declared.page.View.{View}
 use Rattle.window_events.specs.declared.page.View.TheVariants.{Own, Over}
-use Rattle.page_lender.specs.Decisions.{due, is_outcome, prepared, is_barred, must_own}
-use Rattle.page_lender.specs.Lender.{obeyed, given, refused, doubted, done_of}
-use Rattle.page_lender.specs.Events.{Fits, Believes, done_events, Done_is_true, Follows, DoneByEvents, StaysRight}
+use Rattle.page_lender.specs.Decisions.{dropped, due, is_barred, is_outcome, order_at, order_home, prepared, target_frame, unshown}
+use Rattle.page_lender.specs.Lender.{done_of, doubted, doubted_at, given, home, obeyed, obeyed_at, refused}
+use Rattle.page_lender.specs.Events.{Fits, Believes, done_events, Done_is_true, Follows, DoneByEvents, StaysRight, kept, kept_at, kept_copy}
 use Rattle.page_lender.specs.declared.bars.Bars.{Bars}
 use Rattle.page_lender.specs.declared.belief.Belief.{Belief}
-use Rattle.page_lender.specs.declared.belief.Belief.TheVariants.{Private, Chosen, Copied, Loaned, Held, Equal, LettingGo, Shown, Homing, Leaving, Zeros, HeldZeros, EqualZeros, PuttingBack}
+use Rattle.page_lender.specs.declared.belief.Belief.TheVariants.{Private, Chosen, Copied, Turning, Shown, Leaving}
+use Rattle.page_lender.specs.declared.belief.Homing.{Homing}
+use Rattle.page_lender.specs.declared.belief.Homing.TheVariants.{Off, InPlace, Elsewhere}
+use Rattle.page_lender.specs.declared.belief.Stage.{Stage}
+use Rattle.page_lender.specs.declared.belief.Stage.TheVariants.{Ready, Held, Equal, LettingGo}
+use Rattle.page_lender.specs.declared.belief.Target.{Target}
+use Rattle.page_lender.specs.declared.belief.Target.TheVariants.{Frame, Zeros}
 use Rattle.page_lender.specs.declared.order.Outcome.{Outcome}
 use Rattle.page_lender.specs.declared.order.Outcome.TheVariants.{Done, Lent, Refused, Unknown}
 use Rattle.page_lender.proofs.Kept.{set_own, stepped, over_seen}
@@ -103,8 +109,8 @@ two_played w a b e f s t =
     ∙ ap (λ o. option_map_or (λ next. played next []) o a) t
 
 -- the page was compared with its frame
-compare_follows : (slot n : ℕ) (w : Mappings) (p : ℕ) (page : Page) → slice_get w.pages p ≡ Some page → Fits (Held slot n) page → page.guarded ≡ true →
-    slice_get w.frames n ≡ Some (shown_in w.frames page.view) → Follows (Copy p ∷ Lend p n ∷ []) (Equal slot n) w p
+compare_follows : (slot n : ℕ) (w : Mappings) (p : ℕ) (page : Page) → slice_get w.pages p ≡ Some page → Fits (Turning Held (Frame slot n)) page → page.guarded ≡ true →
+    slice_get w.frames n ≡ Some (shown_in w.frames page.view) → Follows (Copy p ∷ Lend p n ∷ []) (Turning Equal (Frame slot n)) w p
 compare_follows slot n w p page there f g same =
     let x : ℕ = shown_in w.frames page.view in
     let first : Page = record page { copy = Some x; copy_fresh = true } in
@@ -117,16 +123,16 @@ compare_follows slot n w p page there f g same =
     let t : step a (Lend p n) ≡ Some b = lend_step a p n x first in_a f.holds refl same in
     record {
       possible = two_possible w a b (Copy p) (Lend p n) s t;
-      right = subst (λ v. Believes (Equal slot n) v p) (sym (two_played w a b (Copy p) (Lend p n) s t))
+      right = subst (λ v. Believes (Turning Equal (Frame slot n)) v p) (sym (two_played w a b (Copy p) (Lend p n) s t))
           (record { page = second; there = in_b; fits = record { holds = refl; view = f.view; waits = λ h. cc; copy = refl } });
     }
 
 -- the page was compared with zeros
-zeros_follow : (w : Mappings) (p : ℕ) (page : Page) → slice_get w.pages p ≡ Some page → Fits HeldZeros page → page.guarded ≡ true → shown_in w.frames page.view ≡ 0 →
-    Follows (Copy p ∷ []) EqualZeros w p
+zeros_follow : (w : Mappings) (p : ℕ) (page : Page) → slice_get w.pages p ≡ Some page → Fits (Turning Held Zeros) page → page.guarded ≡ true → shown_in w.frames page.view ≡ 0 →
+    Follows (Copy p ∷ []) (Turning Equal Zeros) w p
 zeros_follow w p page there f g same =
     let new : Page = record page { copy = Some (shown_in w.frames page.view); copy_fresh = true } in
-    one_follows EqualZeros w p (Copy p) page new there (stepped w p page new (copied w.frames) there (copy_step w.frames page g))
+    one_follows (Turning Equal Zeros) w p (Copy p) page new there (stepped w p page new (copied w.frames) there (copy_step w.frames page g))
     (record { holds = f.holds; view = f.view; waits = λ h. cc; copy = ap (λ x. Some x) same })
 
 -- its memory is given back
@@ -141,98 +147,116 @@ clear (Own x) h = refl
 clear (Over n (Some x)) h = refl
 clear (Over n None) h = cc
 
+-- a page that isn't to show its target: the frame that it holds, if it holds one, is its loan's
+holds_still : (target : Target) (held : Option ℕ) → held ≡ None → held ≡ kept_at LettingGo target held
+holds_still (Frame slot n) held e = refl
+holds_still Zeros held e = e
+
+keeps_loan : (target : Target) (held : Option ℕ) → held ≡ target_frame target → held ≡ kept_at LettingGo target held
+keeps_loan (Frame slot n) held e = refl
+keeps_loan Zeros held e = e
+
+unshown_fits : (target : Target) (page : Page) → page.held ≡ kept_at LettingGo target page.held → not (is_bare page.view) ≡ true → page.guarded ≡ false → Fits (unshown target) page
+unshown_fits (Frame slot n) page h v g = record { holds = refl; view = v; waits = λ e. g; copy = refl }
+unshown_fits Zeros page h v g = record { holds = h; view = v; waits = λ e. g; copy = refl }
+
+dropped_fits : (stage : Stage) (target : Target) (page : Page) → Fits (Turning stage target) page → Fits (dropped stage target) page
+dropped_fits Ready target page f = unshown_fits target page (holds_still target page.held f.holds) f.view (f.waits refl)
+dropped_fits Held target page f = record { holds = holds_still target page.held f.holds; view = f.view; waits = λ h. cc; copy = refl }
+dropped_fits Equal target page f = record { holds = keeps_loan target page.held f.holds; view = f.view; waits = λ h. cc; copy = refl }
+dropped_fits LettingGo target page f = f
+
+-- a copy of its own, where it is or elsewhere
+home_follows : (belief : Belief) (slot n : ℕ) (homing : Homing) (w : Mappings) (p : ℕ) (b : Believes (Shown slot n homing) w p) →
+    (b.page.held ≡ Some n → b.page.held ≡ kept belief b.page.held) → kept_copy belief b.page.copy ≡ b.page.copy →
+    Follows (Write p (shown_in w.frames b.page.view) ∷ []) belief w p
+home_follows belief slot n homing w p b h c =
+    let x : ℕ = shown_in w.frames b.page.view in
+    let free : b.page.guarded ≡ false = b.fits.waits refl in
+    write_follows belief w p x b.page b.there free (record { holds = h b.fits.holds; view = over_seen belief b.page.view x; waits = λ e. free; copy = sym c })
+
 -- what was due was done
+turning_follows : (stage : Stage) (target : Target) (w : Mappings) (p : ℕ) (b : Believes (Turning stage target) w p) → Done_is_true (order_at stage target) w b.page →
+    Follows (done_events p (shown_in w.frames b.page.view) (order_at stage target)) (obeyed_at stage target) w p
+turning_follows Ready target w p b t = guard_follows (Turning Held target) w p b.page b.there (record { holds = b.fits.holds; view = b.fits.view; waits = λ h. cc; copy = refl })
+turning_follows Held (Frame slot n) w p b t = compare_follows slot n w p b.page b.there b.fits t.0 t.1
+turning_follows Held Zeros w p b t = zeros_follow w p b.page b.there b.fits t.0 t.1
+turning_follows Equal (Frame slot n) w p b t =
+    map_follows (Shown slot n Off) n w p b.page b.there b.fits.holds t (record { holds = b.fits.holds; view = eq-eqb n n refl; waits = λ h. refl; copy = refl })
+turning_follows Equal Zeros w p b t = discard_follows w p b.page b.there b.fits.holds
+turning_follows LettingGo target w p b t = unguard_follows (unshown target) w p b.page b.there (unshown_fits target (lifted b.page) b.fits.holds b.fits.view refl)
+
+shown_follows : (slot n : ℕ) (homing : Homing) (w : Mappings) (p : ℕ) (b : Believes (Shown slot n homing) w p) → is_outcome (order_home homing) Done ≡ true →
+    Follows (done_events p (shown_in w.frames b.page.view) (order_home homing)) (home homing slot n) w p
+shown_follows slot n Off w p b o = cc
+shown_follows slot n InPlace w p b o = home_follows (Leaving slot) slot n InPlace w p b (λ e. refl) refl
+shown_follows slot n Elsewhere w p b o = home_follows (Leaving slot) slot n Elsewhere w p b (λ e. refl) refl
+
 obeyed_follows : (belief : Belief) (w : Mappings) (p : ℕ) (b : Believes belief w p) → is_outcome (due belief) Done ≡ true → Done_is_true (due belief) w b.page →
     Follows (done_events p (shown_in w.frames b.page.view) (due belief)) (obeyed belief) w p
 obeyed_follows Private w p b o t = cc
 obeyed_follows Chosen w p b o t = none_follows Copied w p b.page b.there (record { holds = b.fits.holds; view = b.fits.view; waits = b.fits.waits; copy = refl })
 obeyed_follows Copied w p b o t = cc
-obeyed_follows (Loaned slot n) w p b o t = guard_follows (Held slot n) w p b.page b.there (record { holds = b.fits.holds; view = b.fits.view; waits = λ h. cc; copy = refl })
-obeyed_follows (Held slot n) w p b o t = compare_follows slot n w p b.page b.there b.fits t.0 t.1
-obeyed_follows (Equal slot n) w p b o t =
-    map_follows (Shown slot n) n w p b.page b.there b.fits.holds t (record { holds = b.fits.holds; view = eq-eqb n n refl; waits = λ h. refl; copy = refl })
-obeyed_follows (LettingGo slot) w p b o t = unguard_follows (Leaving slot) w p b.page b.there (record { holds = refl; view = b.fits.view; waits = λ h. refl; copy = refl })
-obeyed_follows (Shown slot n) w p b o t = cc
-obeyed_follows (Homing slot n true) w p b o t =
-    write_follows (Leaving slot) w p (shown_in w.frames b.page.view) b.page b.there (b.fits.waits refl) (record { holds = refl; view = over_seen (Leaving slot) b.page.view (shown_in w.frames b.page.view); waits = b.fits.waits; copy = refl })
-obeyed_follows (Homing slot n false) w p b o t =
-    write_follows (Leaving slot) w p (shown_in w.frames b.page.view) b.page b.there (b.fits.waits refl) (record { holds = refl; view = over_seen (Leaving slot) b.page.view (shown_in w.frames b.page.view); waits = b.fits.waits; copy = refl })
+obeyed_follows (Turning stage target) w p b o t = turning_follows stage target w p b t
+obeyed_follows (Shown slot n homing) w p b o t = shown_follows slot n homing w p b o
 obeyed_follows (Leaving slot) w p b o t =
     release_follows Private w p b.page b.there (clear b.page.view b.fits.view) (record { holds = refl; view = b.fits.view; waits = b.fits.waits; copy = refl })
-obeyed_follows Zeros w p b o t = guard_follows HeldZeros w p b.page b.there (record { holds = b.fits.holds; view = b.fits.view; waits = λ h. cc; copy = refl })
-obeyed_follows HeldZeros w p b o t = zeros_follow w p b.page b.there b.fits t.0 t.1
-obeyed_follows EqualZeros w p b o t = discard_follows w p b.page b.there b.fits.holds
-obeyed_follows PuttingBack w p b o t = unguard_follows Private w p b.page b.there (record { holds = b.fits.holds; view = b.fits.view; waits = λ h. refl; copy = refl })
 
 refused_fits : (belief : Belief) (page : Page) → Fits belief page → Fits (refused belief) page
 refused_fits Private page f = f
 refused_fits Chosen page f = record { holds = f.holds; view = f.view; waits = f.waits; copy = refl }
 refused_fits Copied page f = record { holds = f.holds; view = f.view; waits = f.waits; copy = refl }
-refused_fits (Loaned slot n) page f = record { holds = refl; view = f.view; waits = f.waits; copy = refl }
-refused_fits (Held slot n) page f = record { holds = refl; view = f.view; waits = λ h. cc; copy = refl }
-refused_fits (Equal slot n) page f = record { holds = refl; view = f.view; waits = λ h. cc; copy = refl }
-refused_fits (LettingGo slot) page f = f
-refused_fits (Shown slot n) page f = f
-refused_fits (Homing slot n in_place) page f = record { holds = f.holds; view = f.view; waits = f.waits; copy = refl }
+refused_fits (Turning stage target) page f = dropped_fits stage target page f
+refused_fits (Shown slot n homing) page f = record { holds = f.holds; view = f.view; waits = f.waits; copy = refl }
 refused_fits (Leaving slot) page f = f
-refused_fits Zeros page f = record { holds = f.holds; view = f.view; waits = f.waits; copy = refl }
-refused_fits HeldZeros page f = record { holds = f.holds; view = f.view; waits = λ h. cc; copy = refl }
-refused_fits EqualZeros page f = record { holds = f.holds; view = f.view; waits = λ h. cc; copy = refl }
-refused_fits PuttingBack page f = f
 
 given_fits : (belief : Belief) (slot n : ℕ) (page : Page) → Fits belief page → Fits (given belief slot n) page
 given_fits Private slot n page f = f
 given_fits Chosen slot n page f = f
 given_fits Copied slot n page f = record { holds = f.holds; view = f.view; waits = f.waits; copy = refl }
-given_fits (Loaned old m) slot n page f = f
-given_fits (Held old m) slot n page f = f
-given_fits (Equal old m) slot n page f = f
-given_fits (LettingGo old) slot n page f = f
-given_fits (Shown old m) slot n page f = f
-given_fits (Homing old m in_place) slot n page f = f
+given_fits (Turning stage target) slot n page f = f
+given_fits (Shown old m homing) slot n page f = f
 given_fits (Leaving old) slot n page f = f
-given_fits Zeros slot n page f = f
-given_fits HeldZeros slot n page f = f
-given_fits EqualZeros slot n page f = f
-given_fits PuttingBack slot n page f = f
 
 -- nothing is known, and it wasn't done
+turning_doubt : (stage : Stage) (target : Target) (page : Page) → Fits (Turning stage target) page → Fits (Turning (doubted_at stage) target) page
+turning_doubt Ready target page f = record { holds = holds_still target page.held f.holds; view = f.view; waits = λ h. cc; copy = refl }
+turning_doubt Held target page f = f
+turning_doubt Equal target page f = f
+turning_doubt LettingGo target page f = f
+
 doubted_fits : (belief : Belief) (page : Page) → Fits belief page → Fits (doubted belief) page
 doubted_fits Private page f = f
 doubted_fits Chosen page f = f
 doubted_fits Copied page f = f
-doubted_fits (Loaned slot n) page f = record { holds = refl; view = f.view; waits = λ h. cc; copy = refl }
-doubted_fits (Held slot n) page f = f
-doubted_fits (Equal slot n) page f = f
-doubted_fits (LettingGo slot) page f = f
-doubted_fits (Shown slot n) page f = f
-doubted_fits (Homing slot n in_place) page f = record { holds = f.holds; view = f.view; waits = f.waits; copy = refl }
+doubted_fits (Turning stage target) page f = turning_doubt stage target page f
+doubted_fits (Shown slot n homing) page f = record { holds = f.holds; view = f.view; waits = f.waits; copy = refl }
 doubted_fits (Leaving slot) page f = f
-doubted_fits Zeros page f = record { holds = f.holds; view = f.view; waits = λ h. cc; copy = refl }
-doubted_fits HeldZeros page f = f
-doubted_fits EqualZeros page f = f
-doubted_fits PuttingBack page f = f
 
 -- nothing is known, and it was done
+turning_doubted : (stage : Stage) (target : Target) (w : Mappings) (p : ℕ) (b : Believes (Turning stage target) w p) → is_outcome (order_at stage target) Unknown ≡ true →
+    Follows (done_events p (shown_in w.frames b.page.view) (order_at stage target)) (Turning (doubted_at stage) target) w p
+turning_doubted Ready target w p b o =
+    guard_follows (Turning LettingGo target) w p b.page b.there (record { holds = holds_still target b.page.held b.fits.holds; view = b.fits.view; waits = λ h. cc; copy = refl })
+turning_doubted Held target w p b o = cc
+turning_doubted Equal target w p b o = cc
+turning_doubted LettingGo target w p b o =
+    unguard_follows (Turning LettingGo target) w p b.page b.there (record { holds = b.fits.holds; view = b.fits.view; waits = λ h. refl; copy = refl })
+
+shown_doubted : (slot n : ℕ) (homing : Homing) (w : Mappings) (p : ℕ) (b : Believes (Shown slot n homing) w p) → is_outcome (order_home homing) Unknown ≡ true →
+    Follows (done_events p (shown_in w.frames b.page.view) (order_home homing)) (Shown slot n Off) w p
+shown_doubted slot n Off w p b o = cc
+shown_doubted slot n InPlace w p b o = home_follows (Shown slot n Off) slot n InPlace w p b (λ e. e) refl
+shown_doubted slot n Elsewhere w p b o = home_follows (Shown slot n Off) slot n Elsewhere w p b (λ e. e) refl
+
 doubted_follows : (belief : Belief) (w : Mappings) (p : ℕ) (b : Believes belief w p) → is_outcome (due belief) Unknown ≡ true →
     Follows (done_events p (shown_in w.frames b.page.view) (due belief)) (doubted belief) w p
 doubted_follows Private w p b o = cc
 doubted_follows Chosen w p b o = cc
 doubted_follows Copied w p b o = cc
-doubted_follows (Loaned slot n) w p b o = guard_follows (LettingGo slot) w p b.page b.there (record { holds = refl; view = b.fits.view; waits = λ h. cc; copy = refl })
-doubted_follows (Held slot n) w p b o = cc
-doubted_follows (Equal slot n) w p b o = cc
-doubted_follows (LettingGo slot) w p b o = unguard_follows (LettingGo slot) w p b.page b.there (record { holds = refl; view = b.fits.view; waits = λ h. refl; copy = refl })
-doubted_follows (Shown slot n) w p b o = cc
-doubted_follows (Homing slot n true) w p b o =
-    write_follows (Shown slot n) w p (shown_in w.frames b.page.view) b.page b.there (b.fits.waits refl) (record { holds = b.fits.holds; view = over_seen (Shown slot n) b.page.view (shown_in w.frames b.page.view); waits = b.fits.waits; copy = refl })
-doubted_follows (Homing slot n false) w p b o =
-    write_follows (Shown slot n) w p (shown_in w.frames b.page.view) b.page b.there (b.fits.waits refl) (record { holds = b.fits.holds; view = over_seen (Shown slot n) b.page.view (shown_in w.frames b.page.view); waits = b.fits.waits; copy = refl })
+doubted_follows (Turning stage target) w p b o = turning_doubted stage target w p b o
+doubted_follows (Shown slot n homing) w p b o = shown_doubted slot n homing w p b o
 doubted_follows (Leaving slot) w p b o = cc
-doubted_follows Zeros w p b o = guard_follows PuttingBack w p b.page b.there (record { holds = b.fits.holds; view = b.fits.view; waits = λ h. cc; copy = refl })
-doubted_follows HeldZeros w p b o = cc
-doubted_follows EqualZeros w p b o = cc
-doubted_follows PuttingBack w p b o = unguard_follows PuttingBack w p b.page b.there (record { holds = b.fits.holds; view = b.fits.view; waits = λ h. refl; copy = refl })
 
 pub done_by_events : (belief : Belief) (outcome : Outcome) → is_outcome (due belief) outcome ≡ true → DoneByEvents belief (due belief) outcome (done_of belief outcome)
 done_by_events belief Done o w p was_done b t = obeyed_follows belief w p b o t
@@ -244,9 +268,6 @@ done_by_events belief Unknown o w p false b t = none_follows (doubted belief) w 
 -- once bars are looked at
 prepared_fits : (bars : Bars) (belief : Belief) (page : Page) → Fits belief page → Fits (prepared bars belief) page
 prepared_fits bars Private page f = f
-prepared_fits bars (LettingGo slot) page f = f
-prepared_fits bars (Leaving slot) page f = f
-prepared_fits bars PuttingBack page f = f
 prepared_fits bars Chosen page f = pick (is_barred bars) where
   pick : (b : Bool) → Fits (cond b Private Chosen) page
   pick true = record { holds = f.holds; view = f.view; waits = f.waits; copy = refl }
@@ -255,38 +276,12 @@ prepared_fits bars Copied page f = pick (is_barred bars) where
   pick : (b : Bool) → Fits (cond b Private Copied) page
   pick true = record { holds = f.holds; view = f.view; waits = f.waits; copy = refl }
   pick false = f
-prepared_fits bars (Loaned slot n) page f = pick (is_barred bars) where
-  pick : (b : Bool) → Fits (cond b (Leaving slot) (Loaned slot n)) page
-  pick true = record { holds = refl; view = f.view; waits = f.waits; copy = refl }
+prepared_fits bars (Turning stage target) page f = pick (is_barred bars) where
+  pick : (b : Bool) → Fits (cond b (dropped stage target) (Turning stage target)) page
+  pick true = dropped_fits stage target page f
   pick false = f
-prepared_fits bars (Held slot n) page f = pick (is_barred bars) where
-  pick : (b : Bool) → Fits (cond b (LettingGo slot) (Held slot n)) page
-  pick true = record { holds = refl; view = f.view; waits = λ h. cc; copy = refl }
-  pick false = f
-prepared_fits bars (Equal slot n) page f = pick (is_barred bars) where
-  pick : (b : Bool) → Fits (cond b (LettingGo slot) (Equal slot n)) page
-  pick true = record { holds = refl; view = f.view; waits = λ h. cc; copy = refl }
-  pick false = f
-prepared_fits bars (Shown slot n) page f = pick (must_own bars) where
-  pick : (b : Bool) → Fits (cond b (Homing slot n bars.pinned) (Shown slot n)) page
-  pick true = record { holds = f.holds; view = f.view; waits = f.waits; copy = refl }
-  pick false = f
-prepared_fits bars (Homing slot n in_place) page f = pick (must_own bars) where
-  pick : (b : Bool) → Fits (cond b (Homing slot n bars.pinned) (Shown slot n)) page
-  pick true = record { holds = f.holds; view = f.view; waits = f.waits; copy = refl }
-  pick false = record { holds = f.holds; view = f.view; waits = f.waits; copy = refl }
-prepared_fits bars Zeros page f = pick (is_barred bars) where
-  pick : (b : Bool) → Fits (cond b Private Zeros) page
-  pick true = record { holds = f.holds; view = f.view; waits = f.waits; copy = refl }
-  pick false = f
-prepared_fits bars HeldZeros page f = pick (is_barred bars) where
-  pick : (b : Bool) → Fits (cond b PuttingBack HeldZeros) page
-  pick true = record { holds = f.holds; view = f.view; waits = λ h. cc; copy = refl }
-  pick false = f
-prepared_fits bars EqualZeros page f = pick (is_barred bars) where
-  pick : (b : Bool) → Fits (cond b PuttingBack EqualZeros) page
-  pick true = record { holds = f.holds; view = f.view; waits = λ h. cc; copy = refl }
-  pick false = f
+prepared_fits bars (Shown slot n homing) page f = record { holds = f.holds; view = f.view; waits = f.waits; copy = refl }
+prepared_fits bars (Leaving slot) page f = f
 
 pub prepared_right : (bars : Bars) (belief : Belief) → StaysRight belief (prepared bars belief)
 prepared_right bars belief w p b = record { page = b.page; there = b.there; fits = prepared_fits bars belief b.page b.fits }

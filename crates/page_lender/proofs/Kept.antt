@@ -10,7 +10,7 @@ use Rattle.window_events.specs.declared.page.View.{View}
 use Rattle.window_events.specs.declared.page.View.TheVariants.{Own, Over}
 use Rattle.page_lender.specs.Events.{seen, Fits, Believes, is_guests, is_of, KeptBy}
 use Rattle.page_lender.specs.declared.belief.Belief.{Belief}
-use Rattle.page_lender.specs.declared.belief.Belief.TheVariants.{Private, Chosen, Copied, Loaned, Held, Equal, LettingGo, Shown, Homing, Leaving, Zeros, HeldZeros, EqualZeros, PuttingBack}
+use Rattle.page_lender.specs.declared.belief.Belief.TheVariants.{Private, Chosen, Copied, Turning, Shown, Leaving}
 
 set_other : (pages : List Page) (p q : ℕ) (new : Page) → (p ≡ q → ⊥) → slice_get (slice_set pages p new) q ≡ slice_get pages q
 set_other [] p q new ne = refl
@@ -34,34 +34,18 @@ own_seen : (belief : Belief) (x : ℕ) → seen belief (Own x) ≡ true
 own_seen Private x = refl
 own_seen Chosen x = refl
 own_seen Copied x = refl
-own_seen (Loaned slot n) x = refl
-own_seen (Held slot n) x = refl
-own_seen (Equal slot n) x = refl
-own_seen (LettingGo slot) x = refl
-own_seen (Shown slot n) x = refl
-own_seen (Homing slot n in_place) x = refl
+own_seen (Turning stage target) x = refl
+own_seen (Shown slot n homing) x = refl
 own_seen (Leaving slot) x = refl
-own_seen Zeros x = refl
-own_seen HeldZeros x = refl
-own_seen EqualZeros x = refl
-own_seen PuttingBack x = refl
 
 -- so does a copy over a frame
 copy_seen : (belief : Belief) (m x : ℕ) → seen belief (Over m (Some x)) ≡ true
 copy_seen Private m x = refl
 copy_seen Chosen m x = refl
 copy_seen Copied m x = refl
-copy_seen (Loaned slot n) m x = refl
-copy_seen (Held slot n) m x = refl
-copy_seen (Equal slot n) m x = refl
-copy_seen (LettingGo slot) m x = refl
-copy_seen (Shown slot n) m x = refl
-copy_seen (Homing slot n in_place) m x = refl
+copy_seen (Turning stage target) m x = refl
+copy_seen (Shown slot n homing) m x = refl
 copy_seen (Leaving slot) m x = refl
-copy_seen Zeros m x = refl
-copy_seen HeldZeros m x = refl
-copy_seen EqualZeros m x = refl
-copy_seen PuttingBack m x = refl
 
 pub over_seen : (belief : Belief) (view : View) (x : ℕ) → seen belief (overwritten view x) ≡ true
 over_seen belief (Own y) x = own_seen belief x

@@ -2,7 +2,7 @@ mod Decided
 mod Histories
 pub mod Kept
 mod Ordered
-mod Outcomes
+pub mod Outcomes
 mod Slots
 mod Unseen
 mod Wrong

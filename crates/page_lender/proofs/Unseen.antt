@@ -13,6 +13,7 @@ use Rattle.window_events.proofs.Own.{keeps_others, shows_written}
 use Rattle.window_events.proofs.Whole.{right_at, whole}
 use Rattle.page_lender.specs.Events.{done_events}
 use Rattle.page_lender.specs.Histories.{NeverSeen, IsKnown}
+use Rattle.page_lender.specs.declared.belief.Target.TheVariants.{Frame, Zeros}
 use Rattle.page_lender.specs.declared.order.Order.{Order}
 use Rattle.page_lender.specs.declared.order.Outcome.TheVariants.{Done, Lent, Refused, Unknown}
 
@@ -76,7 +77,7 @@ zeros_unseen es contents frames p page there c fresh = pick (step (run step (sta
 
 -- and that is what is known
 known_unseen : (es : List Event) (contents frames : List ℕ) (p : ℕ) (page : Page) → slice_get (run step (start contents frames) es).pages p ≡ Some page →
-    IsKnown Order.GiveBack (run step (start contents frames) es) p page →
+    IsKnown (Order.Map Zeros) (run step (start contents frames) es) p page →
     shown (played (run step (start contents frames) es) (Discard p ∷ [])) p ≡ shown (run step (start contents frames) es) p
 known_unseen es contents frames p page there k =
     let is_there : Some page ≡ Some k.0.page = sym there ∙ k.0.there in
@@ -88,17 +89,14 @@ done_unseen : (es : List Event) (contents frames : List ℕ) (p : ℕ) (page : P
 done_unseen es contents frames p page Order.Wait there k = refl
 done_unseen es contents frames p page Order.Copy there k = refl
 done_unseen es contents frames p page Order.Lend there k = refl
-done_unseen es contents frames p page Order.Hold there k = one_unseen es contents frames p (Guard p) refl
-done_unseen es contents frames p page (Order.Compare n) there k = two_unseen es contents frames p (Copy p) (Lend p n) refl refl
-done_unseen es contents frames p page (Order.Map n) there k = one_unseen es contents frames p (Map p) refl
-done_unseen es contents frames p page Order.LetGo there k = one_unseen es contents frames p (Unguard p) refl
-done_unseen es contents frames p page Order.CopyInPlace there k = write_unseen es contents frames p page there
-done_unseen es contents frames p page Order.TakeHome there k = write_unseen es contents frames p page there
+done_unseen es contents frames p page (Order.Hold target) there k = one_unseen es contents frames p (Guard p) refl
+done_unseen es contents frames p page (Order.Compare (Frame slot n)) there k = two_unseen es contents frames p (Copy p) (Lend p n) refl refl
+done_unseen es contents frames p page (Order.Compare Zeros) there k = one_unseen es contents frames p (Copy p) refl
+done_unseen es contents frames p page (Order.Map (Frame slot n)) there k = one_unseen es contents frames p (Map p) refl
+done_unseen es contents frames p page (Order.Map Zeros) there k = known_unseen es contents frames p page there k
+done_unseen es contents frames p page (Order.LetGo target) there k = one_unseen es contents frames p (Unguard p) refl
+done_unseen es contents frames p page (Order.TakeHome in_place) there k = write_unseen es contents frames p page there
 done_unseen es contents frames p page (Order.Release slot) there k = one_unseen es contents frames p (Release p) refl
-done_unseen es contents frames p page Order.HoldZeros there k = one_unseen es contents frames p (Guard p) refl
-done_unseen es contents frames p page Order.CompareZeros there k = one_unseen es contents frames p (Copy p) refl
-done_unseen es contents frames p page Order.GiveBack there k = known_unseen es contents frames p page there k
-done_unseen es contents frames p page Order.PutBack there k = one_unseen es contents frames p (Unguard p) refl
 
 pub never_seen : NeverSeen
 never_seen es contents frames p page order Done was_done there k = done_unseen es contents frames p page order there k

@@ -5,7 +5,10 @@ use Rattle.window_events.specs.declared.page.Page.{Page}
 use Rattle.window_events.specs.declared.page.View.TheVariants.{Own, Over}
 use Rattle.page_lender.specs.Events.{Fits, Believes, DoneByEvents, StaysRight, HeardRightly}
 use Rattle.page_lender.specs.declared.belief.Belief.{Belief}
-use Rattle.page_lender.specs.declared.belief.Belief.TheVariants.{Private, Loaned, Held, Shown, Leaving, Zeros, EqualZeros}
+use Rattle.page_lender.specs.declared.belief.Belief.TheVariants.{Private, Turning, Shown, Leaving}
+use Rattle.page_lender.specs.declared.belief.Homing.TheVariants.{Off}
+use Rattle.page_lender.specs.declared.belief.Stage.TheVariants.{Ready, Held, Equal}
+use Rattle.page_lender.specs.declared.belief.Target.TheVariants.{Frame, Zeros}
 use Rattle.page_lender.specs.declared.order.Order.TheVariants as Order
 use Rattle.page_lender.specs.declared.order.Outcome.TheVariants.{Done, Refused, Unknown}
 
@@ -35,25 +38,25 @@ of_one belief page b =
     let same : b.page ≡ page = cc in
     subst (λ x. Fits belief x) same b.fits
 
-pub releases_shown : DoneByEvents (Shown 7 0) (Order.Release 7) Done Private → ⊥
+pub releases_shown : DoneByEvents (Shown 7 0 Off) (Order.Release 7) Done Private → ⊥
 releases_shown h =
-    let refused = (h (one bare) 0 false (believes (Shown 7 0) bare (record { holds = refl; view = refl; waits = λ e. refl; copy = refl })) tt).possible in
+    let refused = (h (one bare) 0 false (believes (Shown 7 0 Off) bare (record { holds = refl; view = refl; waits = λ e. refl; copy = refl })) tt).possible in
     cc
 
-pub maps_uncompared : DoneByEvents (Held 7 0) (Order.Map 0) Done (Shown 7 0) → ⊥
+pub maps_uncompared : DoneByEvents (Turning Held (Frame 7 0)) (Order.Map (Frame 7 0)) Done (Shown 7 0 Off) → ⊥
 maps_uncompared h =
-    let refused = (h (one (own None true)) 0 false (believes (Held 7 0) (own None true) (record { holds = refl; view = refl; waits = λ e. cc; copy = refl })) refl).possible in
+    let refused = (h (one (own None true)) 0 false (believes (Turning Held (Frame 7 0)) (own None true) (record { holds = refl; view = refl; waits = λ e. cc; copy = refl })) refl).possible in
     cc
 
-pub leaves_held : DoneByEvents (Held 7 0) (Order.Compare 0) Refused (Leaving 7) → ⊥
+pub leaves_held : DoneByEvents (Turning Held (Frame 7 0)) (Order.Compare (Frame 7 0)) Refused (Leaving 7) → ⊥
 leaves_held h =
-    let right = (h (one (own None true)) 0 false (believes (Held 7 0) (own None true) (record { holds = refl; view = refl; waits = λ e. cc; copy = refl })) tt).right in
+    let right = (h (one (own None true)) 0 false (believes (Turning Held (Frame 7 0)) (own None true) (record { holds = refl; view = refl; waits = λ e. cc; copy = refl })) tt).right in
     let free : true ≡ false = (of_one (Leaving 7) (own None true) right).waits refl in
     cc
 
-pub doubts_no_hold : DoneByEvents (Loaned 7 0) Order.Hold Unknown (Leaving 7) → ⊥
+pub doubts_no_hold : DoneByEvents (Turning Ready (Frame 7 0)) (Order.Hold (Frame 7 0)) Unknown (Leaving 7) → ⊥
 doubts_no_hold h =
-    let right = (h (one (own None false)) 0 true (believes (Loaned 7 0) (own None false) (record { holds = refl; view = refl; waits = λ e. refl; copy = refl })) tt).right in
+    let right = (h (one (own None false)) 0 true (believes (Turning Ready (Frame 7 0)) (own None false) (record { holds = refl; view = refl; waits = λ e. refl; copy = refl })) tt).right in
     let free : true ≡ false = (of_one (Leaving 7) (own None true) right).waits refl in
     cc
 
@@ -63,15 +66,15 @@ trusts_release h =
     let held : frame_0 ≡ None = (of_one Private (own (Some 0) false) right).holds in
     cc
 
-pub sees_no_write : StaysRight (Shown 7 0) (Leaving 7) → ⊥
+pub sees_no_write : StaysRight (Shown 7 0 Off) (Leaving 7) → ⊥
 sees_no_write h =
-    let right = h (one bare) 0 (believes (Shown 7 0) bare (record { holds = refl; view = refl; waits = λ e. refl; copy = refl })) in
+    let right = h (one bare) 0 (believes (Shown 7 0 Off) bare (record { holds = refl; view = refl; waits = λ e. refl; copy = refl })) in
     let clear : false ≡ true = (of_one (Leaving 7) bare right).view in
     cc
 
-pub forgets_slot : HeardRightly (Shown 7 0) Private → ⊥
+pub forgets_slot : HeardRightly (Shown 7 0 Off) Private → ⊥
 forgets_slot h =
-    let right = h (one (own (Some 0) false)) 0 (believes (Shown 7 0) (own (Some 0) false) (record { holds = refl; view = refl; waits = λ e. refl; copy = refl })) refl in
+    let right = h (one (own (Some 0) false)) 0 (believes (Shown 7 0 Off) (own (Some 0) false) (record { holds = refl; view = refl; waits = λ e. refl; copy = refl })) refl in
     let held : frame_0 ≡ None = (of_one Private (own (Some 0) false) right).holds in
     cc
 
@@ -79,8 +82,8 @@ forgets_slot h =
 abbrev no_copy : Option ℕ
 no_copy = None
 
-pub takes_for_zeros : DoneByEvents Zeros Order.HoldZeros Done EqualZeros → ⊥
+pub takes_for_zeros : DoneByEvents (Turning Ready Zeros) (Order.Hold Zeros) Done (Turning Equal Zeros) → ⊥
 takes_for_zeros h =
-    let right = (h (one (own None false)) 0 false (believes Zeros (own None false) (record { holds = refl; view = refl; waits = λ e. refl; copy = refl })) tt).right in
-    let copy : no_copy ≡ Some 0 = (of_one EqualZeros (own None true) right).copy in
+    let right = (h (one (own None false)) 0 false (believes (Turning Ready Zeros) (own None false) (record { holds = refl; view = refl; waits = λ e. refl; copy = refl })) tt).right in
+    let copy : no_copy ≡ Some 0 = (of_one (Turning Equal Zeros) (own None true) right).copy in
     cc

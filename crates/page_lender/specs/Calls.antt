@@ -1,8 +1,8 @@
 -- What calls of a page's lender do, each in one record.
 use Rattle.std.specs.Prelude.{◌≡◌, Bool, true, false, not, ◌||◌, ◌&&◌, if◌then◌else◌}
-use Rattle.page_lender.specs.Decisions.{due, prepared, touches, leads, moves, is_given, is_barred, is_private, may_go_on, account, account_then, stage_of, led_to, KeepsLoan}
+use Rattle.page_lender.specs.Decisions.{due, prepared, touches, leads, moves, is_given, is_barred, is_private, may_go_on, account, account_then}
 use Rattle.page_lender.specs.Events.{DoneByEvents, StaysRight, HeardRightly}
-use Rattle.page_lender.specs.Lender.{heard_of}
+use Rattle.page_lender.specs.Lender.{done_of, heard_of}
 use Rattle.page_lender.specs.Slots.{NamesOwn}
 use Rattle.page_lender.specs.declared.belief.Belief.{Belief}
 use Rattle.page_lender.specs.declared.order.Notice.{Notice}
@@ -32,9 +32,8 @@ pub record IsOrdered (order : Order) (x y : PageLender) : Type 0 where
 -- This outcome came of the order that was due (`done`).
 pub record IsDone (outcome : Outcome) (x y : PageLender) : Type 0 where
   pub events : DoneByEvents x.belief (due x.belief) outcome y.belief
-  pub stage : stage_of y.belief ≡ led_to (due x.belief) outcome
+  pub belief : y.belief ≡ done_of x.belief outcome
   pub account : account y.belief ≡ account_then (due x.belief) outcome (account x.belief)
-  pub loan : KeepsLoan x.belief outcome y.belief
   pub ordered : y.ordered ≡ false
   pub bars : y.bars ≡ x.bars
 

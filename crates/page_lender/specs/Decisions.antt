@@ -2,149 +2,140 @@
 use Rattle.std.specs.Prelude.{◌≡◌, ℕ, Bool, true, false, not, ◌&&◌, ◌||◌, if◌then◌else◌, Option, Some, None}
 use Rattle.page_lender.specs.declared.bars.Bars.{Bars}
 use Rattle.page_lender.specs.declared.belief.Belief.{Belief}
-use Rattle.page_lender.specs.declared.belief.Belief.TheVariants.{Private, Chosen, Copied, Loaned, Held, Equal, LettingGo, Shown, Homing, Leaving, Zeros, HeldZeros, EqualZeros, PuttingBack}
+use Rattle.page_lender.specs.declared.belief.Belief.TheVariants.{Private, Chosen, Copied, Turning, Shown, Leaving}
+use Rattle.page_lender.specs.declared.belief.Homing.{Homing}
+use Rattle.page_lender.specs.declared.belief.Homing.TheVariants.{Off, InPlace, Elsewhere}
+use Rattle.page_lender.specs.declared.belief.Stage.{Stage}
+use Rattle.page_lender.specs.declared.belief.Stage.TheVariants.{Ready, Held, Equal, LettingGo}
+use Rattle.page_lender.specs.declared.belief.Target.{Target}
+use Rattle.page_lender.specs.declared.belief.Target.TheVariants.{Frame, Zeros}
 use Rattle.page_lender.specs.declared.order.Order.{Order}
-use Rattle.page_lender.specs.declared.order.Order.TheVariants.{Wait, Copy, Lend, Hold, Compare, Map, LetGo, CopyInPlace, TakeHome, Release, HoldZeros, CompareZeros, GiveBack, PutBack}
+use Rattle.page_lender.specs.declared.order.Order.TheVariants.{Wait, Copy, Lend, Hold, Compare, Map, LetGo, TakeHome, Release}
 use Rattle.page_lender.specs.declared.order.Outcome.{Outcome}
 use Rattle.page_lender.specs.declared.order.Outcome.TheVariants.{Done, Lent, Refused, Unknown}
 use Rattle.page_lender.specs.declared.page.PageLender.{PageLender}
 
--- what is to be done with a page of which this is believed
+-- what is to be done with a page that has come so far on its way to this target
+abbrev pub order_at : Stage → Target → Order
+order_at Ready target = Hold target
+order_at Held target = Compare target
+order_at Equal target = Map target
+order_at LettingGo target = LetGo target
+
+-- with one that shows its frame
+abbrev pub order_home : Homing → Order
+order_home Off = Wait
+order_home InPlace = TakeHome true
+order_home Elsewhere = TakeHome false
+
+-- with a page of which this is believed
 abbrev pub due : Belief → Order
 due Private = Wait
 due Chosen = Copy
 due Copied = Lend
-due (Loaned slot n) = Hold
-due (Held slot n) = Compare n
-due (Equal slot n) = Map n
-due (LettingGo slot) = LetGo
-due (Shown slot n) = Wait
-due (Homing slot n true) = CopyInPlace
-due (Homing slot n false) = TakeHome
+due (Turning stage target) = order_at stage target
+due (Shown slot n homing) = order_home homing
 due (Leaving slot) = Release slot
-due Zeros = HoldZeros
-due HeldZeros = CompareZeros
-due EqualZeros = GiveBack
-due PuttingBack = PutBack
 
 -- nothing is lent, and nothing is asked
 abbrev pub is_private : Belief → Bool
 is_private Private = true
 is_private Chosen = false
 is_private Copied = false
-is_private (Loaned slot n) = false
-is_private (Held slot n) = false
-is_private (Equal slot n) = false
-is_private (LettingGo slot) = false
-is_private (Shown slot n) = false
-is_private (Homing slot n in_place) = false
+is_private (Turning stage target) = false
+is_private (Shown slot n homing) = false
 is_private (Leaving slot) = false
-is_private Zeros = false
-is_private HeldZeros = false
-is_private EqualZeros = false
-is_private PuttingBack = false
 
 -- writes to the page may wait
+abbrev pub waits_at : Stage → Bool
+waits_at Ready = false
+waits_at Held = true
+waits_at Equal = true
+waits_at LettingGo = true
+
 abbrev pub waiting : Belief → Bool
 waiting Private = false
 waiting Chosen = false
 waiting Copied = false
-waiting (Loaned slot n) = false
-waiting (Held slot n) = true
-waiting (Equal slot n) = true
-waiting (LettingGo slot) = true
-waiting (Shown slot n) = false
-waiting (Homing slot n in_place) = false
+waiting (Turning stage target) = waits_at stage
+waiting (Shown slot n homing) = false
 waiting (Leaving slot) = false
-waiting Zeros = false
-waiting HeldZeros = true
-waiting EqualZeros = true
-waiting PuttingBack = true
 
 -- the page may show a frame itself
 abbrev pub shows : Belief → Bool
 shows Private = false
 shows Chosen = false
 shows Copied = false
-shows (Loaned slot n) = false
-shows (Held slot n) = false
-shows (Equal slot n) = false
-shows (LettingGo slot) = false
-shows (Shown slot n) = true
-shows (Homing slot n in_place) = true
+shows (Turning stage target) = false
+shows (Shown slot n homing) = true
 shows (Leaving slot) = false
-shows Zeros = false
-shows HeldZeros = false
-shows EqualZeros = false
-shows PuttingBack = false
+
+-- what the page was found to be equal to
+abbrev pub equal_at : Stage → Target → Option Target
+equal_at Ready target = None
+equal_at Held target = None
+equal_at Equal target = Some target
+equal_at LettingGo target = None
+
+abbrev pub equal_to : Belief → Option Target
+equal_to Private = None
+equal_to Chosen = None
+equal_to Copied = None
+equal_to (Turning stage target) = equal_at stage target
+equal_to (Shown slot n homing) = None
+equal_to (Leaving slot) = None
 
 -- the order is carried out at the page, and not at the host alone
 abbrev pub touches : Order → Bool
 touches Wait = false
 touches Copy = true
 touches Lend = false
-touches Hold = true
-touches (Compare n) = true
-touches (Map n) = true
-touches LetGo = true
-touches CopyInPlace = true
-touches TakeHome = true
+touches (Hold target) = true
+touches (Compare target) = true
+touches (Map target) = true
+touches (LetGo target) = true
+touches (TakeHome in_place) = true
 touches (Release slot) = false
-touches HoldZeros = true
-touches CompareZeros = true
-touches GiveBack = true
-touches PutBack = true
 
 -- the order leads on to showing a frame, or to giving memory back
 abbrev pub leads : Order → Bool
 leads Wait = false
 leads Copy = true
 leads Lend = true
-leads Hold = true
-leads (Compare n) = true
-leads (Map n) = true
-leads LetGo = false
-leads CopyInPlace = false
-leads TakeHome = false
+leads (Hold target) = true
+leads (Compare target) = true
+leads (Map target) = true
+leads (LetGo target) = false
+leads (TakeHome in_place) = false
 leads (Release slot) = false
-leads HoldZeros = true
-leads CompareZeros = true
-leads GiveBack = true
-leads PutBack = false
 
 -- an order that was given
 abbrev pub is_given : Order → Bool
 is_given Wait = false
 is_given Copy = true
 is_given Lend = true
-is_given Hold = true
-is_given (Compare n) = true
-is_given (Map n) = true
-is_given LetGo = true
-is_given CopyInPlace = true
-is_given TakeHome = true
+is_given (Hold target) = true
+is_given (Compare target) = true
+is_given (Map target) = true
+is_given (LetGo target) = true
+is_given (TakeHome in_place) = true
 is_given (Release slot) = true
-is_given HoldZeros = true
-is_given CompareZeros = true
-is_given GiveBack = true
-is_given PutBack = true
+
+abbrev pub are_zeros : Target → Bool
+are_zeros (Frame slot n) = false
+are_zeros Zeros = true
 
 -- the order gives a page other memory
 abbrev pub moves : Order → Bool
 moves Wait = false
 moves Copy = false
 moves Lend = false
-moves Hold = false
-moves (Compare n) = false
-moves (Map n) = false
-moves LetGo = false
-moves CopyInPlace = false
-moves TakeHome = true
+moves (Hold target) = false
+moves (Compare target) = false
+moves (Map target) = are_zeros target
+moves (LetGo target) = false
+moves (TakeHome in_place) = not in_place
 moves (Release slot) = false
-moves HoldZeros = false
-moves CompareZeros = false
-moves GiveBack = true
-moves PutBack = false
 
 -- something keeps the page from being lent
 abbrev pub is_barred : Bars → Bool
@@ -154,22 +145,30 @@ is_barred bars = bars.called || bars.pinned || bars.inherited || bars.locked || 
 abbrev pub must_own : Bars → Bool
 must_own bars = bars.pinned || bars.inherited || bars.locked || bars.left || bars.ended
 
+-- what is believed of a page that isn't to show this target, and to which no write waits
+abbrev pub unshown : Target → Belief
+unshown (Frame slot n) = Leaving slot
+unshown Zeros = Private
+
+-- of one that has come so far, and isn't to show this target any more
+abbrev pub dropped : Stage → Target → Belief
+dropped Ready target = unshown target
+dropped Held target = Turning LettingGo target
+dropped Equal target = Turning LettingGo target
+dropped LettingGo target = Turning LettingGo target
+
+-- whether a page that shows its frame is to get a copy of its own, and where
+abbrev pub homing_by : Bars → Homing
+homing_by bars = if must_own bars then (if bars.pinned then InPlace else Elsewhere) else Off
+
 -- what is believed once bars are looked at
 abbrev pub prepared : Bars → Belief → Belief
 prepared bars Private = Private
 prepared bars Chosen = if is_barred bars then Private else Chosen
 prepared bars Copied = if is_barred bars then Private else Copied
-prepared bars (Loaned slot n) = if is_barred bars then Leaving slot else Loaned slot n
-prepared bars (Held slot n) = if is_barred bars then LettingGo slot else Held slot n
-prepared bars (Equal slot n) = if is_barred bars then LettingGo slot else Equal slot n
-prepared bars (LettingGo slot) = LettingGo slot
-prepared bars (Shown slot n) = if must_own bars then Homing slot n bars.pinned else Shown slot n
-prepared bars (Homing slot n in_place) = if must_own bars then Homing slot n bars.pinned else Shown slot n
+prepared bars (Turning stage target) = if is_barred bars then dropped stage target else Turning stage target
+prepared bars (Shown slot n homing) = Shown slot n (homing_by bars)
 prepared bars (Leaving slot) = Leaving slot
-prepared bars Zeros = if is_barred bars then Private else Zeros
-prepared bars HeldZeros = if is_barred bars then PuttingBack else HeldZeros
-prepared bars EqualZeros = if is_barred bars then PuttingBack else EqualZeros
-prepared bars PuttingBack = PuttingBack
 
 -- an order that touches the page is open
 abbrev pub is_busy : PageLender → Bool
@@ -191,39 +190,21 @@ may_go_on page = not (is_busy page) && not (waiting page.belief) && not (must_ow
 abbrev pub joined : Bars → Bars → Bars
 joined old bars = record bars { left = old.left || bars.left }
 
--- the order may be done
-abbrev pub can_be_done : Order → Bool
-can_be_done Wait = false
-can_be_done Copy = true
-can_be_done Lend = false
-can_be_done Hold = true
-can_be_done (Compare n) = true
-can_be_done (Map n) = true
-can_be_done LetGo = true
-can_be_done CopyInPlace = true
-can_be_done TakeHome = true
-can_be_done (Release slot) = true
-can_be_done HoldZeros = true
-can_be_done CompareZeros = true
-can_be_done GiveBack = true
-can_be_done PutBack = true
-
 -- the order may bring a loan
 abbrev pub can_bring : Order → Bool
 can_bring Wait = false
 can_bring Copy = false
 can_bring Lend = true
-can_bring Hold = false
-can_bring (Compare n) = false
-can_bring (Map n) = false
-can_bring LetGo = false
-can_bring CopyInPlace = false
-can_bring TakeHome = false
+can_bring (Hold target) = false
+can_bring (Compare target) = false
+can_bring (Map target) = false
+can_bring (LetGo target) = false
+can_bring (TakeHome in_place) = false
 can_bring (Release slot) = false
-can_bring HoldZeros = false
-can_bring CompareZeros = false
-can_bring GiveBack = false
-can_bring PutBack = false
+
+-- the order may be done: any that is given, but for one that brings a loan or doesn't
+abbrev pub can_be_done : Order → Bool
+can_be_done order = is_given order && not (can_bring order)
 
 -- what came of the order may be unknown: a copy to the buffer, a comparison and a mapping are done or not, and an order to the host stays open
 -- until its answer is there
@@ -231,17 +212,12 @@ abbrev pub can_be_unknown : Order → Bool
 can_be_unknown Wait = false
 can_be_unknown Copy = false
 can_be_unknown Lend = false
-can_be_unknown Hold = true
-can_be_unknown (Compare n) = false
-can_be_unknown (Map n) = false
-can_be_unknown LetGo = true
-can_be_unknown CopyInPlace = true
-can_be_unknown TakeHome = true
+can_be_unknown (Hold target) = true
+can_be_unknown (Compare target) = false
+can_be_unknown (Map target) = false
+can_be_unknown (LetGo target) = true
+can_be_unknown (TakeHome in_place) = true
 can_be_unknown (Release slot) = false
-can_be_unknown HoldZeros = true
-can_be_unknown CompareZeros = false
-can_be_unknown GiveBack = false
-can_be_unknown PutBack = true
 
 -- the outcome is one of the order's
 abbrev pub is_outcome : Order → Outcome → Bool
@@ -250,113 +226,18 @@ is_outcome order (Lent slot n) = can_bring order
 is_outcome order Refused = is_given order
 is_outcome order Unknown = can_be_unknown order
 
--- a belief without its slot and frame
-pub data Stage : Type 0 where
-  AtPrivate : Stage
-  AtChosen : Stage
-  AtCopied : Stage
-  AtLoaned : Stage
-  AtHeld : Stage
-  AtEqual : Stage
-  AtLettingGo : Stage
-  AtShown : Stage
-  AtHoming : Stage
-  AtLeaving : Stage
-  AtZeros : Stage
-  AtHeldZeros : Stage
-  AtEqualZeros : Stage
-  AtPuttingBack : Stage
-
-abbrev pub stage_of : Belief → Stage
-stage_of Private = AtPrivate
-stage_of Chosen = AtChosen
-stage_of Copied = AtCopied
-stage_of (Loaned slot n) = AtLoaned
-stage_of (Held slot n) = AtHeld
-stage_of (Equal slot n) = AtEqual
-stage_of (LettingGo slot) = AtLettingGo
-stage_of (Shown slot n) = AtShown
-stage_of (Homing slot n in_place) = AtHoming
-stage_of (Leaving slot) = AtLeaving
-stage_of Zeros = AtZeros
-stage_of HeldZeros = AtHeldZeros
-stage_of EqualZeros = AtEqualZeros
-stage_of PuttingBack = AtPuttingBack
-
--- where a page is once the order was done
-abbrev pub aim : Order → Stage
-aim Wait = AtPrivate
-aim Copy = AtCopied
-aim Lend = AtLoaned
-aim Hold = AtHeld
-aim (Compare n) = AtEqual
-aim (Map n) = AtShown
-aim LetGo = AtLeaving
-aim CopyInPlace = AtLeaving
-aim TakeHome = AtLeaving
-aim (Release slot) = AtPrivate
-aim HoldZeros = AtHeldZeros
-aim CompareZeros = AtEqualZeros
-aim GiveBack = AtPrivate
-aim PutBack = AtPrivate
-
--- where it is if the order was refused
-abbrev pub fallback : Order → Stage
-fallback Wait = AtPrivate
-fallback Copy = AtPrivate
-fallback Lend = AtPrivate
-fallback Hold = AtLeaving
-fallback (Compare n) = AtLettingGo
-fallback (Map n) = AtLettingGo
-fallback LetGo = AtLettingGo
-fallback CopyInPlace = AtShown
-fallback TakeHome = AtShown
-fallback (Release slot) = AtLeaving
-fallback HoldZeros = AtPrivate
-fallback CompareZeros = AtPuttingBack
-fallback GiveBack = AtPuttingBack
-fallback PutBack = AtPuttingBack
-
--- where it is if nothing is known of the order
-abbrev pub doubt : Order → Stage
-doubt Wait = AtPrivate
-doubt Copy = AtPrivate
-doubt Lend = AtPrivate
-doubt Hold = AtLettingGo
-doubt (Compare n) = AtLettingGo
-doubt (Map n) = AtLettingGo
-doubt LetGo = AtLettingGo
-doubt CopyInPlace = AtShown
-doubt TakeHome = AtShown
-doubt (Release slot) = AtLeaving
-doubt HoldZeros = AtPuttingBack
-doubt CompareZeros = AtPuttingBack
-doubt GiveBack = AtPuttingBack
-doubt PutBack = AtPuttingBack
-
--- where an outcome of an order leads to
-abbrev pub led_to : Order → Outcome → Stage
-led_to order Done = aim order
-led_to order (Lent slot n) = aim order
-led_to order Refused = fallback order
-led_to order Unknown = doubt order
-
 -- the slot that the host has for the page
+abbrev pub target_slot : Target → Option ℕ
+target_slot (Frame slot n) = Some slot
+target_slot Zeros = None
+
 abbrev pub account : Belief → Option ℕ
 account Private = None
 account Chosen = None
 account Copied = None
-account (Loaned slot n) = Some slot
-account (Held slot n) = Some slot
-account (Equal slot n) = Some slot
-account (LettingGo slot) = Some slot
-account (Shown slot n) = Some slot
-account (Homing slot n in_place) = Some slot
+account (Turning stage target) = target_slot target
+account (Shown slot n homing) = Some slot
 account (Leaving slot) = Some slot
-account Zeros = None
-account HeldZeros = None
-account EqualZeros = None
-account PuttingBack = None
 
 -- what the host has once a loan that was asked for has this outcome
 abbrev pub lent_then : Outcome → Option ℕ → Option ℕ
@@ -377,42 +258,22 @@ abbrev pub account_then : Order → Outcome → Option ℕ → Option ℕ
 account_then Wait outcome old = old
 account_then Copy outcome old = old
 account_then Lend outcome old = lent_then outcome old
-account_then Hold outcome old = old
-account_then (Compare n) outcome old = old
-account_then (Map n) outcome old = old
-account_then LetGo outcome old = old
-account_then CopyInPlace outcome old = old
-account_then TakeHome outcome old = old
+account_then (Hold target) outcome old = old
+account_then (Compare target) outcome old = old
+account_then (Map target) outcome old = old
+account_then (LetGo target) outcome old = old
+account_then (TakeHome in_place) outcome old = old
 account_then (Release slot) outcome old = released_then slot outcome old
-account_then HoldZeros outcome old = old
-account_then CompareZeros outcome old = old
-account_then GiveBack outcome old = old
-account_then PutBack outcome old = old
 
--- the slot and the frame of a loan that is used, or is to be
-abbrev pub loan_of : Belief → Option (ℕ × ℕ)
-loan_of Private = None
-loan_of Chosen = None
-loan_of Copied = None
-loan_of (Loaned slot n) = Some (slot, n)
-loan_of (Held slot n) = Some (slot, n)
-loan_of (Equal slot n) = Some (slot, n)
-loan_of (LettingGo slot) = None
-loan_of (Shown slot n) = Some (slot, n)
-loan_of (Homing slot n in_place) = Some (slot, n)
-loan_of (Leaving slot) = None
-loan_of Zeros = None
-loan_of HeldZeros = None
-loan_of EqualZeros = None
-loan_of PuttingBack = None
+-- the frame of a loan that isn't over
+abbrev pub target_frame : Target → Option ℕ
+target_frame (Frame slot n) = Some n
+target_frame Zeros = None
 
--- the loan that is known after this outcome
-abbrev pub granted : Outcome → Option (ℕ × ℕ) → Option (ℕ × ℕ)
-granted Done loan = loan
-granted (Lent slot n) loan = Some (slot, n)
-granted Refused loan = loan
-granted Unknown loan = loan
-
--- a loan that is used is the one that was known, or was just given: no frame takes another's place
-pub record KeepsLoan (old : Belief) (outcome : Outcome) (new : Belief) : Type 0 where
-  pub same : (slot n : ℕ) → loan_of new ≡ Some (slot, n) → granted outcome (loan_of old) ≡ Some (slot, n)
+abbrev pub frame_of : Belief → Option ℕ
+frame_of Private = None
+frame_of Chosen = None
+frame_of Copied = None
+frame_of (Turning stage target) = target_frame target
+frame_of (Shown slot n homing) = Some n
+frame_of (Leaving slot) = None

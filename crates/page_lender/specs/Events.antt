@@ -1,8 +1,12 @@
 -- What is believed of a page, beside the protocol's page, and the events that outcomes are.
 use Rattle.std.specs.Prelude.{◌≡◌, ℕ, ◌==◌, Bool, true, false, not, List, [], ◌∷◌, Option, Some, None, unwrap_or, slice_get}
-use Rattle.page_lender.specs.Decisions.{waiting}
+use Rattle.page_lender.specs.Decisions.{target_frame, waiting}
 use Rattle.page_lender.specs.declared.belief.Belief.{Belief}
-use Rattle.page_lender.specs.declared.belief.Belief.TheVariants.{Private, Chosen, Copied, Loaned, Held, Equal, LettingGo, Shown, Homing, Leaving, Zeros, HeldZeros, EqualZeros, PuttingBack}
+use Rattle.page_lender.specs.declared.belief.Belief.TheVariants.{Private, Chosen, Copied, Turning, Shown, Leaving}
+use Rattle.page_lender.specs.declared.belief.Stage.{Stage}
+use Rattle.page_lender.specs.declared.belief.Stage.TheVariants.{Ready, Held, Equal, LettingGo}
+use Rattle.page_lender.specs.declared.belief.Target.{Target}
+use Rattle.page_lender.specs.declared.belief.Target.TheVariants.{Frame, Zeros}
 use Rattle.page_lender.specs.declared.order.Order.{Order}
 use Rattle.page_lender.specs.declared.order.Outcome.{Outcome}
 use Rattle.page_lender.specs.declared.order.Outcome.TheVariants.{Done, Lent, Refused, Unknown}
@@ -15,21 +19,20 @@ use Rattle.window_events.specs.declared.page.View.{View}
 use Rattle.window_events.specs.declared.page.View.TheVariants.{Own, Over}
 
 -- the frame that the page holds, where it holds this one
+abbrev pub kept_at : Stage → Target → Option ℕ → Option ℕ
+kept_at Ready target held = None
+kept_at Held target held = None
+kept_at Equal target held = target_frame target
+kept_at LettingGo (Frame slot n) held = held
+kept_at LettingGo Zeros held = None
+
 abbrev pub kept : Belief → Option ℕ → Option ℕ
 kept Private held = None
 kept Chosen held = None
 kept Copied held = None
-kept (Loaned slot n) held = None
-kept (Held slot n) held = None
-kept (Equal slot n) held = Some n
-kept (LettingGo slot) held = held
-kept (Shown slot n) held = Some n
-kept (Homing slot n in_place) held = Some n
+kept (Turning stage target) held = kept_at stage target held
+kept (Shown slot n homing) held = Some n
 kept (Leaving slot) held = held
-kept Zeros held = None
-kept HeldZeros held = None
-kept EqualZeros held = None
-kept PuttingBack held = None
 
 -- no frame itself is shown but this one
 abbrev pub only_frame : ℕ → View → Bool
@@ -42,34 +45,28 @@ abbrev pub seen : Belief → View → Bool
 seen Private view = not (is_bare view)
 seen Chosen view = not (is_bare view)
 seen Copied view = not (is_bare view)
-seen (Loaned slot n) view = not (is_bare view)
-seen (Held slot n) view = not (is_bare view)
-seen (Equal slot n) view = not (is_bare view)
-seen (LettingGo slot) view = not (is_bare view)
-seen (Shown slot n) view = only_frame n view
-seen (Homing slot n in_place) view = only_frame n view
+seen (Turning stage target) view = not (is_bare view)
+seen (Shown slot n homing) view = only_frame n view
 seen (Leaving slot) view = not (is_bare view)
-seen Zeros view = not (is_bare view)
-seen HeldZeros view = not (is_bare view)
-seen EqualZeros view = not (is_bare view)
-seen PuttingBack view = not (is_bare view)
 
 -- the copy that the page has, where it was found to be zeros
+abbrev pub equal_copy : Target → Option ℕ → Option ℕ
+equal_copy (Frame slot n) copy = copy
+equal_copy Zeros copy = Some 0
+
+abbrev pub copy_at : Stage → Target → Option ℕ → Option ℕ
+copy_at Ready target copy = copy
+copy_at Held target copy = copy
+copy_at Equal target copy = equal_copy target copy
+copy_at LettingGo target copy = copy
+
 abbrev pub kept_copy : Belief → Option ℕ → Option ℕ
 kept_copy Private copy = copy
 kept_copy Chosen copy = copy
 kept_copy Copied copy = copy
-kept_copy (Loaned slot n) copy = copy
-kept_copy (Held slot n) copy = copy
-kept_copy (Equal slot n) copy = copy
-kept_copy (LettingGo slot) copy = copy
-kept_copy (Shown slot n) copy = copy
-kept_copy (Homing slot n in_place) copy = copy
+kept_copy (Turning stage target) copy = copy_at stage target copy
+kept_copy (Shown slot n homing) copy = copy
 kept_copy (Leaving slot) copy = copy
-kept_copy Zeros copy = copy
-kept_copy HeldZeros copy = copy
-kept_copy EqualZeros copy = Some 0
-kept_copy PuttingBack copy = copy
 
 -- What is believed is right of the page. A guard may have gone where writes are believed to wait, since a page may be given up at any time.
 pub record Fits (belief : Belief) (page : Page) : Type 0 where
@@ -89,17 +86,14 @@ abbrev pub done_events : ℕ → ℕ → Order → List Event
 done_events p x Order.Wait = []
 done_events p x Order.Copy = []
 done_events p x Order.Lend = []
-done_events p x Order.Hold = Guard p ∷ []
-done_events p x (Order.Compare n) = Copy p ∷ Lend p n ∷ []
-done_events p x (Order.Map n) = Map p ∷ []
-done_events p x Order.LetGo = Unguard p ∷ []
-done_events p x Order.CopyInPlace = Write p x ∷ []
-done_events p x Order.TakeHome = Write p x ∷ []
+done_events p x (Order.Hold target) = Guard p ∷ []
+done_events p x (Order.Compare (Frame slot n)) = Copy p ∷ Lend p n ∷ []
+done_events p x (Order.Compare Zeros) = Copy p ∷ []
+done_events p x (Order.Map (Frame slot n)) = Map p ∷ []
+done_events p x (Order.Map Zeros) = Discard p ∷ []
+done_events p x (Order.LetGo target) = Unguard p ∷ []
+done_events p x (Order.TakeHome in_place) = Write p x ∷ []
 done_events p x (Order.Release slot) = Release p ∷ []
-done_events p x Order.HoldZeros = Guard p ∷ []
-done_events p x Order.CompareZeros = Copy p ∷ []
-done_events p x Order.GiveBack = Discard p ∷ []
-done_events p x Order.PutBack = Unguard p ∷ []
 
 -- the same if it was done
 abbrev pub events_if : Bool → ℕ → ℕ → Order → List Event
@@ -119,17 +113,14 @@ abbrev pub Done_is_true : Order → Mappings → Page → Type 0
 Done_is_true Order.Wait w page = Unit {0}
 Done_is_true Order.Copy w page = Unit {0}
 Done_is_true Order.Lend w page = Unit {0}
-Done_is_true Order.Hold w page = Unit {0}
-Done_is_true (Order.Compare n) w page = (page.guarded ≡ true) × (slice_get w.frames n ≡ Some (shown_in w.frames page.view))
-Done_is_true (Order.Map n) w page = page.frame_fresh ≡ true
-Done_is_true Order.LetGo w page = Unit {0}
-Done_is_true Order.CopyInPlace w page = Unit {0}
-Done_is_true Order.TakeHome w page = Unit {0}
+Done_is_true (Order.Hold target) w page = Unit {0}
+Done_is_true (Order.Compare (Frame slot n)) w page = (page.guarded ≡ true) × (slice_get w.frames n ≡ Some (shown_in w.frames page.view))
+Done_is_true (Order.Compare Zeros) w page = (page.guarded ≡ true) × (shown_in w.frames page.view ≡ 0)
+Done_is_true (Order.Map (Frame slot n)) w page = page.frame_fresh ≡ true
+Done_is_true (Order.Map Zeros) w page = page.copy_fresh ≡ true
+Done_is_true (Order.LetGo target) w page = Unit {0}
+Done_is_true (Order.TakeHome in_place) w page = Unit {0}
 Done_is_true (Order.Release slot) w page = Unit {0}
-Done_is_true Order.HoldZeros w page = Unit {0}
-Done_is_true Order.CompareZeros w page = (page.guarded ≡ true) × (shown_in w.frames page.view ≡ 0)
-Done_is_true Order.GiveBack w page = page.copy_fresh ≡ true
-Done_is_true Order.PutBack w page = Unit {0}
 
 abbrev pub SaysTrue : Order → Outcome → Mappings → Page → Type 0
 SaysTrue order Done w page = Done_is_true order w page

@@ -2,7 +2,9 @@
 use Rattle.std.specs.Prelude.{◌≡◌, ℕ, Bool, true, false, List, [], ◌∷◌, Some, None, unwrap_or, slice_get}
 use Rattle.page_lender.specs.Events.{Believes, SaysTrue, events_of, DoneByEvents, StaysRight, HeardRightly, is_of, is_guests}
 use Rattle.page_lender.specs.declared.belief.Belief.{Belief}
-use Rattle.page_lender.specs.declared.belief.Belief.TheVariants.{Private, EqualZeros}
+use Rattle.page_lender.specs.declared.belief.Belief.TheVariants.{Private, Turning}
+use Rattle.page_lender.specs.declared.belief.Stage.TheVariants.{Equal}
+use Rattle.page_lender.specs.declared.belief.Target.TheVariants.{Frame, Zeros}
 use Rattle.page_lender.specs.declared.order.Order.{Order}
 use Rattle.page_lender.specs.declared.order.Outcome.{Outcome}
 use Rattle.window_events.specs.Windows.{Mappings, shown_in, is_bare, start, step, run, shown}
@@ -75,17 +77,13 @@ abbrev pub IsKnown : Order → Mappings → ℕ → Page → Type 0
 IsKnown Order.Wait w p page = Unit {0}
 IsKnown Order.Copy w p page = Unit {0}
 IsKnown Order.Lend w p page = Unit {0}
-IsKnown Order.Hold w p page = Unit {0}
-IsKnown (Order.Compare n) w p page = Unit {0}
-IsKnown (Order.Map n) w p page = Unit {0}
-IsKnown Order.LetGo w p page = Unit {0}
-IsKnown Order.CopyInPlace w p page = Unit {0}
-IsKnown Order.TakeHome w p page = Unit {0}
+IsKnown (Order.Hold target) w p page = Unit {0}
+IsKnown (Order.Compare target) w p page = Unit {0}
+IsKnown (Order.Map (Frame slot n)) w p page = Unit {0}
+IsKnown (Order.Map Zeros) w p page = Believes (Turning Equal Zeros) w p × (page.copy_fresh ≡ true)
+IsKnown (Order.LetGo target) w p page = Unit {0}
+IsKnown (Order.TakeHome in_place) w p page = Unit {0}
 IsKnown (Order.Release slot) w p page = Unit {0}
-IsKnown Order.HoldZeros w p page = Unit {0}
-IsKnown Order.CompareZeros w p page = Unit {0}
-IsKnown Order.GiveBack w p page = Believes EqualZeros w p × (page.copy_fresh ≡ true)
-IsKnown Order.PutBack w p page = Unit {0}
 
 -- After any events from the start on: no outcome's events change what the page shows.
 abbrev pub NeverSeen : Type 0

@@ -13,17 +13,12 @@ impl Order {
             Order::Wait => false,
             Order::Copy => true,
             Order::Lend => false,
-            Order::Hold => true,
+            Order::Hold(_) => true,
             Order::Compare(_) => true,
             Order::Map(_) => true,
-            Order::LetGo => true,
-            Order::CopyInPlace => true,
-            Order::TakeHome => true,
+            Order::LetGo(_) => true,
+            Order::TakeHome(_) => true,
             Order::Release(_) => false,
-            Order::HoldZeros => true,
-            Order::CompareZeros => true,
-            Order::GiveBack => true,
-            Order::PutBack => true,
         }
     }
 
@@ -31,22 +26,7 @@ impl Order {
     fn can_be_done(&self) -> bool
         ensures { result ≡ can_be_done self.now }
     {
-        match *self {
-            Order::Wait => false,
-            Order::Copy => true,
-            Order::Lend => false,
-            Order::Hold => true,
-            Order::Compare(_) => true,
-            Order::Map(_) => true,
-            Order::LetGo => true,
-            Order::CopyInPlace => true,
-            Order::TakeHome => true,
-            Order::Release(_) => true,
-            Order::HoldZeros => true,
-            Order::CompareZeros => true,
-            Order::GiveBack => true,
-            Order::PutBack => true,
-        }
+        self.is_given() && !self.can_bring()
     }
 
     // Whether it may bring a loan.
@@ -57,17 +37,12 @@ impl Order {
             Order::Wait => false,
             Order::Copy => false,
             Order::Lend => true,
-            Order::Hold => false,
+            Order::Hold(_) => false,
             Order::Compare(_) => false,
             Order::Map(_) => false,
-            Order::LetGo => false,
-            Order::CopyInPlace => false,
-            Order::TakeHome => false,
+            Order::LetGo(_) => false,
+            Order::TakeHome(_) => false,
             Order::Release(_) => false,
-            Order::HoldZeros => false,
-            Order::CompareZeros => false,
-            Order::GiveBack => false,
-            Order::PutBack => false,
         }
     }
 
@@ -79,17 +54,12 @@ impl Order {
             Order::Wait => false,
             Order::Copy => false,
             Order::Lend => false,
-            Order::Hold => true,
+            Order::Hold(_) => true,
             Order::Compare(_) => false,
             Order::Map(_) => false,
-            Order::LetGo => true,
-            Order::CopyInPlace => true,
-            Order::TakeHome => true,
+            Order::LetGo(_) => true,
+            Order::TakeHome(_) => true,
             Order::Release(_) => false,
-            Order::HoldZeros => true,
-            Order::CompareZeros => false,
-            Order::GiveBack => false,
-            Order::PutBack => true,
         }
     }
 
@@ -113,17 +83,12 @@ impl Order {
             Order::Wait => false,
             Order::Copy => true,
             Order::Lend => true,
-            Order::Hold => true,
+            Order::Hold(_) => true,
             Order::Compare(_) => true,
             Order::Map(_) => true,
-            Order::LetGo => true,
-            Order::CopyInPlace => true,
-            Order::TakeHome => true,
+            Order::LetGo(_) => true,
+            Order::TakeHome(_) => true,
             Order::Release(_) => true,
-            Order::HoldZeros => true,
-            Order::CompareZeros => true,
-            Order::GiveBack => true,
-            Order::PutBack => true,
         }
     }
 }

@@ -1,8 +1,8 @@
 //! What is due, by what is believed and by what keeps the page from being lent.
-ghost use Rattle.std.specs.Prelude.{◌≡◌};
-ghost use Rattle.page_lender.specs.Decisions.{due, waiting, shows, prepared, is_barred, must_own, is_private};
+ghost use Rattle.std.specs.Prelude.{◌≡◌, Option};
+ghost use Rattle.page_lender.specs.Decisions.{dropped, due, equal_at, equal_to, homing_by, is_barred, is_private, must_own, order_at, order_home, prepared, shows, unshown, waiting, waits_at};
 
-use crate::{Bars, Belief, Order};
+use crate::{Bars, Belief, Homing, Order, Stage, Target};
 
 impl Bars {
     // Whether something keeps the page from being lent.
@@ -18,6 +18,95 @@ impl Bars {
     {
         self.pinned || self.inherited || self.locked || self.left || self.ended
     }
+
+    // Whether a page that shows its frame is to get a copy of its own, and where.
+    fn homing(&self) -> Homing
+        ensures { result ≡ homing_by self.now }
+    {
+        if !self.must_own() {
+            return Homing::Off;
+        }
+        if self.pinned {
+            Homing::InPlace
+        } else {
+            Homing::Elsewhere
+        }
+    }
+}
+
+impl Target {
+    // The belief of a page that isn't to show this, and to which no write waits.
+    pub(crate) fn unshown(self) -> Belief
+        ensures { result ≡ unshown self }
+    {
+        match self {
+            Target::Frame(slot, _) => Belief::Leaving(slot),
+            Target::Zeros => Belief::Private,
+        }
+    }
+}
+
+impl Stage {
+    // What is to be done with a page that has come so far on its way to this target.
+    fn order(self, target: Target) -> Order
+        ensures { result ≡ order_at self target }
+    {
+        match self {
+            Stage::Ready => Order::Hold(target),
+            Stage::Held => Order::Compare(target),
+            Stage::Equal => Order::Map(target),
+            Stage::LettingGo => Order::LetGo(target),
+        }
+    }
+
+    // Whether writes may wait.
+    fn waits(self) -> bool
+        ensures { result ≡ waits_at self }
+    {
+        match self {
+            Stage::Ready => false,
+            Stage::Held => true,
+            Stage::Equal => true,
+            Stage::LettingGo => true,
+        }
+    }
+
+    // What a page that has come so far was found to be equal to.
+    fn equal_to(self, target: Target) -> Option<Target>
+        ensures { result ≡ equal_at self target }
+    {
+        match self {
+            Stage::Ready => None,
+            Stage::Held => None,
+            Stage::Equal => Some(target),
+            Stage::LettingGo => None,
+        }
+    }
+
+    // The belief of a page that has come so far, and isn't to show this target any more.
+    pub(crate) fn dropped(self, target: Target) -> Belief
+        ensures { result ≡ dropped self target }
+    {
+        match self {
+            Stage::Ready => target.unshown(),
+            Stage::Held => Belief::Turning(Stage::LettingGo, target),
+            Stage::Equal => Belief::Turning(Stage::LettingGo, target),
+            Stage::LettingGo => Belief::Turning(Stage::LettingGo, target),
+        }
+    }
+}
+
+impl Homing {
+    // What is to be done with a page that shows its frame.
+    fn order(self) -> Order
+        ensures { result ≡ order_home self }
+    {
+        match self {
+            Homing::Off => Order::Wait,
+            Homing::InPlace => Order::TakeHome(true),
+            Homing::Elsewhere => Order::TakeHome(false),
+        }
+    }
 }
 
 impl Belief {
@@ -29,17 +118,9 @@ impl Belief {
             Belief::Private => true,
             Belief::Chosen => false,
             Belief::Copied => false,
-            Belief::Loaned(_, _) => false,
-            Belief::Held(_, _) => false,
-            Belief::Equal(_, _) => false,
-            Belief::LettingGo(_) => false,
-            Belief::Shown(_, _) => false,
-            Belief::Homing(_, _, _) => false,
+            Belief::Turning(_, _) => false,
+            Belief::Shown(_, _, _) => false,
             Belief::Leaving(_) => false,
-            Belief::Zeros => false,
-            Belief::HeldZeros => false,
-            Belief::EqualZeros => false,
-            Belief::PuttingBack => false,
         }
     }
 
@@ -51,40 +132,23 @@ impl Belief {
             Belief::Private => Order::Wait,
             Belief::Chosen => Order::Copy,
             Belief::Copied => Order::Lend,
-            Belief::Loaned(_, _) => Order::Hold,
-            Belief::Held(_, frame) => Order::Compare(frame),
-            Belief::Equal(_, frame) => Order::Map(frame),
-            Belief::LettingGo(_) => Order::LetGo,
-            Belief::Shown(_, _) => Order::Wait,
-            Belief::Homing(_, _, true) => Order::CopyInPlace,
-            Belief::Homing(_, _, false) => Order::TakeHome,
+            Belief::Turning(stage, target) => stage.order(target),
+            Belief::Shown(_, _, homing) => homing.order(),
             Belief::Leaving(slot) => Order::Release(slot),
-            Belief::Zeros => Order::HoldZeros,
-            Belief::HeldZeros => Order::CompareZeros,
-            Belief::EqualZeros => Order::GiveBack,
-            Belief::PuttingBack => Order::PutBack,
         }
     }
 
-    // Whether writes may wait.
-    pub(crate) fn waits(&self) -> bool
+    /// Returns whether writes to the page may wait.
+    pub fn waits(&self) -> bool
         ensures { result ≡ waiting self.now }
     {
         match *self {
             Belief::Private => false,
             Belief::Chosen => false,
             Belief::Copied => false,
-            Belief::Loaned(_, _) => false,
-            Belief::Held(_, _) => true,
-            Belief::Equal(_, _) => true,
-            Belief::LettingGo(_) => true,
-            Belief::Shown(_, _) => false,
-            Belief::Homing(_, _, _) => false,
+            Belief::Turning(stage, _) => stage.waits(),
+            Belief::Shown(_, _, _) => false,
             Belief::Leaving(_) => false,
-            Belief::Zeros => false,
-            Belief::HeldZeros => true,
-            Belief::EqualZeros => true,
-            Belief::PuttingBack => true,
         }
     }
 
@@ -96,17 +160,23 @@ impl Belief {
             Belief::Private => false,
             Belief::Chosen => false,
             Belief::Copied => false,
-            Belief::Loaned(_, _) => false,
-            Belief::Held(_, _) => false,
-            Belief::Equal(_, _) => false,
-            Belief::LettingGo(_) => false,
-            Belief::Shown(_, _) => true,
-            Belief::Homing(_, _, _) => true,
+            Belief::Turning(_, _) => false,
+            Belief::Shown(_, _, _) => true,
             Belief::Leaving(_) => false,
-            Belief::Zeros => false,
-            Belief::HeldZeros => false,
-            Belief::EqualZeros => false,
-            Belief::PuttingBack => false,
+        }
+    }
+
+    /// Returns what the page was found to be equal to, if it was compared and nothing came between.
+    pub fn equal_to(&self) -> Option<Target>
+        ensures { result ≡ equal_to self.now }
+    {
+        match *self {
+            Belief::Private => None,
+            Belief::Chosen => None,
+            Belief::Copied => None,
+            Belief::Turning(stage, target) => stage.equal_to(target),
+            Belief::Shown(_, _, _) => None,
+            Belief::Leaving(_) => None,
         }
     }
 
@@ -115,50 +185,17 @@ impl Belief {
         ensures { result ≡ prepared bars.now self.now }
     {
         let any = bars.any();
-        let home = bars.must_own();
         match *self {
             Belief::Private => Belief::Private,
             Belief::Chosen => if any { Belief::Private } else { Belief::Chosen },
             Belief::Copied => if any { Belief::Private } else { Belief::Copied },
-            Belief::Loaned(slot, frame) => if any {
-                Belief::Leaving(slot)
+            Belief::Turning(stage, target) => if any {
+                stage.dropped(target)
             } else {
-                Belief::Loaned(slot, frame)
+                Belief::Turning(stage, target)
             },
-            Belief::Held(slot, frame) => if any {
-                Belief::LettingGo(slot)
-            } else {
-                Belief::Held(slot, frame)
-            },
-            Belief::Equal(slot, frame) => if any {
-                Belief::LettingGo(slot)
-            } else {
-                Belief::Equal(slot, frame)
-            },
-            Belief::LettingGo(slot) => Belief::LettingGo(slot),
-            Belief::Shown(slot, frame) => if home {
-                Belief::Homing(slot, frame, bars.pinned)
-            } else {
-                Belief::Shown(slot, frame)
-            },
-            Belief::Homing(slot, frame, _) => if home {
-                Belief::Homing(slot, frame, bars.pinned)
-            } else {
-                Belief::Shown(slot, frame)
-            },
+            Belief::Shown(slot, frame, _) => Belief::Shown(slot, frame, bars.homing()),
             Belief::Leaving(slot) => Belief::Leaving(slot),
-            Belief::Zeros => if any { Belief::Private } else { Belief::Zeros },
-            Belief::HeldZeros => if any {
-                Belief::PuttingBack
-            } else {
-                Belief::HeldZeros
-            },
-            Belief::EqualZeros => if any {
-                Belief::PuttingBack
-            } else {
-                Belief::EqualZeros
-            },
-            Belief::PuttingBack => Belief::PuttingBack,
         }
     }
 }

@@ -5,6 +5,9 @@ ghost use Rattle.page_lender.specs.Events.{KeptBy, is_guests, is_of, DoneByEvent
 ghost use Rattle.page_lender.specs.Histories.{EveryHistoryIsPossible, BeginsPrivate, NeverSeen};
 ghost use Rattle.page_lender.specs.Slots.{KeepsAccount};
 ghost use Rattle.page_lender.specs.declared.belief.Belief.TheVariants as Belief;
+ghost use Rattle.page_lender.specs.declared.belief.Homing.TheVariants.{Off};
+ghost use Rattle.page_lender.specs.declared.belief.Stage.TheVariants.{Ready, Held, Equal};
+ghost use Rattle.page_lender.specs.declared.belief.Target.TheVariants.{Frame, Zeros};
 ghost use Rattle.page_lender.specs.declared.order.Order.TheVariants as Order;
 ghost use Rattle.page_lender.specs.declared.order.Outcome.TheVariants as Outcome;
 
@@ -38,12 +41,12 @@ pub fn slots_law()
 /// forgets to let go of a page that differs, or that may be held; that takes a refused release for done; that takes a
 /// shown page for written; that takes a page for zeros that it didn't compare; and that forgets the slot of a page that was given up.
 pub fn wrong_lenders()
-    ensures releases_shown { DoneByEvents (Belief.Shown 7 0) (Order.Release 7) Outcome.Done Belief.Private → ⊥ }
-    ensures maps_uncompared { DoneByEvents (Belief.Held 7 0) (Order.Map 0) Outcome.Done (Belief.Shown 7 0) → ⊥ }
-    ensures leaves_held { DoneByEvents (Belief.Held 7 0) (Order.Compare 0) Outcome.Refused (Belief.Leaving 7) → ⊥ }
-    ensures doubts_no_hold { DoneByEvents (Belief.Loaned 7 0) Order.Hold Outcome.Unknown (Belief.Leaving 7) → ⊥ }
+    ensures releases_shown { DoneByEvents (Belief.Shown 7 0 Off) (Order.Release 7) Outcome.Done Belief.Private → ⊥ }
+    ensures maps_uncompared { DoneByEvents (Belief.Turning Held (Frame 7 0)) (Order.Map (Frame 7 0)) Outcome.Done (Belief.Shown 7 0 Off) → ⊥ }
+    ensures leaves_held { DoneByEvents (Belief.Turning Held (Frame 7 0)) (Order.Compare (Frame 7 0)) Outcome.Refused (Belief.Leaving 7) → ⊥ }
+    ensures doubts_no_hold { DoneByEvents (Belief.Turning Ready (Frame 7 0)) (Order.Hold (Frame 7 0)) Outcome.Unknown (Belief.Leaving 7) → ⊥ }
     ensures trusts_release { DoneByEvents (Belief.Leaving 7) (Order.Release 7) Outcome.Refused Belief.Private → ⊥ }
-    ensures sees_no_write { StaysRight (Belief.Shown 7 0) (Belief.Leaving 7) → ⊥ }
-    ensures takes_for_zeros { DoneByEvents Belief.Zeros Order.HoldZeros Outcome.Done Belief.EqualZeros → ⊥ }
-    ensures forgets_slot { HeardRightly (Belief.Shown 7 0) Belief.Private → ⊥ }
+    ensures sees_no_write { StaysRight (Belief.Shown 7 0 Off) (Belief.Leaving 7) → ⊥ }
+    ensures takes_for_zeros { DoneByEvents (Belief.Turning Ready Zeros) (Order.Hold Zeros) Outcome.Done (Belief.Turning Equal Zeros) → ⊥ }
+    ensures forgets_slot { HeardRightly (Belief.Shown 7 0 Off) Belief.Private → ⊥ }
 {}

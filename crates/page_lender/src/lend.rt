@@ -2,12 +2,14 @@
 ghost use Rattle.std.specs.Prelude.{◌≡◌, true, false, not, ◌&&◌, if◌then◌else◌};
 ghost use Rattle.page_lender.specs.Calls.{IsOrdered, is_free};
 ghost use Rattle.page_lender.specs.Decisions.{due, waiting, shows, touches, is_given, is_barred, must_own, prepared, is_busy, is_held, is_movable, may_go_on, joined, is_private};
-ghost use Rattle.page_lender.specs.Decisions.{is_outcome, stage_of, led_to, account, account_then, KeepsLoan};
-ghost use Rattle.page_lender.specs.Lender.{heard_of};
+ghost use Rattle.page_lender.specs.Decisions.{is_outcome, account, account_then};
+ghost use Rattle.page_lender.specs.Lender.{done_of, heard_of};
 ghost use Rattle.page_lender.specs.Events.{DoneByEvents, StaysRight, HeardRightly, IsFree, ShowsNone};
 ghost use Rattle.page_lender.specs.declared.belief.Belief.TheVariants as Belief;
+ghost use Rattle.page_lender.specs.declared.belief.Stage.TheVariants.{Ready};
+ghost use Rattle.page_lender.specs.declared.belief.Target.TheVariants.{Zeros};
 
-use crate::{Bars, Belief, Notice, Order, Outcome, PageLender};
+use crate::{Bars, Belief, Notice, Order, Outcome, PageLender, Stage, Target};
 
 impl PageLender {
     // Returns whether the page can be chosen: it is private, and nothing keeps it from being lent.
@@ -36,7 +38,7 @@ impl PageLender {
     /// from being lent.
     pub fn choose_zeros(&mut self) -> bool
         ensures chosen { result ≡ (is_private self.old.belief && not (is_barred self.old.bars)) }
-        ensures belief { self.new.belief ≡ (if result then Belief.Zeros else self.old.belief) }
+        ensures belief { self.new.belief ≡ (if result then Belief.Turning Ready Zeros else self.old.belief) }
         ensures ordered { self.new.ordered ≡ self.old.ordered }
         ensures bars { self.new.bars ≡ self.old.bars }
         ensures right { StaysRight self.old.belief self.new.belief }
@@ -44,7 +46,7 @@ impl PageLender {
         if !self.is_free() {
             return false;
         }
-        self.belief = Belief::Zeros;
+        self.belief = Belief::Turning(Stage::Ready, Target::Zeros);
         true
     }
 
@@ -68,9 +70,8 @@ impl PageLender {
         requires order { order ≡ due self.old.belief }
         requires outcome { is_outcome order outcome ≡ true }
         ensures events { DoneByEvents self.old.belief order outcome self.new.belief }
-        ensures stage { stage_of self.new.belief ≡ led_to order outcome }
+        ensures belief { self.new.belief ≡ done_of self.old.belief outcome }
         ensures account { account self.new.belief ≡ account_then order outcome (account self.old.belief) }
-        ensures loan { KeepsLoan self.old.belief outcome self.new.belief }
         ensures ordered { self.new.ordered ≡ false }
         ensures bars { self.new.bars ≡ self.old.bars }
     {

@@ -14,7 +14,7 @@ mod page;
 mod results;
 
 pub use bars::Bars;
-pub use belief::Belief;
+pub use belief::{Belief, Homing, Stage, Target};
 pub use order::{Notice, Order, Outcome};
 pub use packed::{belief_of, frame_of, number_of, slot_of};
 pub use page::PageLender;

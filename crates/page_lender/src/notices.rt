@@ -13,17 +13,9 @@ impl Belief {
             Belief::Private => Belief::Private,
             Belief::Chosen => Belief::Chosen,
             Belief::Copied => Belief::Copied,
-            Belief::Loaned(slot, frame) => Belief::Loaned(slot, frame),
-            Belief::Held(slot, frame) => Belief::Held(slot, frame),
-            Belief::Equal(slot, frame) => Belief::Equal(slot, frame),
-            Belief::LettingGo(slot) => Belief::LettingGo(slot),
-            Belief::Shown(slot, _) => Belief::Leaving(slot),
-            Belief::Homing(slot, _, _) => Belief::Leaving(slot),
+            Belief::Turning(stage, target) => Belief::Turning(stage, target),
+            Belief::Shown(slot, _, _) => Belief::Leaving(slot),
             Belief::Leaving(slot) => Belief::Leaving(slot),
-            Belief::Zeros => Belief::Zeros,
-            Belief::HeldZeros => Belief::HeldZeros,
-            Belief::EqualZeros => Belief::EqualZeros,
-            Belief::PuttingBack => Belief::PuttingBack,
         }
     }
 
@@ -35,17 +27,9 @@ impl Belief {
             Belief::Private => Belief::Private,
             Belief::Chosen => Belief::Private,
             Belief::Copied => Belief::Copied,
-            Belief::Loaned(slot, _) => Belief::Leaving(slot),
-            Belief::Held(slot, _) => Belief::LettingGo(slot),
-            Belief::Equal(slot, _) => Belief::LettingGo(slot),
-            Belief::LettingGo(slot) => Belief::LettingGo(slot),
-            Belief::Shown(slot, _) => Belief::Leaving(slot),
-            Belief::Homing(slot, _, _) => Belief::Leaving(slot),
+            Belief::Turning(stage, target) => stage.dropped(target),
+            Belief::Shown(slot, _, _) => Belief::Leaving(slot),
             Belief::Leaving(slot) => Belief::Leaving(slot),
-            Belief::Zeros => Belief::Private,
-            Belief::HeldZeros => Belief::PuttingBack,
-            Belief::EqualZeros => Belief::PuttingBack,
-            Belief::PuttingBack => Belief::PuttingBack,
         }
     }
 }

@@ -1,5 +1,7 @@
 //! What a lender orders, and what comes of it.
 
+use crate::Target;
+
 /// What is to be done with a page, by those who make system calls and talk to the host.
 #[derive(Clone, Copy, Debug, PartialEq, Eq)]
 pub enum Order {
@@ -9,28 +11,18 @@ pub enum Order {
     Copy,
     /// Ask the host for a loan of what is in the buffer.
     Lend,
-    /// Let writes wait.
-    Hold,
-    /// Compare it with this frame.
-    Compare(u32),
-    /// Map this frame in its place, and let writes wait no longer.
-    Map(u32),
-    /// Let writes wait no longer.
-    LetGo,
-    /// Give it a copy of its own where it is: a device may hold its memory.
-    CopyInPlace,
-    /// Give it other memory of its own, with what it shows.
-    TakeHome,
+    /// Let writes wait, since it may equal this.
+    Hold(Target),
+    /// Compare it with this.
+    Compare(Target),
+    /// Show this in its place, and let writes wait no longer: map the frame, or give its memory back to the system, which leaves zeros.
+    Map(Target),
+    /// Let writes wait no longer: it keeps its memory.
+    LetGo(Target),
+    /// Give it a copy of its own of what it shows: where it is, if true, since a device may hold its memory; else it may get other memory.
+    TakeHome(bool),
     /// Say to the host that this slot isn't needed.
     Release(u32),
-    /// Let writes wait, since it may be zeros.
-    HoldZeros,
-    /// Compare it with zeros.
-    CompareZeros,
-    /// Give its memory back to the system, which leaves zeros, and let writes wait no longer.
-    GiveBack,
-    /// Let writes wait no longer: it keeps its memory.
-    PutBack,
 }
 
 /// What came of an order.

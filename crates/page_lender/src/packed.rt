@@ -1,31 +1,115 @@
 //! A belief as three numbers.
-ghost use Rattle.std.specs.Prelude.{◌≡◌, ◌≤◌};
-ghost use Rattle.page_lender.specs.Packing.{number_of, slot_in, frame_in, belief_in};
+ghost use Rattle.std.specs.Prelude.{◌≡◌, ◌≤◌, Option};
+ghost use Rattle.page_lender.specs.Decisions.{account, frame_of, target_frame, target_slot};
+ghost use Rattle.page_lender.specs.Packing.{belief_in, frame_in, homing_number, number_of, slot_in, stage_number, target_in, target_number};
 
-use crate::Belief;
+use crate::{Belief, Homing, Stage, Target};
 
-/// Returns the number of a belief, whichever slot and frame it has.
+impl Target {
+    /// Returns what this adds to the number of a stage, or of an order: 16 for zeros.
+    pub fn number(self) -> u8
+        ensures value { result ≡ target_number self }
+        ensures bound { result ≤ 16 }
+    {
+        match self {
+            Target::Frame(_, _) => 0,
+            Target::Zeros => 16,
+        }
+    }
+
+    // Returns its slot, if it has one.
+    fn slot(self) -> Option<u32>
+        ensures { result ≡ target_slot self }
+    {
+        match self {
+            Target::Frame(slot, _) => Some(slot),
+            Target::Zeros => None,
+        }
+    }
+
+    // Returns its frame, if it is one.
+    fn frame(self) -> Option<u32>
+        ensures { result ≡ target_frame self }
+    {
+        match self {
+            Target::Frame(_, frame) => Some(frame),
+            Target::Zeros => None,
+        }
+    }
+}
+
+impl Stage {
+    // Returns the number of a stage on the way to a frame.
+    fn number(self) -> u8
+        ensures value { result ≡ stage_number self }
+        ensures bound { result ≤ 6 }
+    {
+        match self {
+            Stage::Ready => 3,
+            Stage::Held => 4,
+            Stage::Equal => 5,
+            Stage::LettingGo => 6,
+        }
+    }
+}
+
+impl Homing {
+    // Returns the number of a page that shows its frame.
+    fn number(self) -> u8
+        ensures value { result ≡ homing_number self }
+        ensures bound { result ≤ 9 }
+    {
+        match self {
+            Homing::Off => 7,
+            Homing::InPlace => 8,
+            Homing::Elsewhere => 9,
+        }
+    }
+}
+
+impl Belief {
+    /// Returns the slot that the host has for a page of which this is believed, if it has one.
+    pub fn slot(&self) -> Option<u32>
+        ensures { result ≡ account self.now }
+    {
+        match *self {
+            Belief::Private => None,
+            Belief::Chosen => None,
+            Belief::Copied => None,
+            Belief::Turning(_, target) => target.slot(),
+            Belief::Shown(slot, _, _) => Some(slot),
+            Belief::Leaving(slot) => Some(slot),
+        }
+    }
+
+    // Returns the frame of a loan that isn't over, if there is one.
+    fn frame(&self) -> Option<u32>
+        ensures { result ≡ frame_of self.now }
+    {
+        match *self {
+            Belief::Private => None,
+            Belief::Chosen => None,
+            Belief::Copied => None,
+            Belief::Turning(_, target) => target.frame(),
+            Belief::Shown(_, frame, _) => Some(frame),
+            Belief::Leaving(_) => None,
+        }
+    }
+}
+
+/// Returns the number of a belief, whichever slot and frame it has: that of its stage, and 16 more if its target is zeros.
 pub fn number_of(belief: Belief) -> u8
     ensures value { result ≡ number_of belief }
-    ensures bound { result ≤ 14 }
+    ensures bound { result ≤ 22 }
     ensures back { belief_in result (slot_in belief) (frame_in belief) ≡ belief }
 {
     match belief {
         Belief::Private => 0,
         Belief::Chosen => 1,
         Belief::Copied => 2,
-        Belief::Loaned(_, _) => 3,
-        Belief::Held(_, _) => 4,
-        Belief::Equal(_, _) => 5,
-        Belief::LettingGo(_) => 6,
-        Belief::Shown(_, _) => 7,
-        Belief::Homing(_, _, true) => 8,
-        Belief::Homing(_, _, false) => 9,
+        Belief::Turning(stage, target) => stage.number() + target.number(),
+        Belief::Shown(_, _, homing) => homing.number(),
         Belief::Leaving(_) => 10,
-        Belief::Zeros => 11,
-        Belief::HeldZeros => 12,
-        Belief::EqualZeros => 13,
-        Belief::PuttingBack => 14,
     }
 }
 
@@ -33,65 +117,43 @@ pub fn number_of(belief: Belief) -> u8
 pub fn slot_of(belief: Belief) -> u32
     ensures { result ≡ slot_in belief }
 {
-    match belief {
-        Belief::Private => 0,
-        Belief::Chosen => 0,
-        Belief::Copied => 0,
-        Belief::Loaned(slot, _) => slot,
-        Belief::Held(slot, _) => slot,
-        Belief::Equal(slot, _) => slot,
-        Belief::LettingGo(slot) => slot,
-        Belief::Shown(slot, _) => slot,
-        Belief::Homing(slot, _, _) => slot,
-        Belief::Leaving(slot) => slot,
-        Belief::Zeros => 0,
-        Belief::HeldZeros => 0,
-        Belief::EqualZeros => 0,
-        Belief::PuttingBack => 0,
-    }
+    belief.slot().unwrap_or(0)
 }
 
 /// Returns the frame of a belief, or 0 if it has none.
 pub fn frame_of(belief: Belief) -> u32
     ensures { result ≡ frame_in belief }
 {
-    match belief {
-        Belief::Private => 0,
-        Belief::Chosen => 0,
-        Belief::Copied => 0,
-        Belief::Loaned(_, frame) => frame,
-        Belief::Held(_, frame) => frame,
-        Belief::Equal(_, frame) => frame,
-        Belief::LettingGo(_) => 0,
-        Belief::Shown(_, frame) => frame,
-        Belief::Homing(_, frame, _) => frame,
-        Belief::Leaving(_) => 0,
-        Belief::Zeros => 0,
-        Belief::HeldZeros => 0,
-        Belief::EqualZeros => 0,
-        Belief::PuttingBack => 0,
+    belief.frame().unwrap_or(0)
+}
+
+// Returns the target that a number has.
+fn target_of(number: u8, slot: u32, frame: u32) -> Target
+    ensures { result ≡ target_in number slot frame }
+{
+    if number / 16 == 1 {
+        Target::Zeros
+    } else {
+        Target::Frame(slot, frame)
     }
 }
 
-/// Returns the belief of this number with this slot and this frame, as far as it has them. A number that none has is that of a private page.
+/// Returns the belief of this number with this slot and this frame, as far as it has them. A stage that none has is that of a private page.
 pub fn belief_of(number: u8, slot: u32, frame: u32) -> Belief
     ensures { result ≡ belief_in number slot frame }
 {
-    match number {
+    let target = target_of(number, slot, frame);
+    match number % 16 {
         1 => Belief::Chosen,
         2 => Belief::Copied,
-        3 => Belief::Loaned(slot, frame),
-        4 => Belief::Held(slot, frame),
-        5 => Belief::Equal(slot, frame),
-        6 => Belief::LettingGo(slot),
-        7 => Belief::Shown(slot, frame),
-        8 => Belief::Homing(slot, frame, true),
-        9 => Belief::Homing(slot, frame, false),
+        3 => Belief::Turning(Stage::Ready, target),
+        4 => Belief::Turning(Stage::Held, target),
+        5 => Belief::Turning(Stage::Equal, target),
+        6 => Belief::Turning(Stage::LettingGo, target),
+        7 => Belief::Shown(slot, frame, Homing::Off),
+        8 => Belief::Shown(slot, frame, Homing::InPlace),
+        9 => Belief::Shown(slot, frame, Homing::Elsewhere),
         10 => Belief::Leaving(slot),
-        11 => Belief::Zeros,
-        12 => Belief::HeldZeros,
-        13 => Belief::EqualZeros,
-        14 => Belief::PuttingBack,
         _ => Belief::Private,
     }
 }

@@ -1,8 +1,59 @@
 //! What is believed after an outcome.
 ghost use Rattle.std.specs.Prelude.{◌≡◌};
-ghost use Rattle.page_lender.specs.Lender.{obeyed, given, refused, doubted, done_of};
+ghost use Rattle.page_lender.specs.Lender.{done_of, doubted, doubted_at, given, home, obeyed, obeyed_at, refused, shown_as};
 
-use crate::{Belief, Outcome};
+use crate::{Belief, Homing, Outcome, Stage, Target};
+
+impl Target {
+    // The belief of a page that shows this now.
+    fn shown(self) -> Belief
+        ensures { result ≡ shown_as self }
+    {
+        match self {
+            Target::Frame(slot, frame) => Belief::Shown(slot, frame, Homing::Off),
+            Target::Zeros => Belief::Private,
+        }
+    }
+}
+
+impl Stage {
+    // The belief once the order of this stage was done.
+    fn obeyed(self, target: Target) -> Belief
+        ensures { result ≡ obeyed_at self target }
+    {
+        match self {
+            Stage::Ready => Belief::Turning(Stage::Held, target),
+            Stage::Held => Belief::Turning(Stage::Equal, target),
+            Stage::Equal => target.shown(),
+            Stage::LettingGo => target.unshown(),
+        }
+    }
+
+    // The stage where nothing is known of its order.
+    fn doubted(self) -> Stage
+        ensures { result ≡ doubted_at self }
+    {
+        match self {
+            Stage::Ready => Stage::LettingGo,
+            Stage::Held => Stage::Held,
+            Stage::Equal => Stage::Equal,
+            Stage::LettingGo => Stage::LettingGo,
+        }
+    }
+}
+
+impl Homing {
+    // The belief of a page that showed its frame, once its order was done.
+    fn obeyed(self, slot: u32, frame: u32) -> Belief
+        ensures { result ≡ home self slot frame }
+    {
+        match self {
+            Homing::Off => Belief::Shown(slot, frame, Homing::Off),
+            Homing::InPlace => Belief::Leaving(slot),
+            Homing::Elsewhere => Belief::Leaving(slot),
+        }
+    }
+}
 
 impl Belief {
     // The belief after this outcome of the order that was due.
@@ -25,17 +76,9 @@ impl Belief {
             Belief::Private => Belief::Private,
             Belief::Chosen => Belief::Copied,
             Belief::Copied => Belief::Copied,
-            Belief::Loaned(slot, frame) => Belief::Held(slot, frame),
-            Belief::Held(slot, frame) => Belief::Equal(slot, frame),
-            Belief::Equal(slot, frame) => Belief::Shown(slot, frame),
-            Belief::LettingGo(slot) => Belief::Leaving(slot),
-            Belief::Shown(slot, frame) => Belief::Shown(slot, frame),
-            Belief::Homing(slot, _, _) => Belief::Leaving(slot),
+            Belief::Turning(stage, target) => stage.obeyed(target),
+            Belief::Shown(slot, frame, homing) => homing.obeyed(slot, frame),
             Belief::Leaving(_) => Belief::Private,
-            Belief::Zeros => Belief::HeldZeros,
-            Belief::HeldZeros => Belief::EqualZeros,
-            Belief::EqualZeros => Belief::Private,
-            Belief::PuttingBack => Belief::Private,
         }
     }
 
@@ -46,18 +89,10 @@ impl Belief {
         match *self {
             Belief::Private => Belief::Private,
             Belief::Chosen => Belief::Chosen,
-            Belief::Copied => Belief::Loaned(slot, frame),
-            Belief::Loaned(old, place) => Belief::Loaned(old, place),
-            Belief::Held(old, place) => Belief::Held(old, place),
-            Belief::Equal(old, place) => Belief::Equal(old, place),
-            Belief::LettingGo(old) => Belief::LettingGo(old),
-            Belief::Shown(old, place) => Belief::Shown(old, place),
-            Belief::Homing(old, place, stays) => Belief::Homing(old, place, stays),
+            Belief::Copied => Belief::Turning(Stage::Ready, Target::Frame(slot, frame)),
+            Belief::Turning(stage, target) => Belief::Turning(stage, target),
+            Belief::Shown(old, place, homing) => Belief::Shown(old, place, homing),
             Belief::Leaving(old) => Belief::Leaving(old),
-            Belief::Zeros => Belief::Zeros,
-            Belief::HeldZeros => Belief::HeldZeros,
-            Belief::EqualZeros => Belief::EqualZeros,
-            Belief::PuttingBack => Belief::PuttingBack,
         }
     }
 
@@ -69,17 +104,9 @@ impl Belief {
             Belief::Private => Belief::Private,
             Belief::Chosen => Belief::Private,
             Belief::Copied => Belief::Private,
-            Belief::Loaned(slot, _) => Belief::Leaving(slot),
-            Belief::Held(slot, _) => Belief::LettingGo(slot),
-            Belief::Equal(slot, _) => Belief::LettingGo(slot),
-            Belief::LettingGo(slot) => Belief::LettingGo(slot),
-            Belief::Shown(slot, frame) => Belief::Shown(slot, frame),
-            Belief::Homing(slot, frame, _) => Belief::Shown(slot, frame),
+            Belief::Turning(stage, target) => stage.dropped(target),
+            Belief::Shown(slot, frame, _) => Belief::Shown(slot, frame, Homing::Off),
             Belief::Leaving(slot) => Belief::Leaving(slot),
-            Belief::Zeros => Belief::Private,
-            Belief::HeldZeros => Belief::PuttingBack,
-            Belief::EqualZeros => Belief::PuttingBack,
-            Belief::PuttingBack => Belief::PuttingBack,
         }
     }
 
@@ -91,17 +118,9 @@ impl Belief {
             Belief::Private => Belief::Private,
             Belief::Chosen => Belief::Chosen,
             Belief::Copied => Belief::Copied,
-            Belief::Loaned(slot, _) => Belief::LettingGo(slot),
-            Belief::Held(slot, frame) => Belief::Held(slot, frame),
-            Belief::Equal(slot, frame) => Belief::Equal(slot, frame),
-            Belief::LettingGo(slot) => Belief::LettingGo(slot),
-            Belief::Shown(slot, frame) => Belief::Shown(slot, frame),
-            Belief::Homing(slot, frame, _) => Belief::Shown(slot, frame),
+            Belief::Turning(stage, target) => Belief::Turning(stage.doubted(), target),
+            Belief::Shown(slot, frame, _) => Belief::Shown(slot, frame, Homing::Off),
             Belief::Leaving(slot) => Belief::Leaving(slot),
-            Belief::Zeros => Belief::PuttingBack,
-            Belief::HeldZeros => Belief::HeldZeros,
-            Belief::EqualZeros => Belief::EqualZeros,
-            Belief::PuttingBack => Belief::PuttingBack,
         }
     }
 }

@@ -4,7 +4,7 @@ ghost use Rattle.pageshare_window_c.specs.Pages.{number_of};
 
 use page_lender::Order;
 
-// Returns the number of an order's work.
+// Returns the number of an order's work. It is 16 more if the order's target is zeros.
 pub(crate) fn number_of(order: Order) -> u8
     ensures { result ≡ number_of order }
 {
@@ -12,16 +12,12 @@ pub(crate) fn number_of(order: Order) -> u8
         Order::Wait => 0,
         Order::Copy => 1,
         Order::Lend => 2,
-        Order::Hold => 3,
-        Order::Compare(_) => 4,
-        Order::Map(_) => 5,
-        Order::LetGo => 6,
-        Order::CopyInPlace => 7,
-        Order::TakeHome => 8,
+        Order::Hold(target) => 3 + target.number(),
+        Order::Compare(target) => 4 + target.number(),
+        Order::Map(target) => 5 + target.number(),
+        Order::LetGo(target) => 6 + target.number(),
+        Order::TakeHome(true) => 7,
+        Order::TakeHome(false) => 8,
         Order::Release(_) => 9,
-        Order::HoldZeros => 10,
-        Order::CompareZeros => 11,
-        Order::GiveBack => 12,
-        Order::PutBack => 13,
     }
 }

@@ -8,6 +8,7 @@ use Rattle.window_events.specs.Played.{played}
 use Rattle.window_events.specs.declared.event.Event.{Event}
 use Rattle.page_lender.specs.Events.{Believes, done_events, events_of, is_of}
 use Rattle.page_lender.specs.declared.belief.Belief.{Belief}
+use Rattle.page_lender.specs.declared.belief.Target.TheVariants.{Frame, Zeros}
 use Rattle.page_lender.specs.declared.order.Order.{Order}
 use Rattle.page_lender.specs.declared.order.Outcome.{Outcome}
 use Rattle.page_lender.specs.declared.order.Outcome.TheVariants.{Done, Lent, Refused, Unknown}
@@ -36,17 +37,14 @@ done_apart : (p q x : ℕ) (order : Order) → nat_eq p q ≡ false → Apart q 
 done_apart p q x Order.Wait d = tt
 done_apart p q x Order.Copy d = tt
 done_apart p q x Order.Lend d = tt
-done_apart p q x Order.Hold d = (d, tt)
-done_apart p q x (Order.Compare n) d = (d, (d, tt))
-done_apart p q x (Order.Map n) d = (d, tt)
-done_apart p q x Order.LetGo d = (d, tt)
-done_apart p q x Order.CopyInPlace d = (d, tt)
-done_apart p q x Order.TakeHome d = (d, tt)
+done_apart p q x (Order.Hold target) d = (d, tt)
+done_apart p q x (Order.Compare (Frame slot n)) d = (d, (d, tt))
+done_apart p q x (Order.Compare Zeros) d = (d, tt)
+done_apart p q x (Order.Map (Frame slot n)) d = (d, tt)
+done_apart p q x (Order.Map Zeros) d = (d, tt)
+done_apart p q x (Order.LetGo target) d = (d, tt)
+done_apart p q x (Order.TakeHome in_place) d = (d, tt)
 done_apart p q x (Order.Release slot) d = (d, tt)
-done_apart p q x Order.HoldZeros d = (d, tt)
-done_apart p q x Order.CompareZeros d = (d, tt)
-done_apart p q x Order.GiveBack d = (d, tt)
-done_apart p q x Order.PutBack d = (d, tt)
 
 -- the events of one page's outcome are events of that page
 pub events_apart : (p q x : ℕ) (order : Order) (outcome : Outcome) (was_done : Bool) → nat_eq p q ≡ false → Apart q (events_of p x order outcome was_done)

@@ -3,7 +3,9 @@ use Rattle.std.proofs.Common.{◌≡◌, ◌∙◌, ℕ, zero, suc, ◌+◌, ◌
 use Rattle.std.specs.Prelude.{nat_eq, option_map, replicate, slice_get, unwrap_or}
 use Rattle.page_lender.specs.Events.{Believes, Fits}
 use Rattle.page_lender.specs.declared.belief.Belief.{Belief}
-use Rattle.page_lender.specs.declared.belief.Belief.TheVariants.{Private, PuttingBack}
+use Rattle.page_lender.specs.declared.belief.Belief.TheVariants.{Private, Turning}
+use Rattle.page_lender.specs.declared.belief.Stage.TheVariants.{LettingGo}
+use Rattle.page_lender.specs.declared.belief.Target.TheVariants.{Zeros}
 use Rattle.page_lender.proofs.Kept.{kept_by_guest, kept_by_others}
 use Rattle.window_events.specs.Windows.{Mappings, shown_in, step}
 use Rattle.window_events.specs.declared.page.Page.{Page}
@@ -88,8 +90,8 @@ one_changed first old new k y z before next all c m i x e = pick (nat_eq i k) re
 left_fits : (belief : Belief) (frames : List ℕ) (stands : Bool) (page : Page) → Fits belief page → Fits (left_alone belief) (left_page frames stands page)
 left_fits belief frames stands page f = pick (waiting belief) refl where
   pick : (b : Bool) → waiting belief ≡ b → Fits (left_alone belief) (left_page frames stands page)
-  pick true e = subst (λ b. Fits (cond b PuttingBack Private) (left_page frames stands page)) (sym e) (record { holds = refl; view = refl; waits = λ h. cc; copy = refl })
-  pick false e = subst (λ b. Fits (cond b PuttingBack Private) (left_page frames stands page)) (sym e) (record { holds = refl; view = refl; waits = λ h. ap (λ g. g && stands) (f.waits e); copy = refl })
+  pick true e = subst (λ b. Fits (cond b (Turning LettingGo Zeros) Private) (left_page frames stands page)) (sym e) (record { holds = refl; view = refl; waits = λ h. cc; copy = refl })
+  pick false e = subst (λ b. Fits (cond b (Turning LettingGo Zeros) Private) (left_page frames stands page)) (sym e) (record { holds = refl; view = refl; waits = λ h. ap (λ g. g && stands) (f.waits e); copy = refl })
 
 left_belief : (i : ℕ) (old : List WindowPage) (y : WindowPage) (d : WasDetached i old y) → belief_of y ≡ left_alone (belief_of d.page)
 left_belief i old y d = ap (λ k. k.belief) d.becomes.known
@@ -143,6 +145,6 @@ is_right_still frames after stands page r = record {
 
 pub has_nothing : HasNothing
 has_nothing i old new d = ap account (left_belief i old new d) ∙ pick (waiting (belief_of d.page)) where
-  pick : (b : Bool) → account (cond b PuttingBack Private) ≡ None
+  pick : (b : Bool) → account (cond b (Turning LettingGo Zeros) Private) ≡ None
   pick true = refl
   pick false = refl

@@ -2,47 +2,66 @@
 use Rattle.std.proofs.Common.{◌≡◌, ◌∙◌, ℕ, ◌+◌, ◌*◌, ◌/◌, ◌%◌, ◌≤◌, Bool, true, false, cond, refl, ap, arith}
 use Rattle.std.specs.Prelude.{nat_eq}
 use Rattle.page_lender.specs.declared.belief.Belief.{Belief}
-use Rattle.page_lender.specs.declared.belief.Belief.TheVariants.{Private, Chosen, Copied, Loaned, Held, Equal, LettingGo, Shown, Homing, Leaving, Zeros, HeldZeros, EqualZeros, PuttingBack}
-use Rattle.page_lender.specs.Packing.{belief_if, belief_in, frame_in, number_of, slot_in}
+use Rattle.page_lender.specs.declared.belief.Belief.TheVariants.{Private, Chosen, Copied, Turning, Shown, Leaving}
+use Rattle.page_lender.specs.declared.belief.Homing.{Homing}
+use Rattle.page_lender.specs.declared.belief.Homing.TheVariants.{Off, InPlace, Elsewhere}
+use Rattle.page_lender.specs.declared.belief.Stage.{Stage}
+use Rattle.page_lender.specs.declared.belief.Stage.TheVariants.{Ready, Held, Equal, LettingGo}
+use Rattle.page_lender.specs.declared.belief.Target.{Target}
+use Rattle.page_lender.specs.declared.belief.Target.TheVariants.{Frame, Zeros}
+use Rattle.page_lender.specs.Packing.{belief_if, belief_in, frame_in, homing_number, number_of, slot_in, stage_number, target_if, target_number}
 use Rattle.window_pages.specs.Bytes.{belief_byte, belief_of, digit, known_of, looks_byte}
 use Rattle.window_pages.specs.Known.{has_slot}
 use Rattle.window_pages.specs.declared.page.KnownPage.{KnownPage}
 use Rattle.window_pages.specs.declared.page.WindowPage.{WindowPage}
 
 -- a belief by its number, with a slot and a frame in the places that it uses
+turning_again : (stage : Stage) (target : Target) (slot n : ℕ) →
+    belief_in (number_of (Turning stage target)) (cond (has_slot (Turning stage target)) (slot_in (Turning stage target)) slot) (cond (has_slot (Turning stage target)) (frame_in (Turning stage target)) n) ≡ Turning stage target
+turning_again Ready (Frame s m) slot n = refl
+turning_again Ready Zeros slot n = refl
+turning_again Held (Frame s m) slot n = refl
+turning_again Held Zeros slot n = refl
+turning_again Equal (Frame s m) slot n = refl
+turning_again Equal Zeros slot n = refl
+turning_again LettingGo (Frame s m) slot n = refl
+turning_again LettingGo Zeros slot n = refl
+
+shown_again : (s m : ℕ) (homing : Homing) → belief_in (number_of (Shown s m homing)) s m ≡ Shown s m homing
+shown_again s m Off = refl
+shown_again s m InPlace = refl
+shown_again s m Elsewhere = refl
+
 belief_again : (b : Belief) (slot n : ℕ) → belief_in (number_of b) (cond (has_slot b) (slot_in b) slot) (cond (has_slot b) (frame_in b) n) ≡ b
 belief_again Private slot n = refl
 belief_again Chosen slot n = refl
 belief_again Copied slot n = refl
-belief_again (Loaned s m) slot n = refl
-belief_again (Held s m) slot n = refl
-belief_again (Equal s m) slot n = refl
-belief_again (LettingGo s) slot n = refl
-belief_again (Shown s m) slot n = refl
-belief_again (Homing s m true) slot n = refl
-belief_again (Homing s m false) slot n = refl
+belief_again (Turning stage target) slot n = turning_again stage target slot n
+belief_again (Shown s m homing) slot n = shown_again s m homing
 belief_again (Leaving s) slot n = refl
-belief_again Zeros slot n = refl
-belief_again HeldZeros slot n = refl
-belief_again EqualZeros slot n = refl
-belief_again PuttingBack slot n = refl
 
-number_fits : (b : Belief) → number_of b ≤ 14
+stage_fits : (stage : Stage) → stage_number stage ≤ 6
+stage_fits Ready = omega arith
+stage_fits Held = omega arith
+stage_fits Equal = omega arith
+stage_fits LettingGo = omega arith
+
+target_fits : (target : Target) → target_number target ≤ 16
+target_fits (Frame slot n) = omega arith
+target_fits Zeros = omega arith
+
+homing_fits : (homing : Homing) → homing_number homing ≤ 22
+homing_fits Off = omega arith
+homing_fits InPlace = omega arith
+homing_fits Elsewhere = omega arith
+
+number_fits : (b : Belief) → number_of b ≤ 22
 number_fits Private = omega arith
 number_fits Chosen = omega arith
 number_fits Copied = omega arith
-number_fits (Loaned s m) = omega arith
-number_fits (Held s m) = omega arith
-number_fits (Equal s m) = omega arith
-number_fits (LettingGo s) = omega arith
-number_fits (Shown s m) = omega arith
-number_fits (Homing s m true) = omega arith
-number_fits (Homing s m false) = omega arith
+number_fits (Turning stage target) = omega (arith, stage_fits stage, target_fits target)
+number_fits (Shown s m homing) = homing_fits homing
 number_fits (Leaving s) = omega arith
-number_fits Zeros = omega arith
-number_fits HeldZeros = omega arith
-number_fits EqualZeros = omega arith
-number_fits PuttingBack = omega arith
 
 digit_fits : (b : Bool) → digit b ≤ 1
 digit_fits true = omega arith
@@ -53,16 +72,16 @@ digit_is true = refl
 digit_is false = refl
 
 -- a number below 32, and three digits
-low_5 : (k a b c : ℕ) → k ≤ 14 → a ≤ 1 → b ≤ 1 → c ≤ 1 → (k + 32 * a + 64 * b + 128 * c) % 32 ≡ k
+low_5 : (k a b c : ℕ) → k ≤ 22 → a ≤ 1 → b ≤ 1 → c ≤ 1 → (k + 32 * a + 64 * b + 128 * c) % 32 ≡ k
 low_5 k a b c hk ha hb hc = omega arith
 
-at_32 : (k a b c : ℕ) → k ≤ 14 → a ≤ 1 → b ≤ 1 → c ≤ 1 → (k + 32 * a + 64 * b + 128 * c) / 32 % 2 ≡ a
+at_32 : (k a b c : ℕ) → k ≤ 22 → a ≤ 1 → b ≤ 1 → c ≤ 1 → (k + 32 * a + 64 * b + 128 * c) / 32 % 2 ≡ a
 at_32 k a b c hk ha hb hc = omega arith
 
-at_64 : (k a b c : ℕ) → k ≤ 14 → a ≤ 1 → b ≤ 1 → c ≤ 1 → (k + 32 * a + 64 * b + 128 * c) / 64 % 2 ≡ b
+at_64 : (k a b c : ℕ) → k ≤ 22 → a ≤ 1 → b ≤ 1 → c ≤ 1 → (k + 32 * a + 64 * b + 128 * c) / 64 % 2 ≡ b
 at_64 k a b c hk ha hb hc = omega arith
 
-at_128 : (k a b c : ℕ) → k ≤ 14 → a ≤ 1 → b ≤ 1 → c ≤ 1 → (k + 32 * a + 64 * b + 128 * c) / 128 % 2 ≡ c
+at_128 : (k a b c : ℕ) → k ≤ 22 → a ≤ 1 → b ≤ 1 → c ≤ 1 → (k + 32 * a + 64 * b + 128 * c) / 128 % 2 ≡ c
 at_128 k a b c hk ha hb hc = omega arith
 
 -- a multiple of 16, and four digits
@@ -116,27 +135,33 @@ known_again page slot n clue looks =
     (fact _ page.begins (at_8 h (digit page.ordered) (digit page.same) (digit page.moved) (digit page.begins) o s m g))
 
 -- what is believed stays where its slot and frame do, if it has them
-kept_if : (b1 b2 b3 b4 b5 b6 b7 b8 b9 b10 b11 b12 b13 b14 : Bool) (slot n x y : ℕ) →
-    belief_if b1 b2 b3 b4 b5 b6 b7 b8 b9 b10 b11 b12 b13 b14 (cond (has_slot (belief_if b1 b2 b3 b4 b5 b6 b7 b8 b9 b10 b11 b12 b13 b14 slot n)) slot x) (cond (has_slot (belief_if b1 b2 b3 b4 b5 b6 b7 b8 b9 b10 b11 b12 b13 b14 slot n)) n y) ≡ belief_if b1 b2 b3 b4 b5 b6 b7 b8 b9 b10 b11 b12 b13 b14 slot n
-kept_if true b2 b3 b4 b5 b6 b7 b8 b9 b10 b11 b12 b13 b14 slot n x y = refl
-kept_if false true b3 b4 b5 b6 b7 b8 b9 b10 b11 b12 b13 b14 slot n x y = refl
-kept_if false false true b4 b5 b6 b7 b8 b9 b10 b11 b12 b13 b14 slot n x y = refl
-kept_if false false false true b5 b6 b7 b8 b9 b10 b11 b12 b13 b14 slot n x y = refl
-kept_if false false false false true b6 b7 b8 b9 b10 b11 b12 b13 b14 slot n x y = refl
-kept_if false false false false false true b7 b8 b9 b10 b11 b12 b13 b14 slot n x y = refl
-kept_if false false false false false false true b8 b9 b10 b11 b12 b13 b14 slot n x y = refl
-kept_if false false false false false false false true b9 b10 b11 b12 b13 b14 slot n x y = refl
-kept_if false false false false false false false false true b10 b11 b12 b13 b14 slot n x y = refl
-kept_if false false false false false false false false false true b11 b12 b13 b14 slot n x y = refl
-kept_if false false false false false false false false false false true b12 b13 b14 slot n x y = refl
-kept_if false false false false false false false false false false false true b13 b14 slot n x y = refl
-kept_if false false false false false false false false false false false false true b14 slot n x y = refl
-kept_if false false false false false false false false false false false false false true slot n x y = refl
-kept_if false false false false false false false false false false false false false false slot n x y = refl
+turning_kept : (stage : Stage) (z : Bool) (slot n x y : ℕ) →
+    Turning stage (target_if z (cond (has_slot (Turning stage (target_if z slot n))) slot x) (cond (has_slot (Turning stage (target_if z slot n))) n y)) ≡ Turning stage (target_if z slot n)
+turning_kept stage true slot n x y = refl
+turning_kept stage false slot n x y = refl
+
+-- a belief by ten tests of its stage's number and one of its target's
+abbrev tested : Bool → Bool → Bool → Bool → Bool → Bool → Bool → Bool → Bool → Bool → Bool → ℕ → ℕ → Belief
+tested b1 b2 b3 b4 b5 b6 b7 b8 b9 b10 z slot n = belief_if b1 b2 b3 b4 b5 b6 b7 b8 b9 b10 (target_if z slot n) slot n
+
+kept_if : (b1 b2 b3 b4 b5 b6 b7 b8 b9 b10 z : Bool) (slot n x y : ℕ) →
+    tested b1 b2 b3 b4 b5 b6 b7 b8 b9 b10 z (cond (has_slot (tested b1 b2 b3 b4 b5 b6 b7 b8 b9 b10 z slot n)) slot x) (cond (has_slot (tested b1 b2 b3 b4 b5 b6 b7 b8 b9 b10 z slot n)) n y) ≡ tested b1 b2 b3 b4 b5 b6 b7 b8 b9 b10 z slot n
+kept_if true b2 b3 b4 b5 b6 b7 b8 b9 b10 z slot n x y = refl
+kept_if false true b3 b4 b5 b6 b7 b8 b9 b10 z slot n x y = refl
+kept_if false false true b4 b5 b6 b7 b8 b9 b10 z slot n x y = turning_kept Ready z slot n x y
+kept_if false false false true b5 b6 b7 b8 b9 b10 z slot n x y = turning_kept Held z slot n x y
+kept_if false false false false true b6 b7 b8 b9 b10 z slot n x y = turning_kept Equal z slot n x y
+kept_if false false false false false true b7 b8 b9 b10 z slot n x y = turning_kept LettingGo z slot n x y
+kept_if false false false false false false true b8 b9 b10 z slot n x y = refl
+kept_if false false false false false false false true b9 b10 z slot n x y = refl
+kept_if false false false false false false false false true b10 z slot n x y = refl
+kept_if false false false false false false false false false true z slot n x y = refl
+kept_if false false false false false false false false false false z slot n x y = refl
 
 believed_kept : (k slot n x y : ℕ) → belief_in k (cond (has_slot (belief_in k slot n)) slot x) (cond (has_slot (belief_in k slot n)) n y) ≡ belief_in k slot n
 believed_kept k slot n x y =
-    kept_if (nat_eq k 1) (nat_eq k 2) (nat_eq k 3) (nat_eq k 4) (nat_eq k 5) (nat_eq k 6) (nat_eq k 7) (nat_eq k 8) (nat_eq k 9) (nat_eq k 10) (nat_eq k 11) (nat_eq k 12) (nat_eq k 13) (nat_eq k 14) slot n x y
+    let s : ℕ = k % 16 in
+    kept_if (nat_eq s 1) (nat_eq s 2) (nat_eq s 3) (nat_eq s 4) (nat_eq s 5) (nat_eq s 6) (nat_eq s 7) (nat_eq s 8) (nat_eq s 9) (nat_eq s 10) (nat_eq (k / 16) 1) slot n x y
 
 -- the lowest digits stay where higher ones change
 low_1 : (n l a : ℕ) → (n % 16 + 16 * l + 64 * a) / 1 % 2 ≡ n / 1 % 2

@@ -4,7 +4,9 @@ use Rattle.page_lender.specs.Decisions.{is_busy, shows, waiting}
 use Rattle.page_lender.specs.Lender.{discarded_of}
 use Rattle.page_lender.specs.declared.bars.Bars.{Bars}
 use Rattle.page_lender.specs.declared.belief.Belief.{Belief}
-use Rattle.page_lender.specs.declared.belief.Belief.TheVariants.{Private, PuttingBack}
+use Rattle.page_lender.specs.declared.belief.Belief.TheVariants.{Private, Turning}
+use Rattle.page_lender.specs.declared.belief.Stage.TheVariants.{LettingGo}
+use Rattle.page_lender.specs.declared.belief.Target.TheVariants.{Zeros}
 use Rattle.page_lender.specs.declared.page.PageLender.{PageLender}
 use Rattle.window_pages.specs.Bytes.{known_of, notes_of}
 use Rattle.window_pages.specs.Counted.{counts_then}
@@ -86,7 +88,7 @@ gone page = record (given_back false page) { out = true }
 
 -- Its lender is gone, and what it believed. Writes to it may wait still where they may have waited.
 abbrev pub left_alone : Belief → Belief
-left_alone belief = if waiting belief then PuttingBack else Private
+left_alone belief = if waiting belief then Turning LettingGo Zeros else Private
 
 abbrev pub detached : KnownPage → KnownPage
 detached page = record page {

@@ -1,9 +1,13 @@
 -- What is known of a page, and what calls do to it.
-use Rattle.std.specs.Prelude.{ℕ, ◌+◌, ◌*◌, ◌%◌, ◌^◌, Bool, true, false, not, ◌&&◌, ◌||◌, if◌then◌else◌}
-use Rattle.page_lender.specs.Decisions.{due, is_outcome, shows}
+use Rattle.std.specs.Prelude.{ℕ, ◌+◌, ◌*◌, ◌%◌, ◌^◌, Bool, true, false, not, ◌&&◌, ◌||◌, if◌then◌else◌, is_some}
+use Rattle.page_lender.specs.Decisions.{account, due, is_outcome, shows}
 use Rattle.page_lender.specs.declared.bars.Bars.{Bars}
 use Rattle.page_lender.specs.declared.belief.Belief.{Belief}
-use Rattle.page_lender.specs.declared.belief.Belief.TheVariants.{Private, Chosen, Copied, Loaned, Held, Equal, LettingGo, Shown, Homing, Leaving, Zeros, HeldZeros, EqualZeros, PuttingBack}
+use Rattle.page_lender.specs.declared.belief.Belief.TheVariants.{Private, Chosen, Copied, Turning, Shown, Leaving}
+use Rattle.page_lender.specs.declared.belief.Homing.{Homing}
+use Rattle.page_lender.specs.declared.belief.Homing.TheVariants.{Off, InPlace, Elsewhere}
+use Rattle.page_lender.specs.declared.belief.Stage.TheVariants.{Ready}
+use Rattle.page_lender.specs.declared.belief.Target.TheVariants.{Zeros}
 use Rattle.page_lender.specs.declared.order.Outcome.{Outcome}
 use Rattle.page_lender.specs.declared.page.PageLender.{PageLender}
 use Rattle.page_lender.specs.Packing.{slot_in, frame_in}
@@ -13,20 +17,7 @@ use Rattle.window_pages.specs.declared.page.PageNotes.{PageNotes}
 
 -- the host has given a slot for the page, and it isn't known that it has it no more
 abbrev pub has_slot : Belief → Bool
-has_slot Private = false
-has_slot Chosen = false
-has_slot Copied = false
-has_slot (Loaned slot n) = true
-has_slot (Held slot n) = true
-has_slot (Equal slot n) = true
-has_slot (LettingGo slot) = true
-has_slot (Shown slot n) = true
-has_slot (Homing slot n in_place) = true
-has_slot (Leaving slot) = true
-has_slot Zeros = false
-has_slot HeldZeros = false
-has_slot EqualZeros = false
-has_slot PuttingBack = false
+has_slot belief = is_some (account belief)
 
 -- it shows a frame of a lender that is gone
 abbrev pub shows_past : KnownPage → Bool
@@ -81,7 +72,7 @@ takes outcome page = page.ordered && is_outcome (due page.belief) outcome
 
 -- what is believed of a page once it is chosen: to be lent, or to be given back if it is zeros
 abbrev pub chosen_as : Bool → Belief
-chosen_as true = Zeros
+chosen_as true = Turning Ready Zeros
 chosen_as false = Chosen
 
 -- its notes with this clue
@@ -89,21 +80,18 @@ abbrev pub clued : ℕ → PageNotes → PageNotes
 clued clue notes = record notes { clue = clue % 32768 }
 
 -- it is to get a copy of its own where it is
+abbrev pub is_in_place : Homing → Bool
+is_in_place Off = false
+is_in_place InPlace = true
+is_in_place Elsewhere = false
+
 abbrev pub homes_in_place : Belief → Bool
 homes_in_place Private = false
 homes_in_place Chosen = false
 homes_in_place Copied = false
-homes_in_place (Loaned slot n) = false
-homes_in_place (Held slot n) = false
-homes_in_place (Equal slot n) = false
-homes_in_place (LettingGo slot) = false
-homes_in_place (Shown slot n) = false
-homes_in_place (Homing slot n in_place) = in_place
+homes_in_place (Turning stage target) = false
+homes_in_place (Shown slot n homing) = is_in_place homing
 homes_in_place (Leaving slot) = false
-homes_in_place Zeros = false
-homes_in_place HeldZeros = false
-homes_in_place EqualZeros = false
-homes_in_place PuttingBack = false
 
 -- a page over a frame has to stay where it is: it is to get its copy there, or it has one that a device may hold
 abbrev pub stays : WindowFacts → Bool → KnownPage → Bool

@@ -53,22 +53,7 @@ fn looks_byte(looks: u8, page: &KnownPage) -> u8
 pub(crate) fn has_slot(belief: Belief) -> bool
     ensures { result ≡ has_slot belief }
 {
-    match belief {
-        Belief::Private => false,
-        Belief::Chosen => false,
-        Belief::Copied => false,
-        Belief::Loaned(_, _) => true,
-        Belief::Held(_, _) => true,
-        Belief::Equal(_, _) => true,
-        Belief::LettingGo(_) => true,
-        Belief::Shown(_, _) => true,
-        Belief::Homing(_, _, _) => true,
-        Belief::Leaving(_) => true,
-        Belief::Zeros => false,
-        Belief::HeldZeros => false,
-        Belief::EqualZeros => false,
-        Belief::PuttingBack => false,
-    }
+    belief.slot().is_some()
 }
 
 // Returns the slot of a belief, or else this number.

@@ -4,12 +4,12 @@ ghost use Rattle.page_lender.specs.Events.{HeardRightly};
 ghost use Rattle.window_pages.specs.Bytes.{belief_of, known_of, notes_of};
 ghost use Rattle.window_pages.specs.Changed.{Becomes, moved_first, covered, detached, discarded, given_back, given_up, gone, left_alone, no_past, notes_if, uncovered, uncovered_notes, unmapped};
 ghost use Rattle.window_pages.specs.Counted.{counts_then};
-ghost use Rattle.window_pages.specs.Known.{clued, homes_in_place, kept_by, shows_past, stays, stored};
+ghost use Rattle.window_pages.specs.Known.{clued, homes_in_place, is_in_place, kept_by, shows_past, stays, stored};
 
 use crate::change::change;
 use crate::lend::hear_of;
 use crate::{KnownPage, PageNotes, PartCounts, WindowFacts, WindowPage};
-use page_lender::{Belief, Notice, PageLender};
+use page_lender::{Belief, Homing, Notice, Stage, Target};
 
 /// Notes that a frame was mapped at the page's place. `clue` is some bits of its number. What looks have found counts no more if the page
 /// showed a frame of a lender that is gone.
@@ -116,12 +116,8 @@ impl KnownPage {
     fn left_alone(&self) -> Belief
         ensures { result ≡ left_alone self.now.belief }
     {
-        let lender = PageLender {
-            ordered: false,
-            ..self.free_lender()
-        };
-        if lender.is_held() {
-            Belief::PuttingBack
+        if self.belief.waits() {
+            Belief::Turning(Stage::LettingGo, Target::Zeros)
         } else {
             Belief::Private
         }
@@ -135,18 +131,21 @@ impl KnownPage {
             Belief::Private => false,
             Belief::Chosen => false,
             Belief::Copied => false,
-            Belief::Loaned(_, _) => false,
-            Belief::Held(_, _) => false,
-            Belief::Equal(_, _) => false,
-            Belief::LettingGo(_) => false,
-            Belief::Shown(_, _) => false,
-            Belief::Homing(_, _, in_place) => in_place,
+            Belief::Turning(_, _) => false,
+            Belief::Shown(_, _, homing) => is_in_place(homing),
             Belief::Leaving(_) => false,
-            Belief::Zeros => false,
-            Belief::HeldZeros => false,
-            Belief::EqualZeros => false,
-            Belief::PuttingBack => false,
         }
+    }
+}
+
+// Returns whether a page that shows its frame is to get a copy of its own where it is.
+fn is_in_place(homing: Homing) -> bool
+    ensures { result ≡ is_in_place homing }
+{
+    match homing {
+        Homing::Off => false,
+        Homing::InPlace => true,
+        Homing::Elsewhere => false,
     }
 }
 

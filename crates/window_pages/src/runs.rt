@@ -1,12 +1,13 @@
 //! Runs of pages: how far what is so of the first of them goes on.
-ghost use Rattle.std.specs.Prelude.{◌≡◌, ◌+◌, slice_get};
+ghost use Rattle.std.specs.Prelude.{◌≡◌, false, slice_get};
 ghost use Rattle.std.specs.List.{prefix_len};
 ghost use Rattle.std.specs.Option.{option_map_or};
+ghost use Rattle.page_lender.specs.Decisions.{equal_to};
 ghost use Rattle.window_pages.specs.Bytes.{belief_of, known_of};
-ghost use Rattle.window_pages.specs.Runs.{goes_on, goes_with, is_frame, is_here, is_here_as, is_zeros, keeps_slot, lies_as, same};
+ghost use Rattle.window_pages.specs.Runs.{follows, goes_on, goes_with, is_here, is_here_as, keeps_slot, lies_as, same};
 
 use crate::WindowPage;
-use page_lender::Belief;
+use page_lender::{Belief, Target};
 
 // Returns whether both are so, or neither.
 fn same(one: bool, other: bool) -> bool
@@ -15,47 +16,29 @@ fn same(one: bool, other: bool) -> bool
     if one { other } else { !other }
 }
 
-// Returns whether a page was found equal to the frame behind this one.
-fn is_behind(frame: u32, belief: Belief) -> bool
-    ensures { result ≡ is_frame (frame + 1) belief }
+// Returns whether the second is the frame behind the first, or both are zeros.
+fn follows(one: Target, other: Target) -> bool
+    ensures { result ≡ follows one other }
 {
-    match belief {
-        Belief::Private => false,
-        Belief::Chosen => false,
-        Belief::Copied => false,
-        Belief::Loaned(_, _) => false,
-        Belief::Held(_, _) => false,
-        Belief::Equal(_, other) => u64::from(other) == u64::from(frame) + 1,
-        Belief::LettingGo(_) => false,
-        Belief::Shown(_, _) => false,
-        Belief::Homing(_, _, _) => false,
-        Belief::Leaving(_) => false,
-        Belief::Zeros => false,
-        Belief::HeldZeros => false,
-        Belief::EqualZeros => false,
-        Belief::PuttingBack => false,
+    match one {
+        Target::Frame(_, frame) => match other {
+            Target::Frame(_, next) => u64::from(next) == u64::from(frame) + 1,
+            Target::Zeros => false,
+        },
+        Target::Zeros => match other {
+            Target::Frame(_, _) => false,
+            Target::Zeros => true,
+        },
     }
 }
 
-// Returns whether a page was found to be zeros.
-fn is_zeros(belief: Belief) -> bool
-    ensures { result ≡ is_zeros belief }
+// Returns whether a page was found equal to what follows this.
+fn is_behind(target: Target, other: Belief) -> bool
+    ensures { result ≡ option_map_or (follows target) (equal_to other) false }
 {
-    match belief {
-        Belief::Private => false,
-        Belief::Chosen => false,
-        Belief::Copied => false,
-        Belief::Loaned(_, _) => false,
-        Belief::Held(_, _) => false,
-        Belief::Equal(_, _) => false,
-        Belief::LettingGo(_) => false,
-        Belief::Shown(_, _) => false,
-        Belief::Homing(_, _, _) => false,
-        Belief::Leaving(_) => false,
-        Belief::Zeros => false,
-        Belief::HeldZeros => false,
-        Belief::EqualZeros => true,
-        Belief::PuttingBack => false,
+    match other.equal_to() {
+        None => false,
+        Some(next) => follows(target, next),
     }
 }
 
@@ -63,21 +46,9 @@ fn is_zeros(belief: Belief) -> bool
 fn goes_with(one: Belief, other: Belief) -> bool
     ensures { result ≡ goes_with one other }
 {
-    match one {
-        Belief::Private => false,
-        Belief::Chosen => false,
-        Belief::Copied => false,
-        Belief::Loaned(_, _) => false,
-        Belief::Held(_, _) => false,
-        Belief::Equal(_, frame) => is_behind(frame, other),
-        Belief::LettingGo(_) => false,
-        Belief::Shown(_, _) => false,
-        Belief::Homing(_, _, _) => false,
-        Belief::Leaving(_) => false,
-        Belief::Zeros => false,
-        Belief::HeldZeros => false,
-        Belief::EqualZeros => is_zeros(other),
-        Belief::PuttingBack => false,
+    match one.equal_to() {
+        None => false,
+        Some(target) => is_behind(target, other),
     }
 }
 
