@@ -1,8 +1,4 @@
-"""A host of the proved library beside the plain one: each call is made of both, and all that is known of both is compared.
-
-Which session may be taken up, how many pages a process may have lent, and when a session without slots ends is computed here as
-host/daemon/clients.c does.
-"""
+"""A host of the proved library beside the plain one: each call is made of both, and all that is known of both is compared."""
 from __future__ import annotations
 
 import ctypes
@@ -51,31 +47,19 @@ class ComparedHost:
         return due
 
     def serve(self, n: int, packet: bytes, pages: Sequence[int], most: int = MESSAGE, beside: int = UNKNOWN) -> Served:
-        """A packet with pages of these contents. Where the process isn't known, it is received; else the session `beside` is of the same
-        process, and no other one."""
+        """A packet with pages of these contents. Where the process isn't known, it is received."""
         given, buffer = self.library.array("uint8_t", packet), (ctypes.c_char * max(1, len(pages) * PAGE))()
         buffer.raw = b"".join(BYTES[it] for it in pages).ljust(1, b"\0")
-        name = self.library.array("uint8_t", bytes(16))
-        kind, count, names = values_of(self.library.call("read", given, len(packet), name))
-        self.equal("what a packet says", (kind, count), head_of(packet))
-        self.equal("the session that it names", bytes(name), packet[8:24] if names else bytes(16))
+        self.equal("what a packet says", values_of(self.library.call("read", given, len(packet))), head_of(packet))
         words = [n, given, len(packet), ctypes.cast(buffer, ctypes.POINTER(ctypes.c_uint8)), len(pages)]
         places = [self.reply, REPLY, self.frames, MESSAGE]
         if beside == UNKNOWN:
             got = self.call("receive", *words, *places)
         else:
-            may = self.library.make("allowance", most=self.plain.lendable(n, packet, most, beside), takes_up=self.takes_up(n, packet, beside))
-            got = self.call("serve", *words, may, *places)
+            got = self.call("serve", *words, self.library.make("allowance", most=most, beside=beside), *places)
         due = self.plain.serve(n, packet, pages, most, beside, bytes(self.reply)[: got.reply_bytes])
         self.shows("a packet", got, due)
         return due
-
-    def takes_up(self, n: int, packet: bytes, beside: int) -> bool:
-        """Whether a hello takes up the session `beside`. If the connection of that still stands, it ends first."""
-        before = self.plain.named(n, packet, beside)
-        if before is not None:
-            self.equal("an older connection's end", self.call("disconnect", before), OK)
-        return before is not None
 
     def shows(self, what: str, got: Any, due: Served) -> None:
         """What came of a call, its reply and the frames. (A packet that is received says less, and not the frames of loans.)"""
@@ -96,12 +80,9 @@ class ComparedHost:
 
     def end_empty(self, n: int) -> bool:
         """Whether no session has the number then."""
-        session = self.plain.sessions[n] if n < SESSIONS else None
-        if session is not None and session.slots:
-            return False
-        if session is not None:
-            self.end(n, 1)
-        return True
+        due = self.plain.end_empty(n)
+        self.equal("a session without slots", self.call("end_empty", n), due)
+        return due != OK
 
     def end(self, n: int, room: int) -> bool:
         count, due = self.library.make("size_t"), self.plain.end(n, room)

@@ -159,18 +159,7 @@ class PlainHost:
         other = self.sessions[beside] if beside < SESSIONS else None
         return min(most, max(0, QUOTA - len(session.slots) - (len(other.slots) if other is not None else 0)))
 
-    def lendable(self, n: int, packet: bytes, most: int, beside: int) -> int:
-        """The same, of any packet of any session."""
-        session = self.sessions[n] if n < SESSIONS else None
-        return most if session is None or head_of(packet)[0] != LEND else self.most(session, most, beside)
-
     # ---- hello
-
-    def named(self, n: int, packet: bytes, beside: int) -> int | None:
-        """The session that a packet of any session takes up."""
-        session = self.sessions[n] if n < SESSIONS else None
-        is_first = session is not None and session.state == SILENT and head_of(packet)[0] == HELLO
-        return self.wanted(packet, beside) if is_first else None
 
     def wanted(self, packet: bytes, beside: int) -> int | None:
         """The session that a hello takes up."""
@@ -272,6 +261,14 @@ class PlainHost:
         elif session.state == TALKING:
             session.state = GONE
         return OK
+
+    def end_empty(self, n: int) -> int:
+        session = self.sessions[n] if n < SESSIONS else None
+        if session is not None and session.slots:
+            return OK
+        if session is not None:
+            self.forget(n, session)
+        return NO_SESSION
 
     def end(self, n: int, room: int) -> list[int] | None:
         """The frames that are free since, one for each slot that is released: the first slots."""
