@@ -1,11 +1,11 @@
 #!/usr/bin/env python3
-"""Calls the proved library for windows, and compares what it returns and writes with what is due.
+"""Calls the proved libraries for windows and for hosts, and compares what they return and write with what is due.
 
     checks/rows.py [NAME ..]
 
 NAME is a file of checks/rows, such as `ranges` for ranges.rows, whose lines are calls with what is due of each. Or it is a module of
 checks/window_cases, such as `pages`, which makes calls by chance with fixed seeds, and has a plain model of what is due. By default it is
-all of both, and then each function of the header must have been called.
+all of both, and then each function of both headers must have been called. `hosts` and `halves` call the library for hosts, and `halves` both.
 
 No proof stands behind the order of a function's arguments, or behind what the definitions are worth that it is proved to meet. So what is
 due was worked out by hand, or is computed by rules that stand here in Python. Where there is no C compiler all is left out, and so said.
@@ -18,7 +18,7 @@ import importlib
 import sys
 
 from common.call_rows import run_rows
-from common.window_library import Library, built
+from common.window_library import Library, built, built_host
 from harness import TOP, Tally
 
 ROWS = {path.stem: path for path in sorted((TOP / "checks/rows").glob("*.rows"))}
@@ -34,7 +34,8 @@ def look(tally: Tally, names: list[str]) -> None:
         if name in CASES:
             importlib.import_module(f"window_cases.{name}").run(tally, library)
     if {*names} == {*ROWS, *CASES}:
-        tally.equal("functions of the header that are never called", sorted({*library.functions} - library.called), [])
+        for each in (library, built_host()):
+            tally.equal(f"functions of {each.handle}s that are never called", sorted({*each.functions} - each.called), [])
 
 
 def main() -> int:

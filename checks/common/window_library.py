@@ -1,16 +1,18 @@
-"""The proved library for windows, called from Python as window/pageshare_window.h declares it.
+"""The proved libraries for windows and for hosts, called from Python as their headers declare them.
 
-    library = Library(path_of_a_shared_object)
+    library = built()
     page, part = library.make("page"), library.make("counts")
     library.call("choose", page, part, library.make("facts"), False)
     page.belief == library.constants["CHOSEN"]
 
 Names are those of the header, without what they all begin with. Structs and functions are read off the header, so a new one needs no line
-here. Which member a struct has at which place is what `checks/structs.py` compares with the library's.
+here. Which member a struct has at which place is what `checks/structs.py` compares with the library's. `built_host` is the library for
+hosts: its handle is the struct `host`, and a list of pages is passed as an array of bytes.
 """
 from __future__ import annotations
 
 import ctypes
+import functools
 import pathlib
 import re
 from collections.abc import Iterable
@@ -19,57 +21,61 @@ from typing import Any
 from common.c_programs import CC, WINDOW_LIBRARY, run
 from harness import OUT, TOP, LeftOut, needs
 
-HEADER = TOP / "window/pageshare_window.h"
-PREFIX = "pageshare_window_"
+HOST_LIBRARY = "libpageshare_host.a"
 # What a type of the header is for Python.
 TYPES: dict[str, Any] = {
     "bool": ctypes.c_bool, "uint8_t": ctypes.c_uint8, "uint16_t": ctypes.c_uint16, "uint32_t": ctypes.c_uint32,
     "uint64_t": ctypes.c_uint64, "size_t": ctypes.c_size_t, "void": None,
 }
 COMMENT = re.compile(r"/\*.*?\*/", re.S)
-CONSTANT = re.compile(r"^\s*PAGESHARE_WINDOW_(\w+) = (0x[0-9a-f]+|\d+)", re.M)
-STRUCT = re.compile(rf"^struct {PREFIX}(\w+) \{{(.*?)^\}};", re.M | re.S)
-MEMBER = re.compile(r"^\s*(struct )?(\w+) (\w+)(?:\[(\d+)\])?;", re.M)
-FUNCTION = re.compile(rf"^(struct )?(\w+) {PREFIX}(\w+)\(([^;]*)\);", re.M)
+MEMBER = re.compile(r"^\s*(struct )?(\w+) (\*?)([\w, ]+)(?:\[(\w+)\])?;", re.M)
 PARAMETER = re.compile(r"(?:const )?(struct )?(\w+) (\*?)(\w+)")
+# A parameter that is an array, or a pointer to arrays: its address is passed.
+ARRAY = re.compile(r"(?:\(\*(\w+)\)|(\w+))\[\w+\]")
 
 
-def linked(path: pathlib.Path) -> pathlib.Path:
-    """Links the proved static library to a shared object, which is left at this path."""
-    needs("what the library for windows decides", CC)
-    if not pathlib.Path(WINDOW_LIBRARY).exists():
-        raise LeftOut(f"what the library for windows decides, since there is no {WINDOW_LIBRARY} (tools/build.py --libraries)")
+def linked(path: pathlib.Path, archive: str) -> pathlib.Path:
+    """Links a proved static library to a shared object, which is left at this path."""
     path.parent.mkdir(parents=True, exist_ok=True)
-    words = [CC, "-shared", "-o", str(path), "-Wl,--whole-archive", WINDOW_LIBRARY, "-Wl,--no-whole-archive"]
+    words = [CC, "-shared", "-o", str(path), "-Wl,--whole-archive", archive, "-Wl,--no-whole-archive"]
     if run(words).returncode != 0:
-        raise SystemExit(f"{WINDOW_LIBRARY} can't be linked")
+        raise SystemExit(f"{archive} can't be linked")
     return path
 
 
 class Library:
-    """The structs, the constants and the functions of the library."""
+    """The structs, the constants and the functions of a library, whose names in its header all begin with `prefix`."""
 
-    def __init__(self, path: pathlib.Path) -> None:
-        text = COMMENT.sub("", HEADER.read_text(encoding="utf-8"))
-        self.constants = {name: int(number, 0) for name, number in CONSTANT.findall(text)}
+    def __init__(self, path: pathlib.Path, header: pathlib.Path, prefix: str) -> None:
+        text = COMMENT.sub("", header.read_text(encoding="utf-8"))
+        self.prefix, self.handle = f"{prefix}_", prefix.rpartition("_")[2]
+        numbers = re.findall(rf"^\s*(?:#define )?{prefix.upper()}_(\w+)(?: =)? (0x[0-9a-f]+|\d+)", text, re.M)
+        self.constants = {name: int(number, 0) for name, number in numbers}
         self.structs: dict[str, Any] = {}
-        for name, inside in STRUCT.findall(text):
-            members = [(member, self.sized(self.type_of(kind), size)) for _, kind, member, size in MEMBER.findall(inside)]
-            self.structs[name] = type(name, (ctypes.Structure,), {"_fields_": members})
+        for name, inside in re.findall(rf"^struct {prefix}(?:_(\w+))? \{{(.*?)^\}};", text, re.M | re.S):
+            members = [
+                (member, self.member(kind, star, size)) for _, kind, star, names, size in MEMBER.findall(inside) for member in names.split(", ")
+            ]
+            self.structs[name or self.handle] = type(name or self.handle, (ctypes.Structure,), {"_fields_": members})
         loaded = ctypes.CDLL(str(path))
         self.called: set[str] = set()
-        self.functions = {name: self.function(loaded, name, kind, words) for _, kind, name, words in FUNCTION.findall(text)}
+        functions = re.findall(rf"^(?:struct )?(\w+) {prefix}_(\w+)\(([^;{{]*)\);", text, re.M)
+        self.functions = {name: self.function(loaded, name, kind, ARRAY.sub(r"*\1\2", words)) for kind, name, words in functions}
 
     def type_of(self, kind: str) -> Any:
-        return TYPES[kind] if kind in TYPES else self.structs[kind.removeprefix(PREFIX)]
+        name = self.handle if f"{kind}_" == self.prefix else kind.removeprefix(self.prefix)
+        return TYPES[kind] if kind in TYPES else self.structs[name]
 
-    @staticmethod
-    def sized(kind: Any, size: str) -> Any:
-        return kind * int(size) if size else kind
+    def member(self, kind: str, star: str, size: str) -> Any:
+        """The type of a member. A size is a number or a constant."""
+        if star:
+            return ctypes.c_void_p
+        many = self.constants[size.removeprefix(self.prefix.upper())] if size and not size.isdigit() else int(size or 0)
+        return self.type_of(kind) * many if size else self.type_of(kind)
 
     def function(self, loaded: ctypes.CDLL, name: str, kind: str, words: str) -> Any:
         """A function, which takes what the header says."""
-        made: Any = getattr(loaded, PREFIX + name)
+        made: Any = getattr(loaded, self.prefix + name)
         given = [self.type_of(kind) for _, kind, _, _ in PARAMETER.findall(words)]
         stars = [star for _, _, star, _ in PARAMETER.findall(words)]
         made.argtypes = [ctypes.POINTER(kind) if star else kind for kind, star in zip(given, stars)]
@@ -102,5 +108,21 @@ def values_of(value: Any) -> Any:
 
 
 def built() -> Library:
-    """The library as it was built and proved."""
-    return Library(linked(OUT / "rows/libpageshare_window.so"))
+    """The library for windows as it was built and proved."""
+    needs("what the library for windows decides", CC)
+    if not pathlib.Path(WINDOW_LIBRARY).exists():
+        raise LeftOut(f"what the library for windows decides, since there is no {WINDOW_LIBRARY} (tools/build.py --libraries)")
+    made = linked(OUT / "rows/libpageshare_window.so", WINDOW_LIBRARY)
+    return Library(made, TOP / "window/pageshare_window.h", "pageshare_window")
+
+
+@functools.lru_cache(maxsize=None)
+def built_host() -> Library:
+    """The library for hosts as it was built and proved."""
+    needs("what the library for hosts decides", CC, "ar", "make")
+    if not (OUT / "proved_host.a").exists():
+        raise LeftOut("what the library for hosts decides, since there is no out/proved_host.a (tools/build.py --libraries)")
+    if run(["make", "--no-print-directory", "-C", TOP, f"out/{HOST_LIBRARY}"]).returncode != 0:
+        raise SystemExit(f"out/{HOST_LIBRARY} can't be made")
+    made = linked(OUT / "rows/libpageshare_host.so", str(OUT / HOST_LIBRARY))
+    return Library(made, TOP / "lib/include/pageshare_host.h", "pageshare_host")

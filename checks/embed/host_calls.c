@@ -391,12 +391,10 @@ static void check_machines(void) {
 
 /* ---- what packets and replies say */
 
-/* Whether a packet is read so. Its name is the first of `names` if it has one. */
-static bool is_read(const void *bytes, size_t length, uint32_t kind, uint32_t count, uint32_t has_name) {
-    static const uint8_t before[PAGESHARE_HOST_NAME_BYTES] = {0xcc};
-    uint8_t name[PAGESHARE_HOST_NAME_BYTES] = {0xcc};
-    struct pageshare_host_packet packet = pageshare_host_read(bytes, length, name);
-    return packet.kind == kind && packet.count == count && packet.names == has_name && memcmp(name, has_name ? names[0] : before, sizeof name) == 0;
+/* Whether a packet is read so. */
+static bool is_read(const void *bytes, size_t length, uint32_t kind, uint32_t count) {
+    struct pageshare_host_packet packet = pageshare_host_read(bytes, length);
+    return packet.kind == kind && packet.count == count;
 }
 
 static void check_read(void) {
@@ -405,17 +403,17 @@ static void check_read(void) {
     struct pageshare_host_lend lending = {.kind = PAGESHARE_HOST_LEND, .count = 128};
     struct pageshare_host_release releasing = {.kind = PAGESHARE_HOST_RELEASE, .count = 1};
     memcpy(greeting.name, names[0], sizeof greeting.name);
-    CHECK(is_read(&greeting, 8, PAGESHARE_HOST_HELLO, 0, 0) && is_read(&greeting, sizeof greeting, PAGESHARE_HOST_HELLO, 0, 1));
-    CHECK(is_read(&ask, 8 + 2 * 16, PAGESHARE_HOST_ASK, 2, 0) && is_read(&ask, 8 + 16, 0, 0, 0));
-    CHECK(is_read(&lending, 8, PAGESHARE_HOST_LEND, 128, 0) && is_read(&releasing, 16, PAGESHARE_HOST_RELEASE, 1, 0));
+    CHECK(is_read(&greeting, 8, PAGESHARE_HOST_HELLO, 0) && is_read(&greeting, sizeof greeting, PAGESHARE_HOST_HELLO, 0));
+    CHECK(is_read(&ask, 8 + 2 * 16, PAGESHARE_HOST_ASK, 2) && is_read(&ask, 8 + 16, 0, 0));
+    CHECK(is_read(&lending, 8, PAGESHARE_HOST_LEND, 128) && is_read(&releasing, 16, PAGESHARE_HOST_RELEASE, 1));
     lending.count++;
     greeting.version++;
-    CHECK(is_read(&lending, 8, 0, 0, 0) && is_read(&greeting, sizeof greeting, 0, 0, 0) && is_read(&ask, 7, 0, 0, 0));
+    CHECK(is_read(&lending, 8, 0, 0) && is_read(&greeting, sizeof greeting, 0, 0) && is_read(&ask, 7, 0, 0));
 }
 
 /* Whether a packet of session 0, with two pages in the buffer, came to this where so many may be lent. */
 static bool is_served_of(struct pageshare_host *host, const void *bytes, size_t length, uint32_t most, struct pageshare_host_served due) {
-    const struct pageshare_host_allowance may = {.most = most};
+    const struct pageshare_host_allowance may = {.most = most, .beside = PAGESHARE_HOST_NO_FRAME};
     memset(reply, 0xaa, sizeof reply);
     memset(freed, 0xbb, sizeof freed);
     struct pageshare_host_served served =
@@ -471,10 +469,44 @@ static void check_served(void *region) {
     CHECK(is_served(&host, &releasing, 24, (struct pageshare_host_served){0, 0, 2, none, 0, 0, 0}));
     CHECK(freed[0] == frame && freed[1] == none && freed[2] == 0xbbbbbbbb && reply[0] == 0xaa);
     CHECK(is_served(&host, greeting, 8, (struct pageshare_host_served){.status = PAGESHARE_HOST_FAULT_AGAIN, .resumed = none}));
-    struct pageshare_host_served tight = pageshare_host_serve(&host, 0, (const uint8_t *)greeting, 8, (const uint8_t(*)[PAGE])pages, 2, &(const struct pageshare_host_allowance){2, 1}, reply, sizeof reply, freed, FREED - 1);
+    struct pageshare_host_served tight = pageshare_host_serve(&host, 0, (const uint8_t *)greeting, 8, (const uint8_t(*)[PAGE])pages, 2, &(const struct pageshare_host_allowance){2, PAGESHARE_HOST_NO_FRAME}, reply, sizeof reply, freed, FREED - 1);
     CHECK(tight.status == PAGESHARE_HOST_ERROR_SHORT && tight.kind == 0);
     tight = pageshare_host_take_back(&host, 0, &none, 1, reply, sizeof reply - 1, freed, FREED);
     CHECK(tight.status == PAGESHARE_HOST_ERROR_SHORT && tight.kind == 0);
+    CHECK(pageshare_host_free(&host) == PAGESHARE_HOST_OK);
+}
+
+/* ---- processes with two sessions, and sessions without slots */
+
+static struct pageshare_host_served serve_beside(struct pageshare_host *host, uint32_t session, const void *bytes, size_t length, uint32_t beside) {
+    const struct pageshare_host_allowance may = {.most = QUOTA, .beside = beside};
+    return pageshare_host_serve(host, session, bytes, length, (const uint8_t(*)[PAGE])pages, QUOTA, &may, reply, sizeof reply, freed, FREED);
+}
+
+/* Session 1 is of the process of session 0, and may have what that leaves of the quota. Session 2 takes up session 0, which is connected. */
+static void check_processes(void *region) {
+    struct pageshare_host host = PAGESHARE_HOST_NONE;
+    const uint32_t none = PAGESHARE_HOST_NO_FRAME;
+    struct pageshare_host_lend lending = {.kind = PAGESHARE_HOST_LEND, .count = QUOTA};
+    struct pageshare_host_hello greeting = {.kind = PAGESHARE_HOST_HELLO, .version = PAGESHARE_HOST_VERSION, .loans = 1};
+    uint32_t number = 77;
+    memcpy(greeting.name, names[0], sizeof greeting.name);
+    CHECK(pageshare_host_end_empty(&host, 0) == PAGESHARE_HOST_ERROR_NO_HOST);
+    CHECK(pageshare_host_make(&host, &shape, region, FRAMES * PAGE) == PAGESHARE_HOST_OK);
+    CHECK(pageshare_host_end_empty(&host, 0) == PAGESHARE_HOST_ERROR_NO_SESSION);
+    join(&host, 0);
+    join(&host, 1);
+    lend(&host, 0, QUOTA - 1);
+    CHECK(serve_beside(&host, 1, &lending, 8, 0).loans == QUOTA && freed[0] < FRAMES && freed[1] == none);
+    CHECK(pageshare_host_end_empty(&host, 1) == PAGESHARE_HOST_OK && has_session(&host, 1, PAGESHARE_HOST_STATE_TALKING, 1, 0, 2));
+    for (int is_beside = 0; is_beside < 2; is_beside++) {
+        CHECK(pageshare_host_connect(&host, names[2], &number) == PAGESHARE_HOST_OK && number == 2);
+        struct pageshare_host_served served = serve_beside(&host, 2, &greeting, sizeof greeting, is_beside ? 0 : none);
+        CHECK(served.kind == PAGESHARE_HOST_WELCOME && served.resumed == (is_beside ? 0 : none));
+        if (!is_beside) CHECK(pageshare_host_end_empty(&host, 2) == PAGESHARE_HOST_ERROR_NO_SESSION);
+    }
+    CHECK(has_session(&host, 2, PAGESHARE_HOST_STATE_TALKING, QUOTA - 1, 0, 3));
+    CHECK(pageshare_host_end_empty(&host, 0) == PAGESHARE_HOST_ERROR_NO_SESSION);
     CHECK(pageshare_host_free(&host) == PAGESHARE_HOST_OK);
 }
 
@@ -523,6 +555,7 @@ int main(void) {
     check_lost(region);
     check_read();
     check_served(region);
+    check_processes(region);
     check_machines();
     free(region);
     if (failures == 0) puts("ok");

@@ -57,6 +57,13 @@ static void forget(uint32_t session, size_t released) {
     ending[session] -= released;
 }
 
+/* How many slots a session has. */
+static size_t slots_of(uint32_t session) {
+    size_t sum = ending[session];
+    for (size_t i = 0; i < loan_count; i++) sum += loans[i].session == session;
+    return sum;
+}
+
 static size_t slots_ending(void) {
     size_t sum = 0;
     for (size_t i = 0; i < SESSIONS; i++) sum += ending[i];
@@ -143,8 +150,7 @@ static void receive(struct pageshare_host *host, uint32_t session, const uint8_t
     static uint8_t reply[PAGESHARE_HOST_MAX_MESSAGE];
     static uint32_t freed[PAGESHARE_HOST_MAX_PAGES];
     uint32_t head[2] = {0, 0};
-    uint8_t name[PAGESHARE_HOST_NAME_BYTES];
-    struct pageshare_host_packet says = pageshare_host_read(packet, length, name);
+    struct pageshare_host_packet says = pageshare_host_read(packet, length);
     struct pageshare_host_served got = pageshare_host_serve(host, session, packet, length, (const uint8_t(*)[PAGE])pages, buffer, &may,
                                                             reply, sizeof reply, freed, PAGESHARE_HOST_MAX_PAGES);
     if (got.status != PAGESHARE_HOST_OK) return;
@@ -154,7 +160,7 @@ static void receive(struct pageshare_host *host, uint32_t session, const uint8_t
     must(got.loans == (head[0] == PAGESHARE_HOST_LEND ? head[1] : 0), "loans of other pages than those that were lent");
     for (uint32_t i = 0; i < got.loans; i++)
         must(freed[i] == PAGESHARE_HOST_NO_FRAME || (freed[i] < MACHINES * FRAMES && i < may.most), "a loan's frame that isn't there, or more than may be");
-    must(may.takes_up || got.resumed == PAGESHARE_HOST_NO_FRAME, "a session that may not be taken up");
+    must(got.resumed == PAGESHARE_HOST_NO_FRAME || got.resumed == may.beside, "a session that may not be taken up");
     if (got.loans > 0 && takes_back) take_back(host, session, got.loans, reply, freed);
     if (head[0] == PAGESHARE_HOST_HELLO && got.resumed == PAGESHARE_HOST_NO_FRAME) replies[session] = 0;
     if (got.resumed != PAGESHARE_HOST_NO_FRAME) note_resumed(got.resumed, session, packet);
@@ -180,7 +186,11 @@ static void step(struct pageshare_host *host, const uint8_t **data, size_t *left
         }
         break;
     }
-    case 1: pageshare_host_disconnect(host, session); break;
+    case 1:
+        pageshare_host_disconnect(host, session);
+        if (what & 8 && pageshare_host_end_empty(host, session) == PAGESHARE_HOST_ERROR_NO_SESSION)
+            must(slots_of(session) == 0, "a session with slots that has ended");
+        break;
     case 2:
         if (pageshare_host_end(host, session, freed, 1 + what / 8 % 8, &count) != PAGESHARE_HOST_OK) break;
         forget(session, count);
@@ -189,9 +199,10 @@ static void step(struct pageshare_host *host, const uint8_t **data, size_t *left
     case 3: memset(pages[more % BUFFER], what / 8 % 16, PAGE); break;
     default: {
         if (*left < 2) return;
+        const uint32_t wanted = (*data)[1] % SESSIONS, beside = what & 32 ? wanted : PAGESHARE_HOST_NO_FRAME;
         size_t length = make_packet(packet, data, left);
         const uint32_t buffer = what & 8 ? BUFFER : more % (BUFFER + 1);
-        receive(host, session, packet, length, buffer, (struct pageshare_host_allowance){what & 16 ? UINT32_MAX : more / 2, what & 32}, what >= 192);
+        receive(host, session, packet, length, buffer, (struct pageshare_host_allowance){what & 16 ? UINT32_MAX : more / 2, beside}, what >= 192);
     }
     }
 }

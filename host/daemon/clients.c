@@ -60,33 +60,18 @@ static void forget(struct domain *domain, struct client *client) {
     *client = clients_free_entry(client->generation + 1);
 }
 
-/* How many slots a client's session has. */
-static uint32_t slots_of(struct domain *domain, const struct client *client) {
-    struct pageshare_host_session session;
-    return pageshare_host_session(&domain->host, client->session, &session) == PAGESHARE_HOST_OK ? session.slots : 0;
-}
-
 /*
- * A client's connection has ended, by whichever side. A session that has slots stays until its process has ended. One that has none
- * ends at once, by one call: its process shows no frame for it. (That call may look at each slot of the domain once, and counts as time
- * that connections take.)
+ * A client's connection has ended, by whichever side. A session that has slots stays until its process has ended, and one that has none
+ * ends at once. (That may look at each slot of the domain once, and counts as time that connections take.)
  */
 static void part(struct domain *domain, struct client *client) {
-    struct pageshare_host_session session;
-    uint32_t freed;
-    size_t count;
     uint64_t begin = now_ns();
     if (client->socket >= 0) closing_close(&domain->closing, client->socket);
     client->socket = NOTHING;
     client->state = CLIENT_APART;
-    client->waiting_pages = 0;
+    client->waiting_bytes = 0;
     pageshare_host_disconnect(&domain->host, client->session);
-    bool is_there = pageshare_host_session(&domain->host, client->session, &session) == PAGESHARE_HOST_OK;
-    if (is_there && session.slots == 0) {
-        pageshare_host_end(&domain->host, client->session, &freed, 1, &count);
-        is_there = false;
-    }
-    if (!is_there) forget(domain, client);
+    if (pageshare_host_end_empty(&domain->host, client->session) != PAGESHARE_HOST_OK) forget(domain, client);
     domain->connecting_ns += now_ns() - begin;
 }
 
@@ -162,6 +147,7 @@ static bool watch(struct domain *domain, struct client *client) {
 
 /* Fills an entry for a connection: with a session, and watched. Returns false if something is refused; the entry is free then. */
 static bool enter(struct domain *domain, struct client *client, int socket, const struct ucred *peer) {
+    uint8_t name[PAGESHARE_HOST_NAME_BYTES];
     *client = (struct client){.generation = client->generation,
                               .socket = socket,
                               .process = process_of(socket, peer->pid),
@@ -169,9 +155,9 @@ static bool enter(struct domain *domain, struct client *client, int socket, cons
                               .uid = peer->uid,
                               .buffer = NOTHING,
                               .since_ns = now_ns()};
-    bool good = (client->process >= 0 && getrandom(client->name, sizeof client->name, 0) == sizeof client->name) ||
+    bool good = (client->process >= 0 && getrandom(name, sizeof name, 0) == sizeof name) ||
                 seldom_trouble(&domain->no_connection, "a connection can't be taken");
-    good = good && pageshare_host_connect(&domain->host, client->name, &client->session) == PAGESHARE_HOST_OK;
+    good = good && pageshare_host_connect(&domain->host, name, &client->session) == PAGESHARE_HOST_OK;
     if (!good) {
         forget(domain, client);
         return false;
@@ -259,29 +245,17 @@ void clients_accept(struct domain *domain) {
 
 /* ---- messages ---- */
 
-/* Whether a client may take up the session with this name: its process began it. If its old connection still stands, it ends now. */
-static bool may_take_up(struct domain *domain, const struct client *client, const uint8_t *name) {
-    for (uint32_t i = 0; i < domain->client_most; i++) {
-        struct client *older = &domain->clients[i];
-        bool has_name = older != client && (older->state == CLIENT_CONNECTED || older->state == CLIENT_APART) &&
-                        memcmp(older->name, name, sizeof older->name) == 0;
-        if (!has_name || !is_same_process(older, client)) continue;
-        if (older->state == CLIENT_CONNECTED) part(domain, older);
-        return true;
-    }
-    return false;
+/* The session of the other connection of a client's process, if it has one. */
+static uint32_t beside(const struct client *client) {
+    const struct client *other = client->sibling;
+    bool is_one = other && other->state != CLIENT_ENDING && is_same_process(client, other);
+    return is_one ? other->session : PAGESHARE_HOST_NO_FRAME;
 }
 
-/* The session that this client took up has this client's number now, and its name is the older one's. */
-static void take_up(struct domain *domain, struct client *client, uint32_t session) {
-    for (uint32_t i = 0; i < domain->client_most; i++) {
-        struct client *older = &domain->clients[i];
-        if (older == client || older->state == CLIENT_NONE || older->session != session) continue;
-        memcpy(client->name, older->name, sizeof client->name);
-        client->lends += older->lends;
-        forget(domain, older);
-        return;
-    }
+/* A client took up the session of the other connection of its process. That ends now, if it still stands. */
+static void take_over(struct domain *domain, struct client *client) {
+    client->lends += client->sibling->lends;
+    forget(domain, client->sibling);
 }
 
 /* Sends a reply, and descriptors with it. Never waits. */
@@ -330,14 +304,6 @@ static void count_served(struct domain *domain, struct client *client, struct pa
     }
 }
 
-/* The first pages of a lend that a process may have lent. (One that has one session is kept to its quota by the library.) */
-static uint32_t within_quota(struct domain *domain, const struct client *client, uint32_t count) {
-    if (!client->sibling) return count;
-    uint64_t has = (uint64_t)slots_of(domain, client) + slots_of(domain, client->sibling);
-    uint64_t left = domain->quota > has ? domain->quota - has : 0;
-    return count < left ? count : (uint32_t)left;
-}
-
 /* A client of another version learns which one this host has by the beginning of WELCOME, which all versions have. */
 static void refuse_version(const struct client *client) {
     const uint32_t head[2] = {PAGESHARE_HOST_WELCOME, PAGESHARE_HOST_VERSION};
@@ -378,18 +344,18 @@ static struct pageshare_host_served take_back(struct domain *domain, const struc
     return got;
 }
 
-/* Serves one packet of a client within what it is allowed. Returns false if the connection is to end. */
-static bool serve_packet(struct domain *domain, struct client *client, const uint8_t *bytes, size_t length,
-                         struct pageshare_host_allowance may) {
+/* Serves one packet of a client, with so many pages of its buffer. Returns false if the connection is to end. */
+static bool serve_packet(struct domain *domain, struct client *client, const uint8_t *bytes, size_t length, uint32_t pages) {
     struct serving *with = domain->serving;
-    if (!read_pages(domain, client, may.most)) may.most = 0;
+    if (!read_pages(domain, client, pages)) pages = 0;
+    const struct pageshare_host_allowance may = {.most = pages, .beside = beside(client)};
     struct pageshare_host_served got =
-        pageshare_host_serve(&domain->host, client->session, bytes, length, (const uint8_t(*)[PAGE])with->pages, may.most, &may,
+        pageshare_host_serve(&domain->host, client->session, bytes, length, (const uint8_t(*)[PAGE])with->pages, pages, &may,
                              with->answer, sizeof with->answer, with->frames, PAGESHARE_HOST_MAX_PAGES);
     domain->messages++;
     if (got.loans > 0 && domain->frames.bus.used > 0) got = take_back(domain, client);
     if (is_fault(domain, client, got.status)) return false;
-    if (got.resumed != PAGESHARE_HOST_NO_FRAME) take_up(domain, client, got.resumed);
+    if (got.resumed != PAGESHARE_HOST_NO_FRAME) take_over(domain, client);
     count_served(domain, client, got, with->frames);
     if (got.kind == PAGESHARE_HOST_WELCOME) return reply_welcome(domain, client, with->answer, got.reply_bytes);
     return got.reply_bytes == 0 || reply(client, with->answer, got.reply_bytes, NULL, 0);
@@ -408,32 +374,27 @@ static void listen_to(struct domain *domain, struct client *client, bool to_it) 
  * the system refuses to give it back then, no page may be lent.
  */
 static bool take_packet(struct domain *domain, struct client *client, const uint8_t *bytes, size_t length) {
-    uint8_t name[PAGESHARE_HOST_NAME_BYTES];
-    struct pageshare_host_packet packet = pageshare_host_read(bytes, length, name);
-    struct pageshare_host_allowance may = {.takes_up = packet.names && may_take_up(domain, client, name)};
-    uint32_t count = client->buffer >= 0 && packet.kind == PAGESHARE_HOST_LEND ? packet.count : 0;
-    if (count == 0) return serve_packet(domain, client, bytes, length, may);
-    client->waiting_pages = 0;
+    struct pageshare_host_packet packet = pageshare_host_read(bytes, length);
+    client->waiting_bytes = 0;
+    if (client->buffer < 0 || packet.kind != PAGESHARE_HOST_LEND || length > sizeof client->waiting)
+        return serve_packet(domain, client, bytes, length, 0);
     enum frames_lend lend = domain->is_lend_waiting ? LEND_WAITS : frames_begin_lend(&domain->frames);
     if (lend == LEND_WAITS) {
         domain->is_lend_waiting = true; /* (and no other lend tries for the lock meanwhile: that takes time) */
-        client->waiting_pages = count;
+        memmove(client->waiting, bytes, length);
+        client->waiting_bytes = length;
         listen_to(domain, client, false);
         return true;
     }
-    if (lend == LEND_ANY) may.most = within_quota(domain, client, count);
-    bool good = serve_packet(domain, client, bytes, length, may);
+    bool good = serve_packet(domain, client, bytes, length, lend == LEND_ANY ? packet.count : 0);
     frames_end_lend(&domain->frames);
     return good;
 }
 
 /* Serves the lend of a client that waited. */
 static void lend_again(struct domain *domain, struct client *client) {
-    struct pageshare_host_lend lend = {.kind = PAGESHARE_HOST_LEND, .count = client->waiting_pages};
-    uint8_t packet[sizeof lend];
-    memcpy(packet, &lend, sizeof lend);
-    if (!take_packet(domain, client, packet, sizeof packet)) part(domain, client);
-    else if (client->waiting_pages == 0) listen_to(domain, client, true);
+    if (!take_packet(domain, client, client->waiting, client->waiting_bytes)) part(domain, client);
+    else if (client->waiting_bytes == 0) listen_to(domain, client, true);
 }
 
 void clients_lend_again(struct domain *domain) {
@@ -441,12 +402,12 @@ void clients_lend_again(struct domain *domain) {
     if (eventfd_read(domain->frames.free_again, &times) != 0 && errno != EAGAIN) trouble("eventfd");
     domain->is_lend_waiting = false;
     for (uint32_t i = 0; i < domain->client_most; i++)
-        if (domain->clients[i].waiting_pages > 0) lend_again(domain, &domain->clients[i]);
+        if (domain->clients[i].waiting_bytes > 0) lend_again(domain, &domain->clients[i]);
 }
 
 /* Nothing more is read of a client; only its connection's end is seen. */
 static bool is_silenced(struct domain *domain, struct client *client) {
-    if (client->budget > 0 && client->waiting_pages == 0) return false;
+    if (client->budget > 0 && client->waiting_bytes == 0) return false;
     if (!client->is_paused) listen_to(domain, client, false);
     return true;
 }
@@ -530,7 +491,7 @@ void clients_tick(struct domain *domain) {
         struct client *client = &domain->clients[i];
         if (client->state != CLIENT_CONNECTED) continue;
         client->budget = domain->settings.client_rate / TICKS_IN_SECOND + 1;
-        if (client->is_paused && client->waiting_pages == 0) listen_to(domain, client, true);
+        if (client->is_paused && client->waiting_bytes == 0) listen_to(domain, client, true);
         if (client->buffer < 0 && now - client->since_ns > silence_ns) part(domain, client);
     }
 }

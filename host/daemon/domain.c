@@ -103,7 +103,6 @@ static struct pageshare_host_shape shape_of(const struct domain_settings *settin
 static bool make_host(struct domain *domain) {
     struct pageshare_host_shape shape = shape_of(&domain->settings, domain->client_most);
     uint64_t drawn[2];
-    domain->quota = shape.quota;
     domain->slots = (uint64_t)shape.machines * shape.slots;
     if (getrandom(drawn, sizeof drawn, 0) != sizeof drawn) return trouble("random numbers");
     shape.salt = (uint32_t)drawn[0];

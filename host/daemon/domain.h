@@ -27,14 +27,14 @@ struct client {
     int process;         /* a descriptor of the process: readable when the process has ended */
     pid_t pid;
     uid_t uid;
-    uint32_t session; /* the library's number */
-    uint8_t name[PAGESHARE_HOST_NAME_BYTES];
+    uint32_t session;       /* the library's number */
     int buffer;             /* a file of pages that it lends, which it may write at any time; NOTHING before its first message */
     struct client *sibling; /* the other connection of its process, or NULL */
     bool is_paused;         /* nothing is read of it until the next tick, or until its lend is served */
-    uint32_t waiting_pages; /* a lend of so many pages waits while memory is given back; 0: none does */
-    uint32_t budget;        /* how many more messages of its process are taken until the next tick */
-    uint64_t since_ns;      /* when it connected */
+    uint8_t waiting[sizeof(struct pageshare_host_lend)]; /* a lend that waits while memory is given back */
+    size_t waiting_bytes;                                /* its bytes, or 0: none waits */
+    uint32_t budget;                                     /* how many more messages of its process are taken until the next tick */
+    uint64_t since_ns;                                   /* when it connected */
     uint64_t lends;
 };
 
@@ -60,7 +60,6 @@ struct domain {
     uint32_t client_most; /* entries: one more connection than clients may be taking a session up */
     uint32_t ending;      /* how many of them are ending */
     uint32_t next_ending; /* where the next is looked for */
-    uint32_t quota;       /* the most slots of one process */
     uint64_t slots;       /* the most of all */
     int listener, status_listener, poll, wake;
     int faults_device;      /* /dev/userfaultfd, or NOTHING; all domains have the one */

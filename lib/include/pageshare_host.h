@@ -69,8 +69,8 @@ enum pageshare_host_kind {
 };
 
 /*
- * 8 bytes for a new session. 32 bytes to take up the session with this name, whose connection has ended. If there is none, a new
- * session begins: WELCOME says which by its name. `loans` is how many LOANS the client has got in the session that it takes up. If
+ * 8 bytes for a new session. 32 bytes to take up the session with this name. If there is none, or it can't be taken up, a new session
+ * begins: WELCOME says which by its name. `loans` is how many LOANS the client has got in the session that it takes up. If
  * the host sent another number, it releases the slots of its last LOANS: the client can't know of them. So a client sends a LEND only
  * when it has got the reply to the one before.
  */
@@ -259,19 +259,15 @@ struct pageshare_host_received pageshare_host_receive(struct pageshare_host *hos
 struct pageshare_host_packet {
     uint32_t kind;  /* an enum pageshare_host_kind, or 0: it is no message of a client */
     uint32_t count; /* how many questions, pages or slots it lists */
-    uint32_t names; /* 1: it is a HELLO that names the session to take up; else 0 */
 };
 
-/*
- * Reads a packet of `length` bytes. If it names a session to take up, that goes to `name`, and else `name` stays as it is. A caller can so
- * prepare what the packet needs: pages of the buffer for a LEND, or a check that the client may take the session up.
- */
-struct pageshare_host_packet pageshare_host_read(const uint8_t *bytes, size_t length, uint8_t name[PAGESHARE_HOST_NAME_BYTES]);
+/* Reads a packet of `length` bytes, so that a caller can prepare what it needs: for a LEND, pages of the buffer. */
+struct pageshare_host_packet pageshare_host_read(const uint8_t *bytes, size_t length);
 
 /* What a packet may do, by what the caller knows of memory and processes. */
 struct pageshare_host_allowance {
-    uint32_t most;     /* how many pages of a LEND may be lent now: the first ones */
-    uint32_t takes_up; /* 0: a HELLO that names a session doesn't take it up, and a new one begins */
+    uint32_t most;   /* how many pages of a LEND may be lent now: the first ones */
+    uint32_t beside; /* the number of the other session of the same process, or PAGESHARE_HOST_NO_FRAME: it has no other */
 };
 
 struct pageshare_host_served {
@@ -286,7 +282,10 @@ struct pageshare_host_served {
 
 /*
  * Receives one packet as pageshare_host_receive does, but within what `may` allows, and returns what the reply says, too. A LEND needs
- * no more pages than may->most; of each page after those LOANS says that it isn't lent, and nothing else comes of it. Where `loans` is
+ * no more pages than may->most; of each page after those LOANS says that it isn't lent, and nothing else comes of it. A process with two
+ * sessions gets no more slots for both than the quota of one. HELLO takes up no session but `beside`, if that has the name; its connection
+ * may stand still, and the caller ends it then. (pageshare_host_receive knows of no processes: there HELLO takes up any session with the
+ * name whose connection has ended, and each session has a quota of its own.) Where `loans` is
  * above 0, frames[i] is the frame that page i has now, or PAGESHARE_HOST_NO_FRAME if it isn't lent. Otherwise `frames` is what `freed`
  * is there: at most one of the two numbers isn't 0.
  */
@@ -310,6 +309,12 @@ struct pageshare_host_served pageshare_host_take_back(struct pageshare_host *hos
  * pageshare_host_end, or until another connection takes it up by its name. Returns PAGESHARE_HOST_OK, _NO_HOST or _NO_SESSION.
  */
 uint32_t pageshare_host_disconnect(struct pageshare_host *host, uint32_t session);
+
+/*
+ * A session's connection has ended: ends the session if it has no slots. Returns PAGESHARE_HOST_OK if it has some, and then nothing has
+ * changed; _NO_SESSION if no session has the number now; or _NO_HOST.
+ */
+uint32_t pageshare_host_end_empty(struct pageshare_host *host, uint32_t session);
 
 /*
  * A session's process has ended: releases at most `room` of its slots. *count is how many, and for the i-th of them freed[i] is the

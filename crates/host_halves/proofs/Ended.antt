@@ -15,18 +15,19 @@ use Rattle.share_domain.specs.declared.holding.Slot.{Slot}
 use Rattle.share_domain.specs.Domains.{DomainView, machine_at, held_in, with_released, freed_in}
 use Rattle.share_domain.specs.Leaving.{Leaves, StaysOut, at_first, first_slot, slot_from, or_later, is_here, left_by}
 use Rattle.share_domain.specs.Numbers.{frame_number, slot_by}
-use Rattle.share_domain.specs.Totals.{is_present}
+use Rattle.share_domain.specs.Totals.{is_present, slots_of}
 use Rattle.host_sessions.specs.declared.session.Begun.{Begun}
 use Rattle.host_sessions.specs.declared.session.Session.{Session}
 use Rattle.host_sessions.specs.declared.session.Session.TheVariants as session
-use Rattle.host_sessions.specs.Ends.{EndsBegun, ended, count_of}
+use Rattle.host_sessions.specs.Ends.{EndsBegun, EndsEmpty, ended, count_of}
 use Rattle.host_sessions.specs.Own.{HasOwn}
 use Rattle.host_sessions.specs.Steps.{HostView}
 use Rattle.host_sessions.specs.Table.{session_at}
+use Rattle.host_sessions.proofs.Emptied.{none_from}
 use Rattle.host_sessions.proofs.Gained.{released_held}
 use Rattle.host_sessions.proofs.Spared.{machine_other, at_freed, first_is_of}
 use Rattle.session_laws.specs.World.{HostSide}
-use Rattle.host_halves.specs.Halves.{frame_if, frame_for, HasHalf, EndedHalf, EndsHalf}
+use Rattle.host_halves.specs.Halves.{frame_if, frame_for, HasHalf, EmptyHalf, EndedHalf, EndsHalf}
 use Rattle.host_halves.proofs.Held.{not_its}
 
 -- ---- no slot is left
@@ -133,3 +134,15 @@ ends_half n count room after old new b h own lt e has = begun e.answer e.leaves 
         ap (λ (ss : List Session). session_at ss n) now
         ∙ get_or-set_same old.sessions n (ended b c) session.Free lt
         ∙ ap (λ (k : ℕ). ended b k) (sym counted ∙ z)
+
+pub empty_half : EmptyHalf
+empty_half n result old new b h e has = pick (slots_of b.client old.domain.machines) refl where
+  none : slots_of b.client old.domain.machines ≡ 0 → (number : ℕ) → h.held number ≡ None
+  none z number =
+      let slot : Slot = slot_by number in
+      has.half.held number ∙ not_its b.client old.domain.frames slot.machine (held_in old.domain.machines slot)
+      (none_there b.client 0 old.domain.machines (none_from b.client 0 old.domain.machines z) slot.machine slot.ppn)
+
+  pick : (count : ℕ) → slots_of b.client old.domain.machines ≡ count → ((result ≡ true) × ((number : ℕ) → h.held number ≡ None)) ⊎ ((result ≡ false) × (new ≡ old))
+  pick zero z = inl ((e.empty z).0, none z)
+  pick (suc m) z = inr (e.held (omega (arith, z)))

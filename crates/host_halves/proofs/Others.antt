@@ -1,5 +1,5 @@
 -- What packets and ends of other sessions leave of a session.
-use Rattle.std.proofs.Common.{◌≡◌, ◌≢◌, ◌∙◌, ◌⊎◌, inl, inr, ℕ, ◌<◌, ◌≤◌, Bool, true, false, List, [], length, take, Option, Some, None, Result, Ok, Err, refl, ap, sym, subst}
+use Rattle.std.proofs.Common.{◌≡◌, ◌≢◌, ◌∙◌, ◌⊎◌, inl, inr, ℕ, zero, suc, ◌<◌, ◌≤◌, Bool, true, false, List, [], length, take, Option, Some, None, Result, Ok, Err, refl, ap, sym, subst, arith}
 use Rattle.std.specs.Prelude.{nat_eq, slice_set}
 use Rattle.std.proofs.lemmas.Bool.{cases_Bool, cases_lt, eqb-true, eqb-false, eq-eqb, false≢true}
 use Rattle.std.proofs.lemmas.List.{get_or-set_other}
@@ -15,24 +15,25 @@ use Rattle.share_domain.specs.declared.holding.Slot.{Slot}
 use Rattle.share_domain.specs.Domains.{DomainView, held_in, next_client}
 use Rattle.share_domain.specs.Numbers.{slot_by}
 use Rattle.host_sessions.specs.declared.allowance.Allowance.{Allowance}
+use Rattle.host_sessions.specs.declared.allowance.Process.{Process}
 use Rattle.host_sessions.specs.declared.answer.Received.{Received}
 use Rattle.host_sessions.specs.declared.session.SessionFault.{SessionFault}
 use Rattle.host_sessions.specs.declared.session.SessionFault.TheVariants as fault
 use Rattle.host_sessions.specs.declared.session.Begun.{Begun}
 use Rattle.host_sessions.specs.declared.session.Session.{Session}
 use Rattle.host_sessions.specs.declared.session.Session.TheVariants as session
-use Rattle.host_sessions.specs.Ends.{Ends, EndsBegun, ended, count_of}
+use Rattle.host_sessions.specs.Ends.{Ends, EndsBegun, EndsEmpty, ended, count_of}
 use Rattle.host_sessions.specs.Others.{IsNotOf, SparesOthers}
 use Rattle.host_sessions.specs.Own.{AreOwn, HasOwn}
 use Rattle.host_sessions.specs.Table as table
-use Rattle.host_sessions.specs.Table.{session_at, wanted_in, wanted_if, loans_of, begun_of, faulted, Loans, no_loans, last_at, lost_of}
+use Rattle.host_sessions.specs.Table.{session_at, wanted_in, loans_of, begun_of, faulted, Loans, no_loans, last_at, lost_of, session_slots}
 use Rattle.host_sessions.specs.Turns.{offered, kept_of}
-use Rattle.host_sessions.specs.Steps.{HostView, Breaks, Greets, Begins, Resumes, TakesUp, Opens, Talks, Steps, LendsFirst, Hears, Receives, TakesBackAt}
+use Rattle.host_sessions.specs.Steps.{HostView, Breaks, Greets, Begins, Resumes, TakesUp, Opens, Talks, Steps, LendsFirst, Hears, Receives, TakesBackAt, most_in}
 use Rattle.host_sessions.proofs.Apart.{receives_spare, take_back_spares}
 use Rattle.host_sessions.proofs.Stay.{ends_spare}
 use Rattle.host_sessions.proofs.Own.{receive_keeps, take_back_keeps}
 use Rattle.session_laws.specs.World.{HostSide}
-use Rattle.host_halves.specs.Halves.{frame_if, frame_for, IsHalf, HasHalf, takes_up, OthersKeepHalf, BacksKeepHalf, EndsKeepHalf}
+use Rattle.host_halves.specs.Halves.{frame_if, frame_for, IsHalf, HasHalf, takes_up, OthersKeepHalf, BacksKeepHalf, EndsKeepHalf, EmptiesKeepHalf}
 use Rattle.host_halves.proofs.Held.{not_its}
 
 -- ---- the session itself
@@ -88,8 +89,8 @@ greets : (n k : ℕ) (name : List ℕ) (o : Option ℕ) (loans : ℕ) (received 
 greets n k name None loans received old new ne not_it g = begins n k name (next_client old.domain) received old new ne g
 greets n k name (Some before) loans received old new ne not_it g = takes n k before (begun_of (session_at old.sessions before)) loans received old new ne not_it g
 
-opens : (n k : ℕ) (may : Bool) (name : List ℕ) (m : ClientMessage) (received : Received) (old new : HostView) → k ≢ n → takes_up k received ≡ false → Opens n may name m received old new → Elsewhere k old new
-opens n k may name (client.Hello wanted) received old new ne not_it o = greets n k name (wanted_in old.sessions (wanted_if may wanted)) (loans_of wanted) received old new ne not_it o
+opens : (n k : ℕ) (may : Process) (name : List ℕ) (m : ClientMessage) (received : Received) (old new : HostView) → k ≢ n → takes_up k received ≡ false → Opens n may name m received old new → Elsewhere k old new
+opens n k may name (client.Hello wanted) received old new ne not_it o = greets n k name (wanted_in old.sessions may wanted) (loans_of wanted) received old new ne not_it o
 opens n k may name (client.Ask questions) received old new ne not_it o = breaks n k (session.Silent name) fault.Early received old new ne o
 opens n k may name (client.Lend count) received old new ne not_it o = breaks n k (session.Silent name) fault.Early received old new ne o
 opens n k may name (client.Release slots) received old new ne not_it o = breaks n k (session.Silent name) fault.Early received old new ne o
@@ -113,8 +114,8 @@ talks n k most pages b (client.Release slots) received old new ne t = puts n k _
 steps : (n k : ℕ) (may : Allowance) (pages : List (List ℕ)) (s : Session) (m : ClientMessage) (received : Received) (old new : HostView) → k ≢ n → takes_up k received ≡ false → Steps n may pages s m received old new → Elsewhere k old new
 steps n k may pages session.Free m received old new ne not_it p = same_host k old new p.1
 steps n k may pages (session.Refused first) m received old new ne not_it p = same_host k old new p.1
-steps n k may pages (session.Silent name) m received old new ne not_it p = opens n k may.takes_up name m received old new ne not_it p
-steps n k may pages (session.Begun b) m received old new ne not_it p = talks n k may.most pages b m received old new ne p
+steps n k may pages (session.Silent name) m received old new ne not_it p = opens n k may.process name m received old new ne not_it p
+steps n k may pages (session.Begun b) m received old new ne not_it p = talks n k (most_in old b may.most may.process) pages b m received old new ne p
 
 hears : (n k : ℕ) (may : Allowance) (pages : List (List ℕ)) (s : Session) (r : Result ClientMessage MessageFault) (received : Received) (old new : HostView) → k ≢ n → takes_up k received ≡ false → Hears n may pages s r received old new → Elsewhere k old new
 hears n k may pages s (Ok m) received old new ne not_it p = steps n k may pages s m received old new ne not_it p
@@ -219,3 +220,9 @@ ends_keep n k result room after old new b h own ne e has =
     keeps k b (session_at old.sessions n) old new h (ends_elsewhere n k (session_at old.sessions n) result room after old new ne e)
     (λ c there same. ne (own.apart k n b c has.begun there (sym same)))
     (ends_spare n (session_at old.sessions n) result room after old new e) has
+
+pub empties_keep : EmptiesKeepHalf
+empties_keep n k result old new b h own ne e has = pick (session_slots old.domain.machines (session_at old.sessions n)) refl where
+  pick : (count : ℕ) → session_slots old.domain.machines (session_at old.sessions n) ≡ count → HasHalf k b new h
+  pick zero z = let now = (e.empty z).1 in ends_keep n k now.count now.room now.after old new b h own ne now.ends has
+  pick (suc m) z = subst (λ (v : HostView). HasHalf k b v h) (sym (e.held (omega (arith, z))).1) has

@@ -1,12 +1,13 @@
 -- A session of a host as the host's half of a session.
-use Rattle.std.specs.Prelude.{◌≡◌, ℕ, Bool, ◌⊎◌, ◌<◌, ◌≤◌, ◌==◌, nat_eq, false, if◌then◌else◌, List, [], length, Option, Some, None}
+use Rattle.std.specs.Prelude.{◌≡◌, ℕ, Bool, ◌⊎◌, ◌<◌, ◌≤◌, ◌==◌, nat_eq, true, false, if◌then◌else◌, List, [], length, Option, Some, None}
 use Rattle.lent_slots.specs.declared.holding.Holding.{Holding}
 use Rattle.share_domain.specs.declared.number.TheConstants.{SLOTS_APART, NO_FRAME}
 use Rattle.share_domain.specs.Domains.{DomainView, machine_at, held_in, region_frame, entered}
 use Rattle.share_domain.specs.Numbers.{slot_by}
 use Rattle.host_sessions.specs.declared.session.Begun.{Begun}
+use Rattle.host_sessions.specs.declared.session.Link.{Link}
 use Rattle.host_messages.specs.declared.item.Lent.{Lent}
-use Rattle.host_sessions.specs.Table.{heard, heard_with, lost_of, new_session}
+use Rattle.host_sessions.specs.Table.{heard, heard_with, linked, lost_of, new_session}
 use Rattle.host_sessions.specs.Table as table
 use Rattle.host_sessions.specs.Table.{session_at, last_at}
 use Rattle.host_sessions.specs.declared.allowance.Allowance.{Allowance}
@@ -14,7 +15,7 @@ use Rattle.host_sessions.specs.declared.answer.Received.{Received}
 use Rattle.host_sessions.specs.declared.answer.Received.TheVariants as got
 use Rattle.host_sessions.specs.declared.session.Session.{Session}
 use Rattle.host_sessions.specs.declared.session.Session.TheVariants as session
-use Rattle.host_sessions.specs.Ends.{Ends}
+use Rattle.host_sessions.specs.Ends.{Ends, EndsEmpty}
 use Rattle.host_sessions.specs.Own.{HasOwn}
 use Rattle.host_sessions.specs.Steps.{HostView, Receives, TakesBackAt}
 use Rattle.host_sessions.specs.Turns.{after_releases, slots_in, LendsSome, kept_of, back_of}
@@ -71,6 +72,13 @@ BeginsHalf =
     (name : List ℕ) (client : ℕ) (d : DomainView) → ((number : ℕ) → frame_for client d number ≡ None) →
     IsHalf (new_session name client) [] (entered d (Some client)) (fresh name)
 
+-- Questions, a packet at fault and the end of a connection leave a half as it is.
+abbrev pub AsksHalf : Type 0
+AsksHalf = (b : Begun) (last : List Lent) (d : DomainView) (h : HostSide) → IsHalf b last d h → IsHalf (heard b) last d h
+
+abbrev pub LinksHalf : Type 0
+LinksHalf = (b : Begun) (link : Link) (last : List Lent) (d : DomainView) (h : HostSide) → IsHalf b last d h → IsHalf (linked b link) last d h
+
 -- ---- what other sessions do
 
 -- session number k of a host is this half
@@ -107,6 +115,18 @@ abbrev pub EndsKeepHalf : Type 0
 EndsKeepHalf =
     (n k : ℕ) (result : Option ℕ) (room after : List ℕ) (old new : HostView) (b : Begun) (h : HostSide) →
     HasOwn old → (k ≡ n → ⊥) → Ends n (session_at old.sessions n) result room after old new → HasHalf k b old h → HasHalf k b new h
+
+-- So does that of another session that is ended since it has no slots.
+abbrev pub EmptiesKeepHalf : Type 0
+EmptiesKeepHalf =
+    (n k : ℕ) (result : Bool) (old new : HostView) (b : Begun) (h : HostSide) →
+    HasOwn old → (k ≡ n → ⊥) → EndsEmpty n (session_at old.sessions n) result old new → HasHalf k b old h → HasHalf k b new h
+
+-- A session is ended before its process only if its half has no slots, and otherwise nothing changes.
+abbrev pub EmptyHalf : Type 0
+EmptyHalf =
+    (n : ℕ) (result : Bool) (old new : HostView) (b : Begun) (h : HostSide) → EndsEmpty n (session.Begun b) result old new → HasHalf n b old h →
+    ((result ≡ true) × ((number : ℕ) → h.held number ≡ None)) ⊎ ((result ≡ false) × (new ≡ old))
 
 -- Its own end frees slots, and changes no other one. When none is released any more, the half has none, and the session is gone.
 pub record EndedHalf (n : ℕ) (b : Begun) (count : ℕ) (new : HostView) (h : HostSide) : Type 0 where

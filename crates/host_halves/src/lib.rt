@@ -3,7 +3,7 @@
 //! The laws hold for every domain and session. The functions' bodies are empty: the contract is all there is.
 #![tactic(auto)]
 
-ghost use Rattle.host_halves.specs.Halves.{BacksKeepHalf, BeginsHalf, EndsHalf, EndsKeepHalf, LendsHalf, OthersKeepHalf, ReleasesHalf, ResumesHalf, TakesBackHalf};
+ghost use Rattle.host_halves.specs.Halves.{AsksHalf, BacksKeepHalf, BeginsHalf, EmptiesKeepHalf, EmptyHalf, EndsHalf, EndsKeepHalf, LendsHalf, LinksHalf, OthersKeepHalf, ReleasesHalf, ResumesHalf, TakesBackHalf};
 
 /// What a session's `Release` does to the domain is what it does to the half.
 pub fn release_law()
@@ -31,15 +31,24 @@ pub fn begin_law()
     ensures { BeginsHalf }
 {}
 
+/// A session's questions, a packet at fault and the end of its connection leave its half as it is.
+pub fn quiet_law()
+    ensures asks { AsksHalf }
+    ensures links { LinksHalf }
+{}
+
 /// Packets and ends of other sessions, and what is taken back of them, leave a session's half as it is, unless a packet takes the session
 /// up. The premise is that each session's client is its own, as `clients_law` of `host_sessions` has it.
 pub fn others_law()
     ensures packets { OthersKeepHalf }
     ensures backs { BacksKeepHalf }
     ensures ends { EndsKeepHalf }
+    ensures empties { EmptiesKeepHalf }
 {}
 
-/// A session's end frees slots of its half, and changes no other one. Where it frees none any more, the half has none.
+/// A session's end frees slots of its half, and changes no other one. Where it frees none any more, the half has none. Before its
+/// process has ended, a session is ended only if its half has none.
 pub fn end_law()
-    ensures { EndsHalf }
+    ensures ends { EndsHalf }
+    ensures empty { EmptyHalf }
 {}

@@ -17,16 +17,17 @@ use Rattle.share_domain.specs.Numbers.{slot_by}
 use Rattle.share_domain.specs.Totals.{slots_of}
 use Rattle.lent_slots.specs.Slots.{MachineView}
 use Rattle.host_sessions.specs.declared.allowance.Allowance.{Allowance}
+use Rattle.host_sessions.specs.declared.allowance.Process.{Process}
 use Rattle.host_sessions.specs.declared.answer.Received.{Received}
 use Rattle.host_sessions.specs.declared.session.SessionFault.{SessionFault}
 use Rattle.host_sessions.specs.declared.session.SessionFault.TheVariants as fault
 use Rattle.host_sessions.specs.declared.session.Begun.{Begun}
 use Rattle.host_sessions.specs.declared.session.Session.{Session}
 use Rattle.host_sessions.specs.declared.session.Session.TheVariants as session
-use Rattle.host_sessions.specs.Table.{takes, session_at, wanted_in, wanted_if, loans_of, begun_of, heard, heard_with, lent, lost_of, last_at}
+use Rattle.host_sessions.specs.Table.{takes, session_at, wanted_in, loans_of, begun_of, heard, heard_with, lent, lost_of, last_at}
 use Rattle.host_messages.specs.declared.item.Lent.{Lent}
 use Rattle.host_sessions.specs.Turns.{after_releases, Answers, LendsOne, LendsInTurn, slots_in, offered, back_of}
-use Rattle.host_sessions.specs.Steps.{HostView, Breaks, Greets, Begins, Resumes, TakesUp, Opens, Talks, Steps, LendsFirst, Releases, Hears, Receives, TakesBackAt}
+use Rattle.host_sessions.specs.Steps.{HostView, Breaks, Greets, Begins, Resumes, TakesUp, Opens, Talks, Steps, LendsFirst, Releases, Hears, Receives, TakesBackAt, most_in}
 use Rattle.host_sessions.specs.Others.{Spares, Stays, SparesOthers}
 use Rattle.host_sessions.proofs.Spared.{releases_spare, lends_spare}
 use Rattle.host_sessions.proofs.Gained.{releases_gain, lends_gain}
@@ -120,9 +121,9 @@ greets : (n : ℕ) (name : List ℕ) (o : Option ℕ) (loans : ℕ) (received : 
 greets n name None loans received old new lt g = begins (session_at new.sessions n) n name (next_client old.domain) received old new g
 greets n name (Some before) loans received old new lt g = takes_up n before (begun_of (session_at old.sessions before)) loans received old new lt g
 
-opens : (n : ℕ) (may : Bool) (name : List ℕ) (m : ClientMessage) (received : Received) (old new : HostView) → n < length old.sessions
+opens : (n : ℕ) (may : Process) (name : List ℕ) (m : ClientMessage) (received : Received) (old new : HostView) → n < length old.sessions
     → Opens n may name m received old new → SparesOthers (session_at new.sessions n) old.domain new.domain
-opens n may name (client.Hello wanted) received old new lt o = greets n name (wanted_in old.sessions (wanted_if may wanted)) (loans_of wanted) received old new lt o
+opens n may name (client.Hello wanted) received old new lt o = greets n name (wanted_in old.sessions may wanted) (loans_of wanted) received old new lt o
 opens n may name (client.Ask questions) received old new lt o = breaks (session_at new.sessions n) n (session.Silent name) fault.Early received old new o
 opens n may name (client.Lend count) received old new lt o = breaks (session_at new.sessions n) n (session.Silent name) fault.Early received old new o
 opens n may name (client.Release slots) received old new lt o = breaks (session_at new.sessions n) n (session.Silent name) fault.Early received old new o
@@ -163,8 +164,8 @@ steps : (n : ℕ) (may : Allowance) (pages : List (List ℕ)) (s : Session) (m :
     → Steps n may pages s m received old new → SparesOthers (session_at new.sessions n) old.domain new.domain
 steps n may pages session.Free m received old new lt p = same_domain (session_at new.sessions n) old.domain new.domain (ap (λ (h : HostView). h.domain) p.1)
 steps n may pages (session.Refused first) m received old new lt p = same_domain (session_at new.sessions n) old.domain new.domain (ap (λ (h : HostView). h.domain) p.1)
-steps n may pages (session.Silent name) m received old new lt p = opens n may.takes_up name m received old new lt p
-steps n may pages (session.Begun b) m received old new lt p = talks n may.most pages b m received old new lt p
+steps n may pages (session.Silent name) m received old new lt p = opens n may.process name m received old new lt p
+steps n may pages (session.Begun b) m received old new lt p = talks n (most_in old b may.most may.process) pages b m received old new lt p
 
 hears : (n : ℕ) (may : Allowance) (pages : List (List ℕ)) (s : Session) (r : Result ClientMessage MessageFault) (received : Received) (old new : HostView) → n < length old.sessions
     → Hears n may pages s r received old new → SparesOthers (session_at new.sessions n) old.domain new.domain

@@ -4,3 +4,4 @@ pub mod Gained
 pub mod Apart
 pub mod Stay
 pub mod Own
+pub mod Emptied

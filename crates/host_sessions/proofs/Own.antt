@@ -21,6 +21,7 @@ use Rattle.share_domain.specs.Numbers.{slot_by}
 use Rattle.share_domain.specs.Totals.{slots_of, is_present}
 use Rattle.lent_slots.specs.Slots.{is_of}
 use Rattle.host_sessions.specs.declared.allowance.Allowance.{Allowance}
+use Rattle.host_sessions.specs.declared.allowance.Process.{Process}
 use Rattle.host_sessions.specs.declared.answer.Received.{Received}
 use Rattle.host_sessions.specs.declared.config.HostConfig.{HostConfig}
 use Rattle.host_sessions.specs.declared.session.SessionFault.{SessionFault}
@@ -29,12 +30,12 @@ use Rattle.host_sessions.specs.declared.session.Begun.{Begun}
 use Rattle.host_sessions.specs.declared.session.Link.TheVariants as link
 use Rattle.host_sessions.specs.declared.session.Session.{Session}
 use Rattle.host_sessions.specs.declared.session.Session.TheVariants as session
-use Rattle.host_sessions.specs.Ends.{Ends, EndsBegun, ended, count_of}
+use Rattle.host_sessions.specs.Ends.{EndsEmpty, Ends, EndsBegun, ended, count_of}
 use Rattle.host_sessions.specs.Made.{empty_host}
 use Rattle.host_sessions.specs.Own.{AreOwn, HasOwn}
-use Rattle.host_sessions.specs.Table.{takes, session_at, wanted_in, wanted_if, loans_of, begun_of, lost_of, last_at, heard, heard_with, lent, new_session, faulted, gone, connected, next_number}
+use Rattle.host_sessions.specs.Table.{takes, session_at, wanted_in, loans_of, begun_of, lost_of, last_at, session_slots, heard, heard_with, lent, new_session, faulted, gone, connected, next_number}
 use Rattle.host_sessions.specs.Turns.{Answers, LendsOne, LendsInTurn, after_releases, slots_in, offered, back_of}
-use Rattle.host_sessions.specs.Steps.{HostView, Breaks, Greets, Begins, Resumes, TakesUp, Opens, Talks, Steps, LendsFirst, Hears, Receives, TakesBackAt}
+use Rattle.host_sessions.specs.Steps.{HostView, Breaks, Greets, Begins, Resumes, TakesUp, Opens, Talks, Steps, LendsFirst, Hears, Receives, TakesBackAt, most_in}
 
 -- ---- one session is put in the place of another
 
@@ -228,9 +229,9 @@ greets : (n : ℕ) (name : List ℕ) (o : Option ℕ) (loans : ℕ) (received : 
 greets n name None loans received old new was own g = begins n name (next_client old.domain) received old new was refl own g
 greets n name (Some before) loans received old new was own g = takes_up n before (begun_of (session_at old.sessions before)) loans received old new refl own g
 
-opens : (n : ℕ) (may : Bool) (name : List ℕ) (m : ClientMessage) (received : Received) (old new : HostView) → session_at old.sessions n ≡ session.Silent name → HasOwn old
+opens : (n : ℕ) (may : Process) (name : List ℕ) (m : ClientMessage) (received : Received) (old new : HostView) → session_at old.sessions n ≡ session.Silent name → HasOwn old
     → Opens n may name m received old new → HasOwn new
-opens n may name (client.Hello wanted) received old new was own o = greets n name (wanted_in old.sessions (wanted_if may wanted)) (loans_of wanted) received old new was own o
+opens n may name (client.Hello wanted) received old new was own o = greets n name (wanted_in old.sessions may wanted) (loans_of wanted) received old new was own o
 opens n may name (client.Ask questions) received old new was own o = breaks n (session.Silent name) fault.Early received old new was own o
 opens n may name (client.Lend count) received old new was own o = breaks n (session.Silent name) fault.Early received old new was own o
 opens n may name (client.Release slots) received old new was own o = breaks n (session.Silent name) fault.Early received old new was own o
@@ -266,8 +267,8 @@ steps : (n : ℕ) (may : Allowance) (pages : List (List ℕ)) (s : Session) (m :
     → Steps n may pages s m received old new → HasOwn new
 steps n may pages session.Free m received old new was own p = stays old new p.1 own
 steps n may pages (session.Refused first) m received old new was own p = stays old new p.1 own
-steps n may pages (session.Silent name) m received old new was own p = opens n may.takes_up name m received old new was own p
-steps n may pages (session.Begun b) m received old new was own p = talks n may.most pages b m received old new was own p
+steps n may pages (session.Silent name) m received old new was own p = opens n may.process name m received old new was own p
+steps n may pages (session.Begun b) m received old new was own p = talks n (most_in old b may.most may.process) pages b m received old new was own p
 
 hears : (n : ℕ) (may : Allowance) (pages : List (List ℕ)) (s : Session) (r : Result ClientMessage MessageFault) (received : Received) (old new : HostView) → session_at old.sessions n ≡ s → HasOwn old
     → Hears n may pages s r received old new → HasOwn new
@@ -367,3 +368,9 @@ ends_by n (session.Begun b) (Some count) room after old new was own e = ends_beg
 
 pub end_keeps : (n : ℕ) (result : Option ℕ) (room after : List ℕ) (old new : HostView) → HasOwn old → Ends n (session_at old.sessions n) result room after old new → HasOwn new
 end_keeps n result room after old new own e = ends_by n (session_at old.sessions n) result room after old new refl own e
+
+pub end_empty_keeps : (n : ℕ) (result : Bool) (old new : HostView) → HasOwn old → EndsEmpty n (session_at old.sessions n) result old new → HasOwn new
+end_empty_keeps n result old new own e = pick (session_slots old.domain.machines (session_at old.sessions n)) refl where
+  pick : (count : ℕ) → session_slots old.domain.machines (session_at old.sessions n) ≡ count → HasOwn new
+  pick zero z = let now = (e.empty z).1 in end_keeps n now.count now.room now.after old new own now.ends
+  pick (suc k) z = stays old new (e.held (omega (arith, z))).1 own

@@ -24,6 +24,7 @@ use Rattle.share_domain.specs.Numbers.{slot_by}
 use Rattle.share_domain.specs.Totals.{slots_of}
 use Rattle.share_domain.proofs.Bytes.{bytes_by_release, bytes_by_leave}
 use Rattle.host_sessions.specs.declared.allowance.Allowance.{Allowance}
+use Rattle.host_sessions.specs.declared.allowance.Process.{Process}
 use Rattle.host_sessions.specs.declared.answer.Received.{Received}
 use Rattle.host_sessions.specs.declared.session.SessionFault.{SessionFault}
 use Rattle.host_sessions.specs.declared.session.SessionFault.TheVariants as fault
@@ -32,9 +33,9 @@ use Rattle.host_sessions.specs.declared.session.Session.{Session}
 use Rattle.host_sessions.specs.declared.session.Session.TheVariants as session
 use Rattle.host_sessions.specs.Ends.{Ends, EndsBegun}
 use Rattle.host_sessions.specs.Others.{SparesOthers}
-use Rattle.host_sessions.specs.Table.{takes, session_at, wanted_in, wanted_if, loans_of, begun_of, lost_of, last_at}
+use Rattle.host_sessions.specs.Table.{takes, session_at, wanted_in, loans_of, begun_of, lost_of, last_at}
 use Rattle.host_sessions.specs.Turns.{Answers, LendsOne, after_releases, slots_in, offered, back_of}
-use Rattle.host_sessions.specs.Steps.{HostView, Breaks, Greets, Begins, Resumes, TakesUp, Opens, Talks, Steps, LendsFirst, Hears, Receives, TakesBackAt}
+use Rattle.host_sessions.specs.Steps.{HostView, Breaks, Greets, Begins, Resumes, TakesUp, Opens, Talks, Steps, LendsFirst, Hears, Receives, TakesBackAt, most_in}
 use Rattle.host_sessions.proofs.Apart.{same_domain, spares_begun}
 use Rattle.host_sessions.proofs.Gained.{leave_gains}
 use Rattle.host_sessions.proofs.Spared.{machine_other, free_held, leave_spares}
@@ -155,8 +156,8 @@ greets : (n : ℕ) (name : List ℕ) (o : Option ℕ) (loans : ℕ) (received : 
 greets n name None loans received old new g = begins n name (next_client old.domain) received old new g
 greets n name (Some before) loans received old new g = takes_up n before (begun_of (session_at old.sessions before)) loans received old new g
 
-opens : (n : ℕ) (may : Bool) (name : List ℕ) (m : ClientMessage) (received : Received) (old new : HostView) → Opens n may name m received old new → BytesStay old.domain new.domain
-opens n may name (client.Hello wanted) received old new o = greets n name (wanted_in old.sessions (wanted_if may wanted)) (loans_of wanted) received old new o
+opens : (n : ℕ) (may : Process) (name : List ℕ) (m : ClientMessage) (received : Received) (old new : HostView) → Opens n may name m received old new → BytesStay old.domain new.domain
+opens n may name (client.Hello wanted) received old new o = greets n name (wanted_in old.sessions may wanted) (loans_of wanted) received old new o
 opens n may name (client.Ask questions) received old new o = breaks n (session.Silent name) fault.Early received old new o
 opens n may name (client.Lend count) received old new o = breaks n (session.Silent name) fault.Early received old new o
 opens n may name (client.Release slots) received old new o = breaks n (session.Silent name) fault.Early received old new o
@@ -180,8 +181,8 @@ talks n most pages b (client.Release slots) received old new t = released_host b
 steps : (n : ℕ) (may : Allowance) (pages : List (List ℕ)) (s : Session) (m : ClientMessage) (received : Received) (old new : HostView) → Steps n may pages s m received old new → BytesStay old.domain new.domain
 steps n may pages session.Free m received old new p = same_host old new (ap (λ (h : HostView). h.domain.machines) p.1)
 steps n may pages (session.Refused first) m received old new p = same_host old new (ap (λ (h : HostView). h.domain.machines) p.1)
-steps n may pages (session.Silent name) m received old new p = opens n may.takes_up name m received old new p
-steps n may pages (session.Begun b) m received old new p = talks n may.most pages b m received old new p
+steps n may pages (session.Silent name) m received old new p = opens n may.process name m received old new p
+steps n may pages (session.Begun b) m received old new p = talks n (most_in old b may.most may.process) pages b m received old new p
 
 hears : (n : ℕ) (may : Allowance) (pages : List (List ℕ)) (s : Session) (r : Result ClientMessage MessageFault) (received : Received) (old new : HostView) → Hears n may pages s r received old new → BytesStay old.domain new.domain
 hears n may pages s (Ok m) received old new p = steps n may pages s m received old new p

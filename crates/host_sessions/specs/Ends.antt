@@ -1,5 +1,5 @@
 -- The end of a session's connection, and of its process.
-use Rattle.std.specs.Prelude.{◌≡◌, ℕ, List, Option, Some, None, if◌then◌else◌, ◌==◌, MatchOption}
+use Rattle.std.specs.Prelude.{◌≡◌, ◌≤◌, ℕ, Bool, true, false, List, Option, Some, None, if◌then◌else◌, ◌==◌, MatchOption}
 use Rattle.recent_fingerprints.specs.Notes.{forgotten}
 use Rattle.share_domain.specs.Leaving.{Leaves, StaysOut}
 use Rattle.host_sessions.specs.declared.session.Link.TheVariants as link
@@ -7,6 +7,7 @@ use Rattle.host_sessions.specs.declared.session.Begun.{Begun}
 use Rattle.host_sessions.specs.declared.session.Session.{Session}
 use Rattle.host_sessions.specs.declared.session.Session.TheVariants as session
 use Rattle.host_sessions.specs.Steps.{HostView, with_session, with_domain, with_recent}
+use Rattle.host_sessions.specs.Table.{session_slots}
 
 -- a session of an ended process after so many of its slots were released: none was left if none was released
 abbrev pub ended : Begun → ℕ → Session
@@ -34,3 +35,16 @@ Ends n (session.Silent name) result room after old new = (result ≡ Some 0) × 
 Ends n (session.Refused fault) result room after old new = (result ≡ Some 0) × (after ≡ room) × (new ≡ with_session old n session.Free)
 Ends n (session.Begun b) None room after old new = ⊥
 Ends n (session.Begun b) (Some count) room after old new = EndsBegun n b count room after old new
+
+-- A session ends, and no slot is released.
+pub record EndsAtOnce (n : ℕ) (s : Session) (old new : HostView) : Type 0 where
+  pub count : Option ℕ
+  pub room : List ℕ
+  pub after : List ℕ
+  pub ends : Ends n s count room after old new
+  pub none : count_of count ≡ 0
+
+-- A session that has no slots ends. One that has some stays as it is.
+pub record EndsEmpty (n : ℕ) (s : Session) (result : Bool) (old new : HostView) : Type 0 where
+  pub empty : session_slots old.domain.machines s ≡ 0 → (result ≡ true) × EndsAtOnce n s old new
+  pub held : 1 ≤ session_slots old.domain.machines s → (result ≡ false) × (new ≡ old)

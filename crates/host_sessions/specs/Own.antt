@@ -1,5 +1,5 @@
 -- Each session's client is its own.
-use Rattle.std.specs.Prelude.{◌≡◌, ℕ, true, List, Option, slice_index_or}
+use Rattle.std.specs.Prelude.{◌≡◌, ℕ, Bool, true, List, Option, slice_index_or}
 use Rattle.share_domain.specs.declared.client.Presence.{Presence}
 use Rattle.share_domain.specs.declared.client.Presence.TheVariants.{Out}
 use Rattle.share_domain.specs.Totals.{is_present}
@@ -9,7 +9,7 @@ use Rattle.host_sessions.specs.declared.config.HostConfig.{HostConfig}
 use Rattle.host_sessions.specs.declared.session.Begun.{Begun}
 use Rattle.host_sessions.specs.declared.session.Session.{Session}
 use Rattle.host_sessions.specs.declared.session.Session.TheVariants as session
-use Rattle.host_sessions.specs.Ends.{Ends}
+use Rattle.host_sessions.specs.Ends.{Ends, EndsEmpty}
 use Rattle.host_sessions.specs.Made.{empty_host}
 use Rattle.host_sessions.specs.Steps.{HostView, Receives, TakesBackAt, with_sessions, with_session}
 use Rattle.host_sessions.specs.Table.{session_at, connected, next_number, gone}
@@ -41,3 +41,6 @@ DisconnectKeepsOwn = (n : ℕ) (h : HostView) → HasOwn h → HasOwn (with_sess
 
 abbrev pub EndKeepsOwn : Type 0
 EndKeepsOwn = (n : ℕ) (result : Option ℕ) (room after : List ℕ) (old new : HostView) → HasOwn old → Ends n (session_at old.sessions n) result room after old new → HasOwn new
+
+abbrev pub EndEmptyKeepsOwn : Type 0
+EndEmptyKeepsOwn = (n : ℕ) (result : Bool) (old new : HostView) → HasOwn old → EndsEmpty n (session_at old.sessions n) result old new → HasOwn new

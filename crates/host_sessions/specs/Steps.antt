@@ -1,5 +1,5 @@
 -- What a packet of a session does.
-use Rattle.std.specs.Prelude.{◌≡◌, ℕ, Bool, true, false, ◌<◌, ◌≤◌, List, [], length, take, Option, Some, None, Result, Ok, Err, slice_set}
+use Rattle.std.specs.Prelude.{◌≡◌, ℕ, ◌-◌, true, false, ◌<◌, ◌≤◌, List, [], length, take, Option, Some, None, Result, Ok, Err, slice_set}
 use Rattle.host_messages.specs.declared.client.ClientMessage.{ClientMessage}
 use Rattle.host_messages.specs.declared.client.ClientMessage.TheVariants as client
 use Rattle.host_messages.specs.declared.fault.MessageFault.{MessageFault}
@@ -12,15 +12,18 @@ use Rattle.recent_fingerprints.specs.Notes.{Recent}
 use Rattle.fingerprint_domain.specs.Known.{fingerprints_in}
 use Rattle.share_domain.specs.Bytes.{BytesStay}
 use Rattle.share_domain.specs.Domains.{DomainView, next_client, entered}
+use Rattle.share_domain.specs.Totals.{slots_of}
 use Rattle.host_sessions.specs.declared.answer.Received.{Received}
 use Rattle.host_sessions.specs.declared.answer.Received.TheVariants as got
 use Rattle.host_sessions.specs.declared.allowance.Allowance.{Allowance}
+use Rattle.host_sessions.specs.declared.allowance.Process.{Process}
+use Rattle.host_sessions.specs.declared.allowance.Process.TheVariants as process
 use Rattle.host_sessions.specs.declared.session.SessionFault.{SessionFault}
 use Rattle.host_sessions.specs.declared.session.SessionFault.TheVariants as fault
 use Rattle.host_sessions.specs.declared.session.Begun.{Begun}
 use Rattle.host_sessions.specs.declared.session.Session.{Session}
 use Rattle.host_sessions.specs.declared.session.Session.TheVariants as session
-use Rattle.host_sessions.specs.Table.{heard, heard_with, lent, new_session, takes, faulted, session_at, wanted_in, wanted_if, loans_of, begun_of, Loans, last_at, lost_of}
+use Rattle.host_sessions.specs.Table.{heard, heard_with, lent, new_session, takes, faulted, session_at, wanted_in, loans_of, begun_of, Loans, last_at, lost_of, session_slots}
 use Rattle.host_sessions.specs.Turns.{answers_to, asked, freed_by, after_releases, slots_in, offered, held_back, LendsSome, kept_of, back_of}
 
 -- the frames of all machines, the salt of fingerprints, the most slots of a session, the percentage of a processor that
@@ -103,6 +106,16 @@ pub record LendsPages (n : ℕ) (b : Begun) (pages : List (List ℕ)) (others : 
   pub reply : received ≡ got.Loans (record { items = loans })
   pub now : new ≡ with_last (with_session (with_domain old new.domain) n (session.Begun (lent b))) n loans
 
+-- how many more slots a process may have, of which this session is and the one with this number
+abbrev pub left_to : HostView → Begun → ℕ → ℕ
+left_to h b other = h.quota - slots_of b.client h.domain.machines - session_slots h.domain.machines (session_at h.sessions other)
+
+-- how many pages of a session's Lend may be lent: as many as the caller says, and no more than its process may have
+abbrev pub most_in : HostView → Begun → ℕ → Process → ℕ
+most_in h b most process.Unknown = most
+most_in h b most process.Alone = most
+most_in h b most (process.Beside other) = offered most (left_to h b other)
+
 -- So many pages of the buffer are lent, but no more than `most`, if it has as many. (No message that was read names more than 128)
 pub record LendsFirst (n : ℕ) (b : Begun) (count most : ℕ) (pages : List (List ℕ)) (received : Received) (old new : HostView) : Type 0 where
   pub enough : count ≤ MAX_IN_MESSAGE → offered count most ≤ length pages → LendsPages n b (take (offered count most) pages) (held_back count most) received old new
@@ -112,8 +125,8 @@ pub record LendsFirst (n : ℕ) (b : Begun) (count most : ℕ) (pages : List (Li
 -- ---- a session's step, by its state and the message
 
 -- the first message
-abbrev pub Opens : ℕ → Bool → List ℕ → ClientMessage → Received → HostView → HostView → Type 0
-Opens n may name (client.Hello wanted) received old new = Greets n name (wanted_in old.sessions (wanted_if may wanted)) (loans_of wanted) received old new
+abbrev pub Opens : ℕ → Process → List ℕ → ClientMessage → Received → HostView → HostView → Type 0
+Opens n may name (client.Hello wanted) received old new = Greets n name (wanted_in old.sessions may wanted) (loans_of wanted) received old new
 Opens n may name (client.Ask questions) received old new = Breaks n (session.Silent name) fault.Early received old new
 Opens n may name (client.Lend count) received old new = Breaks n (session.Silent name) fault.Early received old new
 Opens n may name (client.Release slots) received old new = Breaks n (session.Silent name) fault.Early received old new
@@ -128,8 +141,8 @@ Talks n most pages b (client.Release slots) received old new = Releases n b slot
 abbrev pub Steps : ℕ → Allowance → List (List ℕ) → Session → ClientMessage → Received → HostView → HostView → Type 0
 Steps n may pages session.Free message received old new = (received ≡ got.NoSession) × (new ≡ old)
 Steps n may pages (session.Refused first) message received old new = (received ≡ got.NoSession) × (new ≡ old)
-Steps n may pages (session.Silent name) message received old new = Opens n may.takes_up name message received old new
-Steps n may pages (session.Begun b) message received old new = Talks n may.most pages b message received old new
+Steps n may pages (session.Silent name) message received old new = Opens n may.process name message received old new
+Steps n may pages (session.Begun b) message received old new = Talks n (most_in old b may.most may.process) pages b message received old new
 
 -- a packet of a session that takes messages
 abbrev pub Hears : ℕ → Allowance → List (List ℕ) → Session → Result ClientMessage MessageFault → Received → HostView → HostView → Type 0

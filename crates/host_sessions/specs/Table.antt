@@ -1,11 +1,13 @@
 -- Sessions by their numbers.
-use Rattle.std.specs.Prelude.{ℕ, ◌+◌, ◌%◌, ◌^◌, Bool, true, false, ◌&&◌, ◌==◌, if◌then◌else◌, List, [], Option, Some, None, slice_set, slice_index_or, position}
+use Rattle.std.specs.Prelude.{ℕ, ◌+◌, ◌%◌, ◌^◌, Bool, true, false, ◌&&◌, ◌||◌, ◌==◌, if◌then◌else◌, List, [], Option, Some, None, slice_set, slice_index_or, position}
 use Rattle.std.specs.Str.{bytes_eq}
 use Rattle.arrayvec.specs.ArrayVec.{ArrayVec}
 use Rattle.host_messages.specs.declared.client.Wanted.{Wanted}
 use Rattle.host_messages.specs.declared.item.Lent.{Lent}
 use Rattle.lent_slots.specs.Slots.{MachineView}
 use Rattle.share_domain.specs.Totals.{slots_of}
+use Rattle.host_sessions.specs.declared.allowance.Process.{Process}
+use Rattle.host_sessions.specs.declared.allowance.Process.TheVariants as process
 use Rattle.host_sessions.specs.declared.session.SessionFault.{SessionFault}
 use Rattle.host_sessions.specs.declared.session.Link.{Link}
 use Rattle.host_sessions.specs.declared.session.Link.TheVariants as link
@@ -86,6 +88,13 @@ is_gone_as name (session.Silent other) = false
 is_gone_as name (session.Refused fault) = false
 is_gone_as name (session.Begun b) = is_gone b.link && bytes_eq b.name name
 
+-- the session has this name; nothing was at fault in it, and its process has not ended
+abbrev pub is_named : List ℕ → Session → Bool
+is_named name session.Free = false
+is_named name (session.Silent other) = false
+is_named name (session.Refused fault) = false
+is_named name (session.Begun b) = (is_talking b.link || is_gone b.link) && bytes_eq b.name name
+
 -- ---- all of them
 
 -- the session with a number, which is free where there is no such number
@@ -101,15 +110,20 @@ abbrev pub connected : List ℕ → Option ℕ → List Session → List Session
 connected name None sessions = sessions
 connected name (Some n) sessions = slice_set sessions n (session.Silent name)
 
--- the session that a client wants to take up
-abbrev pub wanted_in : List Session → Option Wanted → Option ℕ
-wanted_in sessions None = None
-wanted_in sessions (Some wanted) = position (is_gone_as wanted.name) sessions
+-- a session by its number, if it has this name
+abbrev pub named_at : List Session → List ℕ → ℕ → Option ℕ
+named_at sessions name n = if is_named name (session_at sessions n) then Some n else None
 
--- the session that a client wants to take up, if one may be taken up
-abbrev pub wanted_if : Bool → Option Wanted → Option Wanted
-wanted_if true wanted = wanted
-wanted_if false wanted = None
+-- The session that a client takes up, of those that may be its process's: it has the name that the client wants. Where processes aren't
+-- known, its connection has ended.
+abbrev pub named_in : List Session → Process → List ℕ → Option ℕ
+named_in sessions process.Unknown name = position (is_gone_as name) sessions
+named_in sessions process.Alone name = None
+named_in sessions (process.Beside n) name = named_at sessions name n
+
+abbrev pub wanted_in : List Session → Process → Option Wanted → Option ℕ
+wanted_in sessions p None = None
+wanted_in sessions p (Some wanted) = named_in sessions p wanted.name
 
 -- how many replies to Lend a client has got in it
 abbrev pub loans_of : Option Wanted → ℕ

@@ -1,10 +1,10 @@
 //! The host.
 ghost use Rattle.std.specs.Prelude.{◌≡◌, ◌≤◌, ◌<◌, true, false, ◌+◌, ◌*◌, length, not, replicate, IfOk};
-ghost use Rattle.host_sessions.specs.Table.{session_at, next_number, connected, takes, gone, is_free, wanted_in, loans_of, begun_of, new_session, no_loans, last_at, lost_of, session_slots, wanted_if};
-ghost use Rattle.host_sessions.specs.Steps.{with_sessions, with_session, with_last, with_domain, welcome_to, Breaks, Greets, Begins, Resumes, TakesUp, Asks, Releases, LendsFirst, LendsPages, Opens, Talks, Steps, Hears, Receives, TakesBack, TakesBackAt};
+ghost use Rattle.host_sessions.specs.Table.{session_at, next_number, connected, takes, gone, is_free, wanted_in, loans_of, begun_of, new_session, no_loans, last_at, lost_of, session_slots};
+ghost use Rattle.host_sessions.specs.Steps.{with_sessions, with_session, with_last, with_domain, welcome_to, Breaks, Greets, Begins, Resumes, TakesUp, Asks, Releases, LendsFirst, LendsPages, Opens, Talks, Steps, Hears, Receives, TakesBack, TakesBackAt, left_to, most_in};
 ghost use Rattle.host_sessions.specs.Turns.{freed_by, after_releases, slots_in, offered};
 ghost use Rattle.host_sessions.specs.Others.{SparesOthers};
-ghost use Rattle.host_sessions.specs.Ends.{Ends, EndsBegun, ended, count_of};
+ghost use Rattle.host_sessions.specs.Ends.{Ends, EndsAtOnce, EndsBegun, EndsEmpty, ended, count_of};
 ghost use Rattle.host_messages.specs.Reading.{client_at};
 ghost use Rattle.share_domain.specs.Bytes.{BytesStay};
 ghost use Rattle.share_domain.specs.Domains.{next_client};
@@ -14,7 +14,7 @@ ghost use Rattle.share_domain.specs.declared.config.TheConstants.{MAX_MACHINES};
 ghost use Rattle.page_model.specs.declared.limits.TheConstants.{MAX_FRAMES};
 ghost use Rattle.host_messages.specs.declared.limits.TheConstants.{MAX_IN_MESSAGE};
 
-use crate::allowance::Allowance;
+use crate::allowance::{Allowance, Process};
 use crate::answer::Received;
 use crate::ask::ask_each;
 use crate::back::{back_in, kept_in};
@@ -32,7 +32,7 @@ use machine_frames::Frames;
 use page_digest::PageHash;
 use page_model::Page;
 use recent_fingerprints::RecentFingerprints;
-use share_domain::DomainReport;
+use share_domain::{DomainReport, NO_FRAME};
 use std::alloc::{AllocError, Allocator, Global};
 use std::marker::Model;
 
@@ -226,6 +226,31 @@ impl<H: PageHash, A: Allocator> Host<H, A> {
         self.end_number(number, freed)
     }
 
+    /// Ends a session if it has no slots, and returns whether it has none. Call it when a session's connection has ended.
+    pub fn end_empty(&mut self, number: u32) -> bool
+        ensures ends { EndsEmpty number (session_at self.old.sessions number) result self.old self.new }
+        ensures others { SparesOthers (session_at self.old.sessions number) self.old.domain self.new.domain }
+        ensures bytes { BytesStay self.old.domain self.new.domain }
+    {
+        if self.slots_of(number) > 0 {
+            return false;
+        }
+        let mut freed = [NO_FRAME];
+        self.end_at_once(number, &mut freed);
+        true
+    }
+
+    /// Ends a session that has no slots.
+    fn end_at_once(&mut self, number: u32, freed: &mut [u32])
+        requires empty { session_slots self.old.domain.machines (session_at self.old.sessions number) ≡ 0 }
+        requires room { 1 ≤ length freed.old }
+        ensures ends { EndsAtOnce number (session_at self.old.sessions number) self.old self.new }
+        ensures others { SparesOthers (session_at self.old.sessions number) self.old.domain self.new.domain }
+        ensures bytes { BytesStay self.old.domain self.new.domain }
+    {
+        let _count = self.end(number, freed);
+    }
+
     /// Returns the session with this number, `Free` if there is no such number.
     pub fn session(&self, number: u32) -> Session
         ensures session { result ≡ session_at self.now.sessions number }
@@ -307,18 +332,46 @@ impl<H: PageHash, A: Allocator> Host<H, A> {
         match session {
             Session::Free => Received::NoSession,
             Session::Refused(_) => Received::NoSession,
-            Session::Silent(name) => self.open(number, name, message, may.takes_up),
-            Session::Begun(begun) => self.talk(number, begun, message, pages, may.most),
+            Session::Silent(name) => self.open(number, name, message, may.process),
+            Session::Begun(begun) => {
+                let most = self.most_in(begun, may.most, may.process);
+                self.talk(number, begun, message, pages, most)
+            }
         }
     }
 
+    /// Returns how many pages of a session's `Lend` may be lent: as many as the caller says, and no more than its process may have.
+    fn most_in(&self, begun: Begun, most: u32, process: Process) -> u32
+        ensures { result ≡ most_in self.now begun most process }
+    {
+        match process {
+            Process::Unknown => most,
+            Process::Alone => most,
+            Process::Beside(other) => offered(most, self.left_to(begun, other)),
+        }
+    }
+
+    /// Returns how many more slots a process may have that has this session and the one with this number.
+    fn left_to(&self, begun: Begun, other: u32) -> u32
+        ensures { result ≡ left_to self.now begun other }
+    {
+        let left = self.quota.saturating_sub(self.domain.held_by(begun.client));
+        left.saturating_sub(self.slots_of(other))
+    }
+
     /// Does what a session's first message says.
-    fn open(&mut self, number: u32, name: Name, message: ClientMessage, takes_up: bool) -> Received
+    fn open(
+        &mut self,
+        number: u32,
+        name: Name,
+        message: ClientMessage,
+        process: Process,
+    ) -> Received
         requires { number < length self.old.sessions }
-        ensures { Opens number takes_up name message result self.old self.new }
+        ensures { Opens number process name message result self.old self.new }
     {
         match message {
-            ClientMessage::Hello(wanted) => self.greet(number, name, wanted, takes_up),
+            ClientMessage::Hello(wanted) => self.greet(number, name, wanted, process),
             ClientMessage::Ask(_) => {
                 self.break_off(number, Session::Silent(name), SessionFault::Early)
             }
@@ -332,11 +385,17 @@ impl<H: PageHash, A: Allocator> Host<H, A> {
     }
 
     /// Takes up the session that the client wants, if it may, or begins one.
-    fn greet(&mut self, number: u32, name: Name, wanted: Option<Wanted>, takes_up: bool) -> Received
+    fn greet(
+        &mut self,
+        number: u32,
+        name: Name,
+        wanted: Option<Wanted>,
+        process: Process,
+    ) -> Received
         requires { number < length self.old.sessions }
-        ensures { Greets number name (wanted_in self.old.sessions (wanted_if takes_up wanted)) (loans_of wanted) result self.old self.new }
+        ensures { Greets number name (wanted_in self.old.sessions process wanted) (loans_of wanted) result self.old self.new }
     {
-        match find_wanted(&self.sessions, takes_up, &wanted) {
+        match find_wanted(&self.sessions, process, &wanted) {
             None => self.begin(number, name),
             Some(before) => self.take_up(number, before, loans_of(&wanted)),
         }

@@ -16,7 +16,7 @@ mod lend;
 mod release;
 mod session;
 
-pub use allowance::Allowance;
+pub use allowance::{Allowance, Process};
 pub use answer::Received;
 pub use config::HostConfig;
 pub use host::Host;

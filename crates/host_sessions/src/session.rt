@@ -1,6 +1,6 @@
 //! Sessions.
 ghost use Rattle.std.specs.Prelude.{◌≡◌};
-ghost use Rattle.host_sessions.specs.Table.{is_talking, is_gone, gone_link, linked, heard, heard_with, lent, takes, faulted, gone, is_free, is_gone_as};
+ghost use Rattle.host_sessions.specs.Table.{is_talking, is_gone, gone_link, linked, heard, heard_with, lent, takes, faulted, gone, is_free, is_gone_as, is_named};
 
 use host_messages::{MessageFault, Name};
 use thiserror::Error;
@@ -207,6 +207,20 @@ impl Session {
             Session::Silent(_) => false,
             Session::Refused(_) => false,
             Session::Begun(begun) => begun.link.is_gone() && begun.name == *name,
+        }
+    }
+
+    /// Whether the session has this name, nothing was at fault in it, and its process has not ended.
+    pub(crate) fn is_named(&self, name: &Name) -> bool
+        ensures { result ≡ is_named name.now self.now }
+    {
+        match self {
+            Session::Free => false,
+            Session::Silent(_) => false,
+            Session::Refused(_) => false,
+            Session::Begun(begun) => {
+                (begun.link.is_talking() || begun.link.is_gone()) && begun.name == *name
+            }
         }
     }
 }

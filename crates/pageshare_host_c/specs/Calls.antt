@@ -1,5 +1,5 @@
 -- Connections and sessions, as C names them.
-use Rattle.std.specs.Prelude.{◌≡◌, ℕ, List, length, Option, Some, None, if◌then◌else◌, MatchBool, ◌==◌}
+use Rattle.std.specs.Prelude.{◌≡◌, ℕ, Bool, List, length, Option, Some, None, if◌then◌else◌, MatchBool, ◌==◌}
 use Rattle.c_surface.specs.Statuses.{number_or, room_status}
 use Rattle.c_surface.specs.Totals.{totals_of}
 use Rattle.c_surface.specs.declared.status.TheConstants as status
@@ -14,7 +14,7 @@ use Rattle.share_domain.specs.Bytes.{BytesStay}
 use Rattle.host_sessions.specs.Others.{SparesOthers}
 use Rattle.host_sessions.specs.Table.{session_at, next_number, connected, gone, is_free, session_slots}
 use Rattle.host_sessions.specs.Steps.{HostView, with_sessions, with_session}
-use Rattle.host_sessions.specs.Ends.{Ends}
+use Rattle.host_sessions.specs.Ends.{Ends, EndsEmpty}
 use Rattle.pageshare_host_c.specs.Hosts.{AtHost, of_made, made_status}
 use Rattle.pageshare_host_c.specs.Packets.{fault_status}
 use Rattle.pageshare_host_c.specs.declared.calls.KnownSession.{KnownSession}
@@ -59,6 +59,17 @@ EndsWith number result room after count count' old new =
 abbrev pub EndsAt : ℕ → ℕ → List ℕ → List ℕ → ℕ → ℕ → Option Hosted → Option Hosted → Type 0
 EndsAt number result room after count count' old new =
     AtHost ((result ≡ status.NO_MACHINE) × (after ≡ room) × (count' ≡ count)) (λ h n. EndsWith number result room after count count' h n) old new
+
+-- a session's connection has ended, and the session, too, if it has no slots
+pub record EndsIfEmpty (number result : ℕ) (old new : HostView) : Type 0 where
+  pub is_ended : Bool
+  pub ends : EndsEmpty number (session_at old.sessions number) is_ended old new
+  pub others : SparesOthers (session_at old.sessions number) old.domain new.domain
+  pub bytes : BytesStay old.domain new.domain
+  pub status-is : result ≡ (if is_ended then status.NO_SESSION else status.OK)
+
+abbrev pub EndsEmptyAt : ℕ → ℕ → Option Hosted → Option Hosted → Type 0
+EndsEmptyAt number result old new = AtHost (result ≡ status.NO_MACHINE) (λ h n. EndsIfEmpty number result h n) old new
 
 -- what C gets of a session
 abbrev pub state_of_link : Link → ℕ

@@ -1,10 +1,11 @@
 -- What C gets of a packet.
-use Rattle.std.specs.Prelude.{◌≡◌, ℕ, ◌||◌, true, nat_lt, MatchBool, List, [], ◌++◌, length, drop, Option, Some, None}
+use Rattle.std.specs.Prelude.{◌≡◌, ℕ, ◌||◌, nat_lt, MatchBool, List, [], ◌++◌, length, drop, Option, Some, None}
 use Rattle.c_surface.specs.declared.status.TheConstants as status
 use Rattle.host_messages.specs.declared.fault.MessageFault.{MessageFault}
 use Rattle.host_messages.specs.declared.fault.MessageFault.TheVariants as message
 use Rattle.host_messages.specs.declared.limits.TheConstants.{MAX_IN_MESSAGE, MAX_MESSAGE_BYTES}
 use Rattle.host_sessions.specs.declared.allowance.Allowance.{Allowance}
+use Rattle.host_sessions.specs.declared.allowance.Process.TheVariants as process
 use Rattle.host_sessions.specs.declared.answer.Received.{Received}
 use Rattle.host_sessions.specs.declared.answer.Received.TheVariants as got
 use Rattle.host_sessions.specs.declared.session.SessionFault.{SessionFault}
@@ -82,9 +83,9 @@ pub record IsRefused (why : ℕ) (returned : ReceivedPacket) (reply reply' freed
   pub reply-is : reply' ≡ reply
   pub freed-is : freed' ≡ freed
 
--- all is allowed that a packet can ask for
+-- all is allowed that a packet can ask for where processes aren't known
 abbrev pub all_allowed : Allowance
-all_allowed = record { most = MAX_IN_MESSAGE; takes_up = true }
+all_allowed = record { most = MAX_IN_MESSAGE; process = process.Unknown }
 
 -- A packet that a host received. Each slot of a client that the session isn't of afterwards is still held by it, with the same frame; and
 -- each slot that stays a client's reads the same bytes after as before

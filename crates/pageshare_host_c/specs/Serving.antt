@@ -1,9 +1,11 @@
 -- What C gets of a packet, with what the reply to it says.
-use Rattle.std.specs.Prelude.{◌≡◌, ℕ, ◌||◌, nat_lt, MatchBool, not, nat_eq, List, [], ◌∷◌, length, Option}
+use Rattle.std.specs.Prelude.{◌≡◌, ℕ, ◌||◌, nat_lt, MatchBool, ◌==◌, if◌then◌else◌, List, [], ◌∷◌, length, Option}
 use Rattle.c_surface.specs.declared.status.TheConstants as status
 use Rattle.host_messages.specs.declared.item.Lent.{Lent}
 use Rattle.host_messages.specs.declared.limits.TheConstants.{MAX_IN_MESSAGE, MAX_MESSAGE_BYTES, WELCOME, SEEN, LOANS}
 use Rattle.host_sessions.specs.declared.allowance.Allowance.{Allowance}
+use Rattle.host_sessions.specs.declared.allowance.Process.{Process}
+use Rattle.host_sessions.specs.declared.allowance.Process.TheVariants as process
 use Rattle.host_sessions.specs.declared.answer.Received.{Received}
 use Rattle.host_sessions.specs.declared.answer.Received.TheVariants as got
 use Rattle.share_domain.specs.Bytes.{BytesStay}
@@ -81,9 +83,13 @@ pub record IsUnserved (why : ℕ) (served : ServedPacket) (reply reply' frames f
   pub reply-is : reply' ≡ reply
   pub frames-is : frames' ≡ frames
 
+-- which other session is of the process, by its number: there is none where there is no number
+abbrev pub process_of : ℕ → Process
+process_of beside = if beside == NO_FRAME then process.Alone else process.Beside beside
+
 -- what C allows a packet
 abbrev pub allowance_of : PacketAllowance → Allowance
-allowance_of may = record { most = may.most; takes_up = not (nat_eq may.takes_up 0) }
+allowance_of may = record { most = may.most; process = process_of may.beside }
 
 -- A packet that a host received, as `Packets` has it, with what the reply says
 pub record ServesPacket (session : ℕ) (bytes : List ℕ) (pages : List (List ℕ)) (may : PacketAllowance) (served : ServedPacket) (reply reply' frames frames' : List ℕ) (old new : HostView) : Type 0 where

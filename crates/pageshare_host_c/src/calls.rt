@@ -2,7 +2,7 @@
 ghost use Rattle.std.specs.Prelude.{◌≡◌, Some};
 ghost use Rattle.c_surface.specs.declared.status.TheConstants as status;
 ghost use Rattle.pageshare_host_c.specs.Hosts.{made_status};
-ghost use Rattle.pageshare_host_c.specs.Calls.{ConnectsAt, DisconnectsAt, EndsAt, session_status, session_after, known_session, state_of, fault_known, messages_of, link_fault, totals_after};
+ghost use Rattle.pageshare_host_c.specs.Calls.{ConnectsAt, DisconnectsAt, EndsAt, EndsEmptyAt, session_status, session_after, known_session, state_of, fault_known, messages_of, link_fault, totals_after};
 
 use crate::hosted::Hosted;
 use crate::receive::fault_status;
@@ -71,6 +71,21 @@ pub(crate) fn end(hosted: &mut Hosted, session: u32, freed: &mut [u32], count: &
                     status::OK
                 }
             }
+        }
+    }
+}
+
+/// Ends a session if it has no slots, and returns the status.
+pub(crate) fn end_empty(hosted: &mut Hosted, session: u32) -> u32
+    ensures { EndsEmptyAt session result (Some hosted.old) (Some hosted.new) }
+{
+    match hosted {
+        Hosted::Waiting(_) => status::NO_MACHINE,
+        Hosted::Made(host) => {
+            if host.end_empty(session) {
+                return status::NO_SESSION;
+            }
+            status::OK
         }
     }
 }

@@ -9,11 +9,11 @@ ghost use Rattle.std.specs.Prelude.{◌≡◌, None};
 ghost use Rattle.c_surface.specs.Statuses.{held_status};
 ghost use Rattle.c_surface.specs.declared.status.TheConstants as status;
 ghost use Rattle.page_digest.specs.Hashes.{fold_hash};
-ghost use Rattle.pageshare_host_c.specs.Calls.{ConnectsAt, DisconnectsAt, EndsAt, session_status, session_after, totals_after};
+ghost use Rattle.pageshare_host_c.specs.Calls.{ConnectsAt, DisconnectsAt, EndsAt, EndsEmptyAt, session_status, session_after, totals_after};
 ghost use Rattle.pageshare_host_c.specs.Hosts.{made_status, AddsFrames, BeginsHost};
 ghost use Rattle.pageshare_host_c.specs.Packets.{ReceivesAt};
 ghost use Rattle.pageshare_host_c.specs.Serving.{ServesAt, WithdrawsAt};
-ghost use Rattle.pageshare_host_c.specs.Heads.{head_of, name_after};
+ghost use Rattle.pageshare_host_c.specs.Heads.{head_of};
 ghost use Rattle.host_messages.specs.Reading.{client_at};
 
 mod begin;
@@ -32,7 +32,7 @@ use begin::{add_frames, begin};
 pub use c_surface::DomainTotals;
 use c_surface::{Handle, free, status};
 pub use calls::KnownSession;
-use calls::{connect, disconnect, end, report, write_session};
+use calls::{connect, disconnect, end, end_empty, report, write_session};
 pub use handle::HostHandle;
 pub use hosted::Hosted;
 pub use laws::numbers_law;
@@ -185,13 +185,12 @@ pub extern "C" fn pageshare_host_take_back(
     }
 }
 
-/// Returns what a packet says, before a session receives it, and writes the name of the session that it asks to resume.
+/// Returns what a packet says, before a session receives it.
 #[unsafe(no_mangle)]
-pub extern "C" fn pageshare_host_read(bytes: &[u8], name: &mut [u8; 16]) -> PacketHead
-    ensures head { result ≡ head_of (client_at bytes.now) }
-    ensures name { name.new ≡ name_after name.old (client_at bytes.now) }
+pub extern "C" fn pageshare_host_read(bytes: &[u8]) -> PacketHead
+    ensures { result ≡ head_of (client_at bytes.now) }
 {
-    read(bytes, name)
+    read(bytes)
 }
 
 /// A session's connection has ended. The status is `NO_MACHINE` without a host, and `NO_SESSION` if there is no such
@@ -208,6 +207,28 @@ pub extern "C" fn pageshare_host_disconnect(
         None => status::NO_MACHINE,
         Some(mut hosted) => {
             let status = disconnect(&mut hosted, session);
+            host.put(hosted);
+            status
+        }
+    }
+}
+
+/// Ends a session if it has no slots. Call it when its connection has ended.
+///
+/// The status is `NO_MACHINE` without a host, `OK` if the session has slots and stays, and `NO_SESSION` if no session has the number
+/// afterwards.
+#[unsafe(no_mangle)]
+pub extern "C" fn pageshare_host_end_empty(
+    alloc: Global,
+    host: &mut HostHandle,
+    session: u32,
+) -> u32
+    ensures { EndsEmptyAt session result host.old.slot.host host.new.slot.host }
+{
+    match host.take(alloc) {
+        None => status::NO_MACHINE,
+        Some(mut hosted) => {
+            let status = end_empty(&mut hosted, session);
             host.put(hosted);
             status
         }

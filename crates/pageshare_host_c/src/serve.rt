@@ -2,14 +2,14 @@
 ghost use Rattle.std.specs.Prelude.{◌≡◌, ◌≤◌, length, Some};
 ghost use Rattle.host_messages.specs.declared.limits.TheConstants.{MAX_IN_MESSAGE, MAX_MESSAGE_BYTES};
 ghost use Rattle.pageshare_host_c.specs.Packets.{put_front};
-ghost use Rattle.pageshare_host_c.specs.Serving.{ServesAt, WithdrawsAt, Shows, allowance_of, kind_of, answers_in, loaned_in, frames_of, with_received, unserved};
+ghost use Rattle.pageshare_host_c.specs.Serving.{ServesAt, WithdrawsAt, Shows, allowance_of, process_of, kind_of, answers_in, loaned_in, frames_of, with_received, unserved};
 
 use crate::hosted::Hosted;
 use crate::receive::{ReceivedPacket, give, put_frames};
 use arrayvec::ArrayVec;
 use c_surface::status;
 use host_messages::{LOANS, Lent, MAX_IN_MESSAGE, MAX_MESSAGE_BYTES, SEEN, WELCOME};
-use host_sessions::{Allowance, Received};
+use host_sessions::{Allowance, Process, Received};
 use page_model::Page;
 use share_domain::NO_FRAME;
 
@@ -19,8 +19,8 @@ use share_domain::NO_FRAME;
 pub struct PacketAllowance {
     /// How many pages of a `Lend` may be lent now.
     pub most: u32,
-    /// 0 if a `Hello` may take up no session.
-    pub takes_up: u32,
+    /// The number of the other session of the same process, or [`NO_FRAME`]: it has no other.
+    pub beside: u32,
 }
 
 /// What C gets of a packet, with what the reply to it says.
@@ -99,8 +99,18 @@ fn allowance_of(may: &PacketAllowance) -> Allowance
 {
     Allowance {
         most: may.most,
-        takes_up: may.takes_up != 0,
+        process: process_of(may.beside),
     }
+}
+
+/// Returns which other session is of the process.
+fn process_of(beside: u32) -> Process
+    ensures { result ≡ process_of beside }
+{
+    if beside == NO_FRAME {
+        return Process::Alone;
+    }
+    Process::Beside(beside)
 }
 
 /// Returns what C gets of a call that did nothing.

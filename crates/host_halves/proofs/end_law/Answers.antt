@@ -1,5 +1,8 @@
-use Rattle.host_halves.proofs.Ended.{ends_half}
+use Rattle.host_halves.proofs.Ended.{ends_half, empty_half}
 use Rattle.host_halves.proofs.end_law.Goals as goal
 
-pub returns : goal.returns
-returns c = ends_half
+pub returns-clause-ends : goal.returns-clause-ends
+returns-clause-ends c = ends_half
+
+pub returns-clause-empty : goal.returns-clause-empty
+returns-clause-empty c = empty_half

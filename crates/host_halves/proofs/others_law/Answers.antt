@@ -1,4 +1,4 @@
-use Rattle.host_halves.proofs.Others.{others_keep, backs_keep, ends_keep}
+use Rattle.host_halves.proofs.Others.{others_keep, backs_keep, ends_keep, empties_keep}
 use Rattle.host_halves.proofs.others_law.Goals as goal
 
 pub returns-clause-packets : goal.returns-clause-packets
@@ -9,3 +9,6 @@ returns-clause-backs c = backs_keep
 
 pub returns-clause-ends : goal.returns-clause-ends
 returns-clause-ends c = ends_keep
+
+pub returns-clause-empties : goal.returns-clause-empties
+returns-clause-empties c = empties_keep

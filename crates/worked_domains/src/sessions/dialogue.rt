@@ -2,7 +2,7 @@
 use crate::checks::holds_at;
 use arrayvec::ArrayVec;
 use host_messages::{ClientMessage, Lent, MessageFault, Name, Question, Wanted};
-use host_sessions::{Allowance, Host, HostConfig, Link, Received, Session, SessionFault};
+use host_sessions::{Allowance, Host, HostConfig, Link, Process, Received, Session, SessionFault};
 use machine_frames::Frames;
 use page_digest::FoldHash;
 use page_model::Page;
@@ -49,13 +49,15 @@ enum Step {
     /// A session's connection ends; whether there was such a session.
     Disconnects(u32, bool),
     Says(u32, Said, Got),
-    /// The same where the caller lets at most so many pages be lent, and a session be taken up or not.
+    /// The same where the caller allows no more than this.
     SaysWithin(u32, Said, Allowance, Got),
     /// What this session's last reply gave in this frame is taken back.
     TakesBack(u32, u32, Got),
     SendsCutRelease(u32, Got),
     /// A session ends, which had so many slots.
     Ends(u32, usize),
+    /// A session ends if it has no slots; whether it has none.
+    EndsEmpty(u32, bool),
     /// No session has this number.
     IsFree(u32),
     HasLink(u32, Option<Link>),
@@ -219,6 +221,7 @@ fn is_seen(host: &mut Host<FoldHash>, step: Step) -> bool {
             send(host, number, &CUT_RELEASE, Allowance::all()) == got
         }
         Step::Ends(number, slots) => end(host, number) == slots,
+        Step::EndsEmpty(number, is_empty) => host.end_empty(number) == is_empty,
         Step::IsFree(number) => host.session(number) == Session::Free,
         Step::HasLink(number, link) => link_of(host, number) == link,
         Step::HasSlots(number, slots) => slots_of(host, number) == slots,
@@ -370,16 +373,22 @@ fn slots_of_a_lost_reply_are_released(rt: HostRuntime) {
     play(&rt, rt.alloc(), &LOST_REPLY);
 }
 
-/// Two pages may be lent, and a session may be taken up.
+/// Two pages may be lent, and any session may be taken up.
 const TWO: Allowance = Allowance {
     most: 2,
-    takes_up: true,
+    process: Process::Unknown,
 };
 
 /// No page may be lent, and no session taken up.
 const NOTHING: Allowance = Allowance {
     most: 0,
-    takes_up: false,
+    process: Process::Alone,
+};
+
+/// Session 0 is of the same process, and no other one.
+const BESIDE: Allowance = Allowance {
+    most: 128,
+    process: Process::Beside(0),
 };
 
 const ALLOWED: [Step; 15] = [
@@ -425,4 +434,68 @@ const TAKEN_BACK: [Step; 12] = [
 #[test]
 fn loans_are_taken_back(rt: HostRuntime) {
     play(&rt, rt.alloc(), &TAKEN_BACK);
+}
+
+const TWO_OF_A_PROCESS: [Step; 24] = [
+    Step::Connects(A, Some(0)),
+    Step::Says(0, Said::Hello, Got::Welcome(10)),
+    Step::Says(0, Said::Lend(2), Got::Lent(2, 1)),
+    Step::Connects(B, Some(1)),
+    Step::SaysWithin(1, Said::Hello, BESIDE, Got::Welcome(11)),
+    // Both may have three slots together. Of five pages one is lent, for which a buffer of four is enough.
+    Step::SaysWithin(1, Said::Lend(5), BESIDE, Got::Lent(1, 3)),
+    Step::SaysWithin(1, Said::Lend(4), BESIDE, Got::Lent(0, 0)),
+    Step::HasSlots(1, 1),
+    Step::Disconnects(1, true),
+    // Session 1 has this name, but isn't of this process, as far as is known.
+    Step::Connects(C, Some(2)),
+    Step::SaysWithin(2, Said::HelloAs(B, 1), BESIDE, Got::Welcome(12)),
+    Step::Ends(2, 0),
+    // Session 0 is taken up though its connection stands still.
+    Step::Connects(C, Some(2)),
+    Step::HasLink(0, Some(Link::Talking)),
+    Step::SaysWithin(2, Said::HelloAs(A, 1), BESIDE, Got::Resumed(10, 0, 0)),
+    Step::IsFree(0),
+    Step::HasSlots(2, 2),
+    Step::HasSlots(1, 1),
+    // Now no session has number 0, and nothing is taken up.
+    Step::Connects(D, Some(0)),
+    Step::SaysWithin(0, Said::HelloAs(A, 1), BESIDE, Got::Welcome(13)),
+    Step::SendsCutRelease(0, Got::Fault(SHORT)),
+    Step::Ends(1, 1),
+    Step::Connects(B, Some(1)),
+    // A session that sent a packet at fault isn't taken up.
+    Step::SaysWithin(1, Said::HelloAs(D, 0), BESIDE, Got::Welcome(11)),
+];
+
+#[test]
+fn a_process_has_two_sessions(rt: HostRuntime) {
+    play(&rt, rt.alloc(), &TWO_OF_A_PROCESS);
+}
+
+const EMPTY: [Step; 19] = [
+    Step::EndsEmpty(0, true),
+    Step::Connects(A, Some(0)),
+    Step::EndsEmpty(0, true),
+    Step::IsFree(0),
+    Step::Connects(A, Some(0)),
+    Step::Says(0, Said::Hello, Got::Welcome(10)),
+    Step::Says(0, Said::Lend(1), Got::Lent(1, 1)),
+    Step::Disconnects(0, true),
+    Step::EndsEmpty(0, false),
+    Step::HasSlots(0, 1),
+    Step::Connects(B, Some(1)),
+    Step::Says(1, Said::HelloAs(A, 1), Got::Resumed(10, 0, 0)),
+    Step::Says(1, Said::Release(0), Got::Freed(1, 1)),
+    Step::Disconnects(1, true),
+    Step::Clients(1),
+    Step::EndsEmpty(1, true),
+    Step::Clients(0),
+    Step::IsFree(1),
+    Step::Frames(0),
+];
+
+#[test]
+fn a_session_without_slots_ends(rt: HostRuntime) {
+    play(&rt, rt.alloc(), &EMPTY);
 }

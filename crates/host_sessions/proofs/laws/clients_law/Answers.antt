@@ -1,4 +1,4 @@
-use Rattle.host_sessions.proofs.Own.{empty_has, connect_keeps, receive_keeps, take_back_keeps, disconnect_keeps, end_keeps}
+use Rattle.host_sessions.proofs.Own.{empty_has, connect_keeps, receive_keeps, take_back_keeps, disconnect_keeps, end_keeps, end_empty_keeps}
 use Rattle.host_sessions.specs.Table.{session_at}
 use Rattle.host_sessions.proofs.laws.clients_law.Goals as goal
 
@@ -19,3 +19,6 @@ returns-clause-disconnects c = λ n h own. disconnect_keeps n h own
 
 pub returns-clause-ends : goal.returns-clause-ends
 returns-clause-ends c = λ n result room after old new own e. end_keeps n result room after old new own e
+
+pub returns-clause-ends_empty : goal.returns-clause-ends_empty
+returns-clause-ends_empty c = λ n result old new own e. end_empty_keeps n result old new own e
