@@ -23,6 +23,7 @@ sys.path.insert(0, str(pathlib.Path(__file__).resolve().parent / "host"))
 
 import beside  # noqa: E402
 import measures  # noqa: E402
+import rows  # noqa: E402
 
 if __name__ == "__main__":
-    sys.exit(main(__doc__, cases_in([measures, beside]), ("figure", "ksm")))
+    sys.exit(main(__doc__, cases_in([measures, beside, rows]), ("figure", "ksm")))

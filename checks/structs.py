@@ -6,7 +6,7 @@
 No proof says in what order a struct of the libraries has its members, and a header with two members of one type exchanged compiles. So
 each struct with #[repr(C)] in FOLDERS must have the members of the header's structs that STRUCTS names, one by one: their order, names
 and types. Each constant of STATUSES must be the number that a header has under the same name, and so must each number that a function
-of NUMBERS returns. Prints what fails, and last 'N passed, M failed'.
+of NUMBERS returns. `estimate --pid` knows the library's own memory by PLACES, whose numbers C and Rattle must both have. Prints what fails, and last 'N passed, M failed'.
 """
 from __future__ import annotations
 
@@ -35,6 +35,9 @@ NUMBERS = {
 }
 # The names of C that aren't spelled as the library's. What has none is no number of its own.
 SPELLED = {"Frame": "", "Off": "SHOWN", "InPlace": "HOMING_IN_PLACE", "Elsewhere": "HOMING", "TakeHome(true)": "COPY_IN_PLACE"}
+# Where the library for windows maps memory of its own.
+PLACES = ("APART_BEGIN", "APART_END")
+PLACES_OF_C, PLACES_OF_RATTLE = "window/kernel.c", "crates/live_memory/src/mapping.rt"
 # The structs of C for each of the others.
 STRUCTS = {
     "Answer": "pageshare_answer", "Totals": "pageshare_totals", "PageName": "pageshare_page_name", "Lending": "pageshare_lending",
@@ -103,11 +106,20 @@ def compare_numbers(tally: Tally) -> None:
                 tally.equal(f"{name}{inside} in {file}", of_c.get(prefix + spelled), number)
 
 
+def compare_places(tally: Tally) -> None:
+    """The addresses of the library's own memory, in C and in Rattle."""
+    of_c = dict(re.findall(r"^#define (APART_\w+) UINT64_C\((0x[\da-f]+)\)$", (TOP / PLACES_OF_C).read_text(), re.M))
+    of_rattle = dict(re.findall(r"^const (APART_\w+): u64 = (0x[\da-f_]+);$", (TOP / PLACES_OF_RATTLE).read_text(), re.M))
+    for name in PLACES:
+        tally.equal(f"{name} in {PLACES_OF_RATTLE}", int(of_rattle.get(name, "0"), 0), int(of_c.get(name, "1"), 0))
+
+
 def main() -> int:
     argparse.ArgumentParser(description=__doc__.splitlines()[0]).parse_args()
     tally, due = Tally(), structs_of_c()
     compare_statuses(tally)
     compare_numbers(tally)
+    compare_places(tally)
     for folder, suffix in FOLDERS.items():
         for file in sorted((TOP / folder).rglob(f"*.{suffix}")):
             for name, inside in STRUCT.findall(file.read_text()):

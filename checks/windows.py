@@ -159,6 +159,7 @@ BODIES = {
     "copies what was given up": Body("lend.c", "if (there[at] && copy_one(", "if (copy_one(", ["leaves"]),
     "compares what was given up": Body("lend.c", "is_hold && is_there && seems_equal(", "is_hold && (is_there || true) && seems_equal(", ["leaves"]),
     "forgets that the caller watches": Body("windows.c", "    windows->is_watched = true;\n", "", ["leaves"]),
+    "leaves copies over frames apart": Body("tasks.c", "if (has_more) join_left_over(look);", "", ["leaves"]),
     "takes a watch for ended": Body("tasks.c", "if (refused == 0 && !is_any && ", "if (refused == 0 && ", ["leaves"]),
     "attends to nothing": Body("tasks.c", "windows->config.attend == NULL || ", "windows->config.attend == NULL || true || ", ["tasks"]),
     "goes on when a look is to end": Body("tasks.c", "return !look->is_cut_short;", "return true;", ["tasks"]),

@@ -22,7 +22,10 @@
 /* Tries of a call that the system asks to make again. */
 enum { TRIES = 64 };
 
-/* Where memory of the library itself is: 16 TiB in the middle of the addresses, where the system maps nothing by itself. */
+/*
+ * Where memory of the library itself is: 16 TiB in the middle of the addresses, where the system maps nothing by itself. `pageshare estimate`
+ * knows it by these numbers (crates/live_memory/src/mapping.rt).
+ */
 #define APART_BEGIN UINT64_C(0x200000000000)
 #define APART_END UINT64_C(0x300000000000)
 

@@ -241,6 +241,63 @@ static bool end(struct look *look) {
     return false;
 }
 
+/* ---- copies over frames ---- */
+
+/* Whether a page has a copy of its own over a frame, and nobody else had what it is for some time. */
+static bool is_left_over(const struct window *window, size_t number) {
+    const page_entry *page = &window->pages[number];
+    bool is_copy = is_over(page) && !is_out(page) && !shows_past(page) && belief_of(page) == PAGESHARE_WINDOW_PRIVATE;
+    return is_copy && is_asked_again(page);
+}
+
+/* Finds such pages in a row in a part, at most HOME_MOST. Returns how many; 0: there are few in each row. With the lock. */
+static size_t find_left_over(const struct window *window, size_t part, size_t *at) {
+    enum { ROW_LEAST = 8 };
+    const size_t first = part == 0 ? 0 : part * PART - window->lead, end = first + rest_of_part(window, first);
+    size_t count = 0;
+    for (*at = first; *at + count < end && count < HOME_MOST;) {
+        if (is_left_over(window, *at + count)) {
+            count++;
+        } else if (count >= ROW_LEAST) {
+            break;
+        } else {
+            *at += count + 1;
+            count = 0;
+        }
+    }
+    return count >= ROW_LEAST ? count : 0;
+}
+
+/*
+ * Copies over frames stay in as many mappings as the frames were, of which each may be one by itself. Those in a row get other memory, which is
+ * one mapping: one row of a part at a look. Where devices may have pinned copies they stay. With the lock.
+ */
+static size_t find_to_join(const struct look *look, size_t *at) {
+    const struct windows *windows = look->windows;
+    bool may_join = !look->window->ended && windows->stuck_count == 0 && !windows->is_watched && !may_pin(windows);
+    return may_join ? find_left_over(look->window, look->task.part, at) : 0;
+}
+
+static void join_left_over(struct look *look) {
+    size_t at = 0;
+    begin_turn(look);
+    lock_for_look(look->windows);
+    const size_t count = find_to_join(look, &at);
+    struct window_result result = count > 0 ? take_home(look->window, at, count) : result_of(WINDOW_OK, 0);
+    if (result.status != WINDOW_OK) note_failure(look->windows, result.status, result.cause);
+    unlock_set(look->windows);
+}
+
+static bool look_and_join(struct look *look) {
+    size_t at = 0;
+    bool goes_on = look_at_part(look);
+    lock_for_look(look->windows);
+    bool has_more = goes_on && find_to_join(look, &at) > 0;
+    unlock_set(look->windows);
+    if (has_more) join_left_over(look);
+    return goes_on;
+}
+
 /* ---- a look ---- */
 
 static task_do *const does[TASKS] = {
@@ -249,7 +306,7 @@ static task_do *const does[TASKS] = {
     [PAGESHARE_WINDOW_TASK_ATTEND] = attend,
     [PAGESHARE_WINDOW_TASK_RELEASE] = release_slots,
     [PAGESHARE_WINDOW_TASK_WINDOW] = go_to_window,
-    [PAGESHARE_WINDOW_TASK_LOOK] = look_at_part,
+    [PAGESHARE_WINDOW_TASK_LOOK] = look_and_join,
     [PAGESHARE_WINDOW_TASK_RETURN] = look_again,
     [PAGESHARE_WINDOW_TASK_GIVE_BACK] = give_zeros_back,
     [PAGESHARE_WINDOW_TASK_ASK] = ask_lender,

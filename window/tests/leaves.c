@@ -353,6 +353,29 @@ static void crowded(void) {
     munmap(at, PAGES * PAGE);
 }
 
+/*
+ * Pages in a row show one frame, and then get contents that nobody else has: each is a mapping by itself. Some looks later they are one together,
+ * unless devices may have pinned them.
+ */
+static void left_over(const struct windows_config *config) {
+    const bool may_pin = config->pins != WINDOWS_PINS_NEVER;
+    bool are_right = true;
+    FIXTURE(config, PAGES, PAGES);
+    fill(at, PAGES, 1);
+    check(look_until(&fixture, PAGES) == PAGES, "all pages are lent");
+    for (size_t i = 0; i < HALF; i++) memset(at + i * PAGE, (int)i + 2, PAGE);
+    check(mappings_in(at, HALF) == HALF, "copies over a frame are as many mappings as before");
+    look_often(&fixture, 40);
+    check(mappings_in(at, HALF) == (may_pin ? HALF : 1), "copies in a row are one mapping, if they may have other memory");
+    for (size_t i = 0; i < PAGES; i++) are_right = are_right && are_bytes(at + i * PAGE, i < HALF ? (int)i + 2 : 1);
+    struct windows_counts counts = counts_of(&fixture);
+    check(are_right && counts.lent == HALF && counts.lends == PAGES, "all bytes are as they were written");
+    memset(at, 1, HALF * PAGE);
+    check(may_pin || look_until(&fixture, PAGES) == PAGES, "what others have again is lent again");
+    fixture_end(&fixture, window);
+    munmap(at, PAGES * PAGE);
+}
+
 /* After the end of lending nothing is lent, and what was lent goes on until it is taken home. No frame is mapped beside that: mlockall would
  * copy each. */
 static void over(void) {
@@ -488,6 +511,8 @@ int main(void) {
     several_mappings();
     lent_anew();
     crowded();
+    left_over(&never_pinned);
+    left_over(&maybe_pinned);
     over();
     given_up_meanwhile();
     watched(true);

@@ -1,5 +1,5 @@
 -- A line of /proc/PID/maps, and whether the mapping's pages are to be read.
-use Rattle.std.specs.Prelude.{ℕ, ◌-◌, ◌^◌, ◌==◌, ◌&&◌, ◌||◌, not, nat_lt, Bool, if◌then◌else◌, List, codes, length, slice_index, take, Option, Some}
+use Rattle.std.specs.Prelude.{ℕ, ◌+◌, ◌-◌, ◌^◌, ◌==◌, ◌&&◌, ◌||◌, not, nat_le, nat_lt, Bool, if◌then◌else◌, List, codes, length, slice_index, take, Option, Some}
 use Rattle.std.specs.Result.{result_ok}
 use Rattle.std.specs.Str.{bytes_eq}
 use Rattle.text_words.specs.Words.{number_to}
@@ -50,13 +50,18 @@ abbrev pub segment_of : Mapping → Segment
 segment_of mapping = record { offset = mapping.from; len = mapping.to - mapping.from }
 
 -- its own mapping of the file of frames that pageshare-host lends from
-abbrev pub shows_frames : Mapping → List ℕ → Bool
-shows_frames mapping name = mapping.is_private && bytes_eq name (codes "/memfd:pageshare-frames (deleted)")
+abbrev pub is_of_frames : Mapping → List ℕ → Bool
+is_of_frames mapping name = mapping.is_private && bytes_eq name (codes "/memfd:pageshare-frames (deleted)")
+
+-- where the library of pageshare-host maps memory for itself: from 2^45 on, 16 TiB
+abbrev pub is_apart : Mapping → Bool
+is_apart mapping = nat_le (2 ^ 45) mapping.from && nat_lt mapping.from (2 ^ 45 + 2 ^ 44)
 
 abbrev pub writable_of : Mapping → List ℕ → Bool → WritableMapping
 writable_of mapping name is_offered = record {
   segment = segment_of mapping;
   is_offered = is_offered;
   is_anonymous = mapping.is_private && mapping.inode == 0;
-  shows_frames = shows_frames mapping name;
+  shows_frames = is_of_frames mapping name && not (is_apart mapping);
+  reads_frames = is_of_frames mapping name && is_apart mapping;
 }

@@ -1,21 +1,24 @@
 //! Which mappings of a process are read.
 ghost use Rattle.std.specs.Prelude.{◌≡◌, IfOk};
 ghost use Rattle.std.specs.List.{list_any};
-ghost use Rattle.live_memory.specs.Choices.{chosen, is_chosen, offers};
+ghost use Rattle.live_memory.specs.Choices.{chosen, has_frames, is_chosen, is_wanted, offers};
 ghost use Rattle.live_memory.specs.Ranges.{AreWhole, HaveWhole};
 
 use crate::WritableMapping;
 use memory_images::Segment;
 use std::alloc::{AllocError, Allocator};
 
-/// Which of a process's mappings are read, of those that are no file's and can be written.
+/// Which of a process's mappings are read, of those that are no file's and can be written. None is the one by which the library of
+/// `pageshare-host` reads frames.
 #[derive(Clone, Copy, Debug, PartialEq, Eq)]
 pub enum MemoryChoice {
     /// Those that the process offered for sharing. Where it offered none, or `pageshare-host` shares them already, those that are
-    /// the process's own.
+    /// the process's own, and those that show frames.
     Offered,
     /// All of them.
     All,
+    /// Those that show frames of `pageshare-host`.
+    Lent,
 }
 
 /// Whether one of the mappings is offered.
@@ -30,30 +33,39 @@ fn is_any_offered(mappings: &[WritableMapping]) -> bool
     false
 }
 
-/// Whether one of the mappings shows frames of `pageshare-host`.
+/// Whether frames of `pageshare-host` are shown or read by a mapping.
+fn has_frames(mapping: &WritableMapping) -> bool
+    ensures { result ≡ has_frames mapping.now }
+{
+    mapping.shows_frames || mapping.reads_frames
+}
+
+/// Whether one of the mappings has such frames.
 fn is_any_shared(mappings: &[WritableMapping]) -> bool
-    ensures { result ≡ list_any (λ mapping. mapping.shows_frames) mappings.now }
+    ensures { result ≡ list_any has_frames mappings.now }
 {
     for mapping in mappings {
-        if mapping.shows_frames {
+        if has_frames(mapping) {
             return true;
         }
     }
     false
 }
 
-/// Whether a process offered mappings, none of which `pageshare-host` shares.
+/// Whether a process offered mappings, and `pageshare-host` doesn't share its memory.
 fn offers(mappings: &[WritableMapping]) -> bool
     ensures { result ≡ offers mappings.now }
 {
     is_any_offered(mappings) && !is_any_shared(mappings)
 }
 
-fn is_chosen(choice: MemoryChoice, offers: bool, mapping: &WritableMapping) -> bool
-    ensures { result ≡ is_chosen choice offers mapping.now }
+/// Whether a mapping is one of those that are asked for, if it is the guest's.
+fn is_wanted(choice: MemoryChoice, offers: bool, mapping: &WritableMapping) -> bool
+    ensures { result ≡ is_wanted choice offers mapping.now }
 {
     match choice {
         MemoryChoice::All => true,
+        MemoryChoice::Lent => mapping.shows_frames,
         MemoryChoice::Offered => {
             if offers {
                 mapping.is_offered
@@ -62,6 +74,12 @@ fn is_chosen(choice: MemoryChoice, offers: bool, mapping: &WritableMapping) -> b
             }
         }
     }
+}
+
+fn is_chosen(choice: MemoryChoice, offers: bool, mapping: &WritableMapping) -> bool
+    ensures { result ≡ is_chosen choice offers mapping.now }
+{
+    !mapping.reads_frames && is_wanted(choice, offers, mapping)
 }
 
 /// Returns where the pages of the chosen mappings lie.

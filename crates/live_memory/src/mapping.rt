@@ -1,6 +1,6 @@
 //! A line of `/proc/PID/maps`.
 ghost use Rattle.std.specs.Prelude.{◌≡◌, ◌+◌, ◌<◌, ◌≤◌, IfSome, option_map};
-ghost use Rattle.live_memory.specs.Mappings.{is_fileless, is_kept, is_private, is_writable, mapping_in, segment_of, shows_frames, writable_of};
+ghost use Rattle.live_memory.specs.Mappings.{is_apart, is_fileless, is_kept, is_of_frames, is_private, is_writable, mapping_in, segment_of, writable_of};
 ghost use Rattle.live_memory.specs.Ranges.{IsRange};
 
 use crate::fields::{behind_spaces, range, word};
@@ -25,6 +25,11 @@ const LARGE: &[u8] = b"/anon_hugepage (deleted)";
 /// The name of the file of frames that `pageshare-host` lends from.
 const FRAMES: &[u8] = b"/memfd:pageshare-frames (deleted)";
 
+/// Where memory of `libpageshare-window.so` itself begins, and where it ends, by `window/kernel.c`.
+const APART_BEGIN: u64 = 0x2000_0000_0000;
+
+const APART_END: u64 = 0x3000_0000_0000;
+
 /// A mapping of a process's memory that is no file's and can be written.
 #[derive(Clone, Copy, Debug, PartialEq, Eq)]
 pub struct WritableMapping {
@@ -36,6 +41,8 @@ pub struct WritableMapping {
     pub is_anonymous: bool,
     /// It shows frames of `pageshare-host`.
     pub shows_frames: bool,
+    /// By it the library of `pageshare-host` reads all frames: it is none of the guest's memory.
+    pub reads_frames: bool,
 }
 
 /// What a line says of a mapping, without its name.
@@ -107,11 +114,18 @@ pub(crate) fn is_kept(mapping: Mapping, name: &[u8]) -> bool
     mapping.is_writable && is_fileless(mapping.inode, name)
 }
 
-/// Whether a mapping shows frames of `pageshare-host`.
-fn shows_frames(mapping: Mapping, name: &[u8]) -> bool
-    ensures { result ≡ shows_frames mapping name.now }
+/// Whether a mapping is the process's own, of the file of frames of `pageshare-host`.
+fn is_of_frames(mapping: Mapping, name: &[u8]) -> bool
+    ensures { result ≡ is_of_frames mapping name.now }
 {
     mapping.is_private && name == FRAMES
+}
+
+/// Whether a mapping is where memory of `libpageshare-window.so` itself is.
+fn is_apart(mapping: Mapping) -> bool
+    ensures { result ≡ is_apart mapping }
+{
+    mapping.from >= APART_BEGIN && mapping.from < APART_END
 }
 
 /// Returns where a mapping's pages lie.
@@ -130,10 +144,13 @@ pub(crate) fn writable_of(mapping: Mapping, name: &[u8], is_offered: bool) -> Wr
     requires { mapping.from < mapping.to }
     ensures { result ≡ writable_of mapping name.now is_offered }
 {
+    let is_of_frames = is_of_frames(mapping, name);
+    let is_apart = is_apart(mapping);
     WritableMapping {
         segment: segment_of(mapping),
         is_offered,
         is_anonymous: mapping.is_private && mapping.inode == 0,
-        shows_frames: shows_frames(mapping, name),
+        shows_frames: is_of_frames && !is_apart,
+        reads_frames: is_of_frames && is_apart,
     }
 }

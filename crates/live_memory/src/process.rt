@@ -24,6 +24,8 @@ pub struct LiveProcess {
     pub image: LiveImage,
     /// How many of its pages aren't this process's alone.
     pub shared: u64,
+    /// How many of these show frames of `pageshare-host`.
+    pub lent: u64,
 }
 
 /// Opens the memory of a process of this machine. It is the pages, in memory or swapped, of the mappings that can be written and
@@ -43,8 +45,13 @@ pub fn open_process<R: Files<File = File>>(
     let mut maps = Vec::new(alloc);
     list.read_to_end(&mut maps)?;
     let shared = shared_of_maps(alloc, &pagemap, choice, &maps)?;
+    let lent = shared_of_maps(alloc, &pagemap, MemoryChoice::Lent, &maps)?;
     let image = image_of_maps(alloc, memory, &pagemap, choice, &maps)?;
-    Ok(LiveProcess { image, shared })
+    Ok(LiveProcess {
+        image,
+        shared,
+        lent,
+    })
 }
 
 /// Returns where the pages of the chosen mappings lie.

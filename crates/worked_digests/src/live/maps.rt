@@ -78,8 +78,16 @@ fn lines_of_another_form(rt: HostRuntime) {
     }
 }
 
-// A guest of QEMU as the system shows it, shortened. One of its mappings shows frames of a host.
-const SMAPS: &[u8] = b"7f8ee2400000-7f8ee2600000 rw-p 00000000 00:00 0 
+// A guest of QEMU as the system shows it, shortened. One of its mappings shows frames of a host, and by one the library reads them.
+const SMAPS: &[u8] =
+    b"1ffffffff000-200000000000 rw-p 00001000 00:01 2051                       /memfd:pageshare-frames (deleted)
+VmFlags: rd wr mr mw me dc dd nr nh 
+200000000000-200004000000 rw-p 00000000 00:01 2051                       /memfd:pageshare-frames (deleted)
+Size:              65536 kB
+VmFlags: rd wr mr mw me dc dd nr nh 
+2ffffffff000-300000000000 rw-p 00000000 00:01 2055                       /memfd:pageshare-frames (deleted)
+300000000000-300000001000 rw-p 00000000 00:01 2051                       /memfd:pageshare-frames (deleted)
+7f8ee2400000-7f8ee2600000 rw-p 00000000 00:00 0 
 Size:               2048 kB
 KernelPageSize:        4 kB
 Rss:                1024 kB
@@ -100,19 +108,27 @@ VmFlags: rd wr sh mr mw me ms sd mgx
 fn reads_what_is_known_of_mappings(rt: HostRuntime) {
     let found = kept(&rt, rt.alloc(), SMAPS).ok().expect(&rt, "mappings");
     let due = [
-        (0x7f8ee2400000, 0x200000, true, true, false),
-        (0x7f8ee2700000, 0x1000, false, true, false),
-        (0x7f8ee2800000, 0x2000, false, false, true),
-        (0x7f8ee2900000, 0x1000, false, false, false),
+        (0x1ffffffff000, 0x1000, false, false, true, false),
+        (0x200000000000, 0x4000000, false, false, false, true),
+        (0x2ffffffff000, 0x1000, false, false, false, true),
+        (0x300000000000, 0x1000, false, false, true, false),
+        (0x7f8ee2400000, 0x200000, true, true, false, false),
+        (0x7f8ee2700000, 0x1000, false, true, false, false),
+        (0x7f8ee2800000, 0x2000, false, false, true, false),
+        (0x7f8ee2900000, 0x1000, false, false, false, false),
     ];
     equal(&rt, found.len(), due.len());
-    for (mapping, (offset, len, is_offered, is_anonymous, shows_frames)) in found.iter().zip(due) {
+    for (mapping, (offset, len, is_offered, is_anonymous, shows_frames, reads_frames)) in found
+        .iter()
+        .zip(due)
+    {
         let segment = Segment { offset, len };
         let due = WritableMapping {
             segment,
             is_offered,
             is_anonymous,
             shows_frames,
+            reads_frames,
         };
         equal(&rt, *mapping, due);
     }
