@@ -9,6 +9,11 @@
 /* A thread that has run for so long lets others run before it holds pages: after some milliseconds the system makes it stop. */
 static const uint64_t turn_ns = 1000000;
 
+enum {
+    ROWS_MOST = 8,   /* rows of pages that are held one after another with the lock, */
+    SETTLE_MOST = 32 /* as long as they are fewer pages */
+};
+
 /* Pages in a row that are to be shown as frames or zeros. All of them lie over frames, or none. */
 struct hold {
     struct window *window;
@@ -391,24 +396,36 @@ static size_t in_row(const struct window *window, const uint32_t *pages, size_t 
     return found;
 }
 
-/* Settles the first of some pages that are in a row. Returns how many are settled, or stay as they are. Takes the lock. */
-static size_t settle_run(struct look *look, const uint32_t *pages, size_t count, enum wish wish) {
-    struct window *window = look->window;
-    struct windows *windows = window->windows;
+/* Settles the first of some pages that are in a row. Returns how many are settled, or stay as they are. With the lock. */
+static size_t settle_row(struct window *window, const uint32_t *pages, const bool *there, size_t count, enum wish wish) {
     struct hold hold = {.window = window, .first = pages[0]};
+    const size_t most = in_row(window, pages, count);
     size_t passed = 0;
-    bool there[HOLD_MOST];
-    begin_turn(look);
-    lock_for_look(windows);
-    const size_t most = windows->stuck_count > 0 ? 0 : in_row(window, pages, count);
-    if (most > 0) find_there(window, pages, most, there);
     while (hold.count < most && passed == 0) {
         passed = order_hold(window, pages[hold.count], wish, there[hold.count]) ? 0 : 1;
         hold.count += 1 - passed;
     }
     if (hold.count > 0) settle(&hold);
+    return hold.count + passed;
+}
+
+/*
+ * Settles the first of some pages, a row at a time. The lock is taken once, and the system asked once which pages are there, since each takes
+ * as long as a page does. Returns how many are settled, or stay as they are. Takes the lock.
+ */
+static size_t settle_some(struct look *look, const uint32_t *pages, size_t count, enum wish wish) {
+    struct windows *windows = look->windows;
+    size_t done = 0, known = 0;
+    bool there[SETTLE_MOST + HOLD_MOST];
+    begin_turn(look);
+    lock_for_look(windows);
+    for (size_t rows = 0; rows < ROWS_MOST && done < least(count, SETTLE_MOST) && windows->stuck_count == 0; rows++) {
+        const size_t most = least(count, SETTLE_MOST + HOLD_MOST) - done;
+        if (done == known) known += find_there(look->window, pages + done, most, there + done);
+        done += settle_row(look->window, pages + done, there + done, known - done, wish);
+    }
     unlock_set(windows);
-    return hold.count + passed > 0 ? hold.count + passed : 1;
+    return done > 0 ? done : 1;
 }
 
 /* Takes the first pages away. */
@@ -420,14 +437,14 @@ static void take_away(struct found *found, size_t count) {
 
 bool give_zeros_back(struct look *look) {
     struct found *zeros = &look->zeros;
-    if (zeros->count > 0) take_away(zeros, settle_run(look, zeros->pages, zeros->count, TO_BE_GIVEN_BACK));
+    if (zeros->count > 0) take_away(zeros, settle_some(look, zeros->pages, zeros->count, TO_BE_GIVEN_BACK));
     return zeros->count > 0;
 }
 
 bool hold_loaned(struct look *look) {
     struct batch *batch = &look->batch;
     size_t left = batch->count - batch->done;
-    if (left > 0) batch->done += settle_run(look, batch->pages + batch->done, left, TO_BE_SHOWN);
+    if (left > 0) batch->done += settle_some(look, batch->pages + batch->done, left, TO_BE_SHOWN);
     return batch->done < batch->count;
 }
 
