@@ -300,7 +300,6 @@ static void settle(struct hold *hold) {
     show_zeros(hold);
     for (size_t i = 0; i < hold->count; i++)
         pageshare_window_held(page_of(hold, i), part_counts(hold->window, hold->first + i), hold->held[i]);
-    if (hold->any_copies) say_again(hold->window, hold->first, hold->count, true, true);
 }
 
 /*
@@ -396,8 +395,32 @@ static size_t in_row(const struct window *window, const uint32_t *pages, size_t 
     return found;
 }
 
+/* Pages of a window, all of them in it, among which frames were mapped of which not all is said yet. */
+struct unsaid {
+    size_t first, end;
+};
+
+/* Says it, by one call of the system for all of them: of the pages between it was said before. */
+static void say_unsaid(struct window *window, struct unsaid *unsaid) {
+    if (unsaid->end > unsaid->first) say_again(window, unsaid->first, unsaid->end - unsaid->first, true, true);
+    *unsaid = (struct unsaid){.end = 0};
+}
+
+/* Adds pages in a row. What lies too far behind those before, or behind a page that has left the window, is said by a call of its own. */
+static void add_unsaid(struct window *window, struct unsaid *unsaid, size_t first, size_t count) {
+    enum { APART_MOST = 16 /* a call takes as long as so many pages more */ };
+    bool is_near = unsaid->end > unsaid->first && first >= unsaid->end && first - unsaid->end <= APART_MOST;
+    for (size_t page = unsaid->end; is_near && page < first; page++) is_near = !is_out(&window->pages[page]);
+    if (!is_near) {
+        say_unsaid(window, unsaid);
+        unsaid->first = first;
+    }
+    unsaid->end = first + count;
+}
+
 /* Settles the first of some pages that are in a row. Returns how many are settled, or stay as they are. With the lock. */
-static size_t settle_row(struct window *window, const uint32_t *pages, const bool *there, size_t count, enum wish wish) {
+static size_t settle_row(struct window *window, const uint32_t *pages, const bool *there, size_t count, enum wish wish,
+                         struct unsaid *unsaid) {
     struct hold hold = {.window = window, .first = pages[0]};
     const size_t most = in_row(window, pages, count);
     size_t passed = 0;
@@ -406,6 +429,7 @@ static size_t settle_row(struct window *window, const uint32_t *pages, const boo
         hold.count += 1 - passed;
     }
     if (hold.count > 0) settle(&hold);
+    if (hold.any_copies) add_unsaid(window, unsaid, hold.first, hold.count);
     return hold.count + passed;
 }
 
@@ -415,6 +439,7 @@ static size_t settle_row(struct window *window, const uint32_t *pages, const boo
  */
 static size_t settle_some(struct look *look, const uint32_t *pages, size_t count, enum wish wish) {
     struct windows *windows = look->windows;
+    struct unsaid unsaid = {.end = 0};
     size_t done = 0, known = 0;
     bool there[SETTLE_MOST + HOLD_MOST];
     begin_turn(look);
@@ -422,8 +447,9 @@ static size_t settle_some(struct look *look, const uint32_t *pages, size_t count
     for (size_t rows = 0; rows < ROWS_MOST && done < least(count, SETTLE_MOST) && windows->stuck_count == 0; rows++) {
         const size_t most = least(count, SETTLE_MOST + HOLD_MOST) - done;
         if (done == known) known += find_there(look->window, pages + done, most, there + done);
-        done += settle_row(look->window, pages + done, there + done, known - done, wish);
+        done += settle_row(look->window, pages + done, there + done, known - done, wish, &unsaid);
     }
+    say_unsaid(look->window, &unsaid);
     unlock_set(windows);
     return done > 0 ? done : 1;
 }
