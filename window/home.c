@@ -9,8 +9,6 @@ static bool is_in(const struct window *window, size_t first, size_t count) {
     return first <= window->count && count <= window->count - first;
 }
 
-static size_t least(size_t a, size_t b) { return a < b ? a : b; }
-
 /* Clears pages for which there is no mapping: they are zeros all the same, in memory of their own. */
 static void clear(struct window *window, size_t first, size_t count) {
     for (size_t page = first; page < first + count; page++) {

@@ -9,6 +9,11 @@
 /* A thread that has run for so long lets others run before it holds pages: after some milliseconds the system makes it stop. */
 static const uint64_t turn_ns = 1000000;
 
+enum {
+    ROWS_MOST = 8,   /* rows of pages that are held one after another with the lock, */
+    SETTLE_MOST = 32 /* as long as they are fewer pages */
+};
+
 /* Pages in a row that are to be shown as frames or zeros. All of them lie over frames, or none. */
 struct hold {
     struct window *window;
@@ -295,7 +300,6 @@ static void settle(struct hold *hold) {
     show_zeros(hold);
     for (size_t i = 0; i < hold->count; i++)
         pageshare_window_held(page_of(hold, i), part_counts(hold->window, hold->first + i), hold->held[i]);
-    if (hold->any_copies) say_again(hold->window, hold->first, hold->count, true, true);
 }
 
 /*
@@ -392,24 +396,63 @@ static size_t in_row(const struct window *window, const uint32_t *pages, size_t 
     return found;
 }
 
-/* Settles the first of some pages that are in a row. Returns how many are settled, or stay as they are. Takes the lock. */
-static size_t settle_run(struct look *look, const uint32_t *pages, size_t count, enum wish wish) {
-    struct window *window = look->window;
-    struct windows *windows = window->windows;
+/* Pages of a window, all of them in it, among which frames were mapped of which not all is said yet. */
+struct unsaid {
+    size_t first, end;
+};
+
+/* Says it, by one call of the system for all of them: of the pages between it was said before. */
+static void say_unsaid(struct window *window, struct unsaid *unsaid) {
+    if (unsaid->end > unsaid->first) say_again(window, unsaid->first, unsaid->end - unsaid->first, true, true);
+    *unsaid = (struct unsaid){.end = 0};
+}
+
+/* Adds pages in a row. What lies too far behind those before, or behind a page that has left the window, is said by a call of its own. */
+static void add_unsaid(struct window *window, struct unsaid *unsaid, size_t first, size_t count) {
+    enum { APART_MOST = 16 /* a call takes as long as so many pages more */ };
+    bool is_near = unsaid->end > unsaid->first && first >= unsaid->end && first - unsaid->end <= APART_MOST;
+    for (size_t page = unsaid->end; is_near && page < first; page++) is_near = !is_out(&window->pages[page]);
+    if (!is_near) {
+        say_unsaid(window, unsaid);
+        unsaid->first = first;
+    }
+    unsaid->end = first + count;
+}
+
+/* Settles the first of some pages that are in a row. Returns how many are settled, or stay as they are. With the lock. */
+static size_t settle_row(struct window *window, const uint32_t *pages, const bool *there, size_t count, enum wish wish,
+                         struct unsaid *unsaid) {
     struct hold hold = {.window = window, .first = pages[0]};
+    const size_t most = in_row(window, pages, count);
     size_t passed = 0;
-    bool there[HOLD_MOST];
-    begin_turn(look);
-    lock_for_look(windows);
-    const size_t most = windows->stuck_count > 0 ? 0 : in_row(window, pages, count);
-    if (most > 0) find_there(window, pages, most, there);
     while (hold.count < most && passed == 0) {
         passed = order_hold(window, pages[hold.count], wish, there[hold.count]) ? 0 : 1;
         hold.count += 1 - passed;
     }
     if (hold.count > 0) settle(&hold);
+    if (hold.any_copies) add_unsaid(window, unsaid, hold.first, hold.count);
+    return hold.count + passed;
+}
+
+/*
+ * Settles the first of some pages, a row at a time. The lock is taken once, and the system asked once which pages are there, since each takes
+ * as long as a page does. Returns how many are settled, or stay as they are. Takes the lock.
+ */
+static size_t settle_some(struct look *look, const uint32_t *pages, size_t count, enum wish wish) {
+    struct windows *windows = look->windows;
+    struct unsaid unsaid = {.end = 0};
+    size_t done = 0, known = 0;
+    bool there[SETTLE_MOST + HOLD_MOST];
+    begin_turn(look);
+    lock_for_look(windows);
+    for (size_t rows = 0; rows < ROWS_MOST && done < least(count, SETTLE_MOST) && windows->stuck_count == 0; rows++) {
+        const size_t most = least(count, SETTLE_MOST + HOLD_MOST) - done;
+        if (done == known) known += find_there(look->window, pages + done, most, there + done);
+        done += settle_row(look->window, pages + done, there + done, known - done, wish, &unsaid);
+    }
+    say_unsaid(look->window, &unsaid);
     unlock_set(windows);
-    return hold.count + passed > 0 ? hold.count + passed : 1;
+    return done > 0 ? done : 1;
 }
 
 /* Takes the first pages away. */
@@ -421,14 +464,14 @@ static void take_away(struct found *found, size_t count) {
 
 bool give_zeros_back(struct look *look) {
     struct found *zeros = &look->zeros;
-    if (zeros->count > 0) take_away(zeros, settle_run(look, zeros->pages, zeros->count, TO_BE_GIVEN_BACK));
+    if (zeros->count > 0) take_away(zeros, settle_some(look, zeros->pages, zeros->count, TO_BE_GIVEN_BACK));
     return zeros->count > 0;
 }
 
 bool hold_loaned(struct look *look) {
     struct batch *batch = &look->batch;
     size_t left = batch->count - batch->done;
-    if (left > 0) batch->done += settle_run(look, batch->pages + batch->done, left, TO_BE_SHOWN);
+    if (left > 0) batch->done += settle_some(look, batch->pages + batch->done, left, TO_BE_SHOWN);
     return batch->done < batch->count;
 }
 

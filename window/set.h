@@ -155,6 +155,8 @@ struct windows {
     struct window_result result; /* of the look under way: the first thing that went wrong */
 };
 
+static inline size_t least(size_t a, size_t b) { return a < b ? a : b; }
+
 static inline uint8_t *address_of(const struct window *window, size_t page) { return window->at + bytes_of(page); }
 
 static inline struct pageshare_window_part *part_of(const struct window *window, size_t page) {
