@@ -366,7 +366,9 @@ static void left_over(const struct windows_config *config) {
     for (size_t i = 0; i < HALF; i++) memset(at + i * PAGE, (int)i + 2, PAGE);
     check(mappings_in(at, HALF) == HALF, "copies over a frame are as many mappings as before");
     look_often(&fixture, 40);
-    check(mappings_in(at, HALF) == (may_pin ? HALF : 1), "copies in a row are one mapping, if they may have other memory");
+    /* (a few that were asked about later than those beside them stay as they are) */
+    const size_t mappings = mappings_in(at, HALF);
+    check(may_pin ? mappings == HALF : mappings <= HALF / 4, "copies in a row are few mappings, if they may have other memory");
     for (size_t i = 0; i < PAGES; i++) are_right = are_right && are_bytes(at + i * PAGE, i < HALF ? (int)i + 2 : 1);
     struct windows_counts counts = counts_of(&fixture);
     check(are_right && counts.lent == HALF && counts.lends == PAGES, "all bytes are as they were written");
