@@ -23,10 +23,10 @@ HUGE_FROM = ("64", "400", "200", "512")
 SANITIZE = ["-fsanitize=address,undefined", "-fno-sanitize-recover=all"]
 
 
-def compile_folder(name: str) -> pathlib.Path:
-    """Compiles the C program of a folder beside this file."""
+def compile_folder(name: str, more: Sequence[StrPath] = ()) -> pathlib.Path:
+    """Compiles the C program of a folder beside this file, with some more sources."""
     program = HERE.place.room / name
-    found = sorted((TOP / "checks/host" / name).glob("*.c"))
+    found = [*sorted((TOP / "checks/host" / name).glob("*.c")), *more]
     must(subprocess.run([CC, *FLAGS, "-o", program, *found]).returncode == 0, f"{name}/ doesn't compile")
     return program
 
