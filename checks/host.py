@@ -13,7 +13,8 @@ the kernel, which is only unpacked. What the computer lacks is left out, and so 
 
 GUESTS=N takes another number of guests than 3, SECONDS=N another length of `fuzz`, `soak`, `breaker`, `reach`, `storm`, `refusals`, `size`,
 `ways` and `losses`. SEED=N is another first seed of `ways`, `reach` and `losses`, SEEDS=N another number of seeds than 8 for `breaker` and
-`reach`, 16 for `refusals`, 2 for `losses` and 1 for `cuts`; with SANITIZE=1 `breaker` and `reach` run under a library with sanitizers.
+`reach`, 16 for `refusals`, 2 for `losses` and 1 for `cuts`; with SANITIZE=1 `breaker`, `reach` and `storm` run under a library
+with sanitizers.
 Everything runs on this computer, over sockets in a folder of its own, which is removed afterwards. The last line is `N passed, M failed`, of
 cases (status 0 where none failed, else 1). benches/host.py has the cases that measure.
 """

@@ -259,10 +259,11 @@ static bool say_policy(struct worker *worker, struct run run) {
 /* The part leaves sharing, and is offered anew. */
 static bool leave(struct worker *worker, struct run run) {
     uint8_t *at = page_at(run.first);
-    bool is_good = draw(&worker->seed, 2) == 0 ? mprotect(at, bytes_of(run), PROT_READ) == 0 : mlock(at, bytes_of(run)) == 0;
+    /* (not mlock and munlock, of which the address sanitizer makes nothing) */
+    bool is_good = draw(&worker->seed, 2) == 0 ? mprotect(at, bytes_of(run), PROT_READ) == 0 : mlock2(at, bytes_of(run), 0) == 0;
     pages_check(run, "once it has left");
     mprotect(at, bytes_of(run), PROT_READ | PROT_WRITE);
-    munlock(at, bytes_of(run));
+    syscall(SYS_munlock, at, bytes_of(run));
     pages_offer((struct run){worker->first, worker->count});
     return is_good;
 }
