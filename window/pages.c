@@ -34,9 +34,9 @@ uint64_t slot_number(uint32_t name) { return (uint64_t)(name / WINDOW_SLOT_RESTS
 /* Where no transfer of a page was under way yet. */
 static const uint16_t no_pins;
 
-static size_t pins_in(const struct window *window) { return window->pins != NULL ? window->count : 0; }
+size_t pins_in(const struct window *window) { return window->pins != NULL ? window->count : 0; }
 
-static const uint16_t *pins_of(const struct window *window) { return window->pins != NULL ? window->pins : &no_pins; }
+const uint16_t *pins_of(const struct window *window) { return window->pins != NULL ? window->pins : &no_pins; }
 
 struct pageshare_window_table_facts table_of(const struct window *window) {
     const struct windows *windows = window->windows;
@@ -48,24 +48,16 @@ struct pageshare_window_table_facts table_of(const struct window *window) {
                                                  .is_over = windows->is_over || windows->is_watched};
 }
 
-void find_facts(const struct window *window, const struct pageshare_window_table_facts *table, size_t number,
-                struct pageshare_window_facts *facts) {
-    static const struct pageshare_window_facts nothing;
-    pageshare_window_find_facts(table, pins_of(window), pins_in(window), &nothing, number, facts);
-}
-
-struct pageshare_window_facts facts_of(const struct window *window, size_t number) {
-    const struct pageshare_window_table_facts table = table_of(window);
-    struct pageshare_window_facts facts;
-    find_facts(window, &table, number, &facts);
-    return facts;
-}
-
 struct pageshare_window_facts facts_with(const struct window *window, size_t number, struct pageshare_window_facts why) {
     const struct pageshare_window_table_facts table = table_of(window);
     struct pageshare_window_facts facts;
     pageshare_window_find_facts(&table, pins_of(window), pins_in(window), &why, number, &facts);
     return facts;
+}
+
+struct pageshare_window_facts facts_of(const struct window *window, size_t number) {
+    static const struct pageshare_window_facts nothing;
+    return facts_with(window, number, nothing);
 }
 
 enum pageshare_window_order order_of(struct window *window, size_t number) {

@@ -28,7 +28,6 @@ ghost use Rattle.pageshare_window_c.specs.Pages.{Takes, number_of};
 ghost use Rattle.pageshare_window_c.specs.Parts.{part_number};
 
 mod budget;
-mod finds;
 mod holds;
 mod laws;
 mod looks;
@@ -38,6 +37,7 @@ mod order;
 mod part;
 mod pins;
 mod ranges;
+mod scan;
 pub mod session;
 mod tables;
 mod tasks;
@@ -46,7 +46,6 @@ mod times;
 pub use budget::{CREDIT_NS, OWED_NS, SAVED_NS, WindowBudget};
 use budget::{budget_of, config_by, put};
 pub use client_session::KeptSession;
-pub use finds::{pageshare_window_begin_find, pageshare_window_find_done};
 pub use holds::{
     WindowRowOrder, pageshare_window_begin_row, pageshare_window_next_of_row,
     pageshare_window_row_again, pageshare_window_row_done,
@@ -57,8 +56,7 @@ use look_tasks::room::{fits, most};
 pub use look_tasks::{LookFinds, LookSteps, LookTasks, LookTimes, PartReturn, TaskOutcome};
 pub use looks::{
     WindowLook, pageshare_window_ask_at_once, pageshare_window_asked, pageshare_window_asked_last,
-    pageshare_window_glanced_by, pageshare_window_held, pageshare_window_is_in_passing,
-    pageshare_window_is_left_out, pageshare_window_is_to_fetch, pageshare_window_set_rest,
+    pageshare_window_held, pageshare_window_is_in_passing, pageshare_window_set_rest,
     pageshare_window_wake,
 };
 pub use mappings::{
@@ -77,6 +75,10 @@ pub use pins::{
     pageshare_window_unpin,
 };
 pub use ranges::{pageshare_window_bounds, pageshare_window_is_all_left};
+pub use scan::{
+    pageshare_window_begin_scan, pageshare_window_follow_changes, pageshare_window_glance_numbers,
+    pageshare_window_scan_done,
+};
 pub use tables::{
     pageshare_window_are_movable, pageshare_window_cover, pageshare_window_detach,
     pageshare_window_find_facts, pageshare_window_give_up, pageshare_window_leave,
