@@ -77,7 +77,7 @@ pub use pins::{
 pub use ranges::{pageshare_window_bounds, pageshare_window_is_all_left};
 pub use scan::{
     pageshare_window_begin_scan, pageshare_window_follow_changes, pageshare_window_glance_numbers,
-    pageshare_window_scan_done,
+    pageshare_window_left_over, pageshare_window_scan_done,
 };
 pub use tables::{
     pageshare_window_are_movable, pageshare_window_cover, pageshare_window_detach,
