@@ -727,6 +727,8 @@ bool pageshare_window_follow_changes(struct pageshare_window_page *pages, size_t
 /* The numbers that say where glances look at the pages at these places, counted from `first` on. A glance is a number below 32,768. */
 void pageshare_window_glance_numbers(const struct pageshare_window_page *pages, size_t pages_count, size_t first,
                                      const uint16_t *places, size_t places_count, uint64_t *numbers, size_t numbers_count);
+/* How many pages from the first on have copies of their own over frames, and were asked about in vain most often; or, if `are` is false, haven't. */
+size_t pageshare_window_left_over(const struct pageshare_window_page *pages, size_t count, bool are);
 /* A page was asked about in vain; it can't be lent now; it is to be asked about at once; or it was to be held, and was, or wasn't. */
 void pageshare_window_asked(struct pageshare_window_page *page, struct pageshare_window_counts *part);
 void pageshare_window_asked_last(struct pageshare_window_page *page, struct pageshare_window_counts *part);

@@ -65,7 +65,7 @@ pub use page_looks::parts::{Part, PartConfig, PartLook};
 use part::part_number;
 pub use pins::{pageshare_window_begin_transfer, pageshare_window_end_transfer, pageshare_window_pin, pageshare_window_unpin};
 pub use ranges::{pageshare_window_bounds, pageshare_window_is_all_left};
-pub use scan::{pageshare_window_begin_scan, pageshare_window_follow_changes, pageshare_window_glance_numbers, pageshare_window_scan_done};
+pub use scan::{pageshare_window_begin_scan, pageshare_window_follow_changes, pageshare_window_glance_numbers, pageshare_window_left_over, pageshare_window_scan_done};
 pub use tables::{pageshare_window_are_movable, pageshare_window_cover, pageshare_window_detach, pageshare_window_find_facts, pageshare_window_give_up, pageshare_window_leave, pageshare_window_may_give_up, pageshare_window_may_go_on, pageshare_window_uncover, pageshare_window_unmap};
 pub use tasks::{WindowTask, pageshare_window_begin_tasks, pageshare_window_next_task, pageshare_window_task_done};
 pub use times::{pageshare_window_be_eager, pageshare_window_begin_times, pageshare_window_look_ended, pageshare_window_pause_ms};
