@@ -21,15 +21,16 @@ ghost use Rattle.page_looks.specs.Parts.{order_of, part_then};
 ghost use Rattle.window_pages.specs.Runs.{is_here_as, keeps_slot, lies_as};
 ghost use Rattle.pageshare_window_c.specs.Budgets.{ledger_of, rates};
 ghost use Rattle.window_pages.specs.Bytes.{known_of, notes_of};
-ghost use Rattle.window_pages.specs.Changed.{Becomes, Lends, given_back, lender_with, no_past};
+ghost use Rattle.window_pages.specs.Changed.{Becomes, Lends, given_back, lender_with};
 ghost use Rattle.window_pages.specs.Counted.{counts_then};
-ghost use Rattle.window_pages.specs.Known.{bars_of, chosen_as, lender_of, no_bars, shows_past, stays};
+ghost use Rattle.window_pages.specs.Known.{bars_of, chosen_as, lender_of, no_bars, stays};
 ghost use Rattle.pageshare_window_c.specs.Pages.{Takes, number_of};
 ghost use Rattle.pageshare_window_c.specs.Parts.{part_number};
 
 mod budget;
 mod finds;
 mod holds;
+pub mod home;
 mod laws;
 mod looks;
 mod mappings;
@@ -93,8 +94,8 @@ pub use times::{
 };
 pub use window_pages::{PartCounts, WindowFacts, WindowPage};
 use window_pages::{
-    alike, before_release, choose, forget, give_back, hear, here, is_free, next, see, stays,
-    stop_past, take, withdraw,
+    alike, before_release, choose, forget, give_back, hear, here, is_free, next, see, stays, take,
+    withdraw,
 };
 pub use window_tables::TableFacts;
 pub use window_tables::pins::Transfer;
@@ -333,14 +334,6 @@ pub extern "C" fn pageshare_window_give_back(
     ensures { Becomes (given_back is_zeros (known_of page.old)) false page.old page.new part.old part.new }
 {
     give_back(page, part, is_zeros);
-}
-
-/// Notes that a page shows no frame of a lender that is gone.
-#[unsafe(no_mangle)]
-pub extern "C" fn pageshare_window_stop_past(page: &mut WindowPage, part: &mut PartCounts)
-    ensures { Becomes (no_past (known_of page.old)) (shows_past (known_of page.old)) page.old page.new part.old part.new }
-{
-    stop_past(page, part);
 }
 
 /// Notes that what looks have found of a page counts no more.
