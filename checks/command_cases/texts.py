@@ -156,9 +156,13 @@ def terminals(subject: Subject, folder: pathlib.Path) -> None:
     none = str(folder / "none")
     cut_off = 'line 1 is cut off: expected "pageshare script 1" or "pageshare script 2", and a line feed behind it\n'
     rings = faults.ONE_GUEST.replace("ring", "rings")
+    journal, end = "pageshare journal 1\nframes 1\npages 1\n", '"end NUMBER" with the number of request lines'
     for words, text, due in [
         (["replay"], read("close-alone.journal"), (0, "")),
         (["replay"], "pageshare journal 1\npages 1\n", (1, 'line 2: expected "frames NUMBER"\n')),
+        (["replay"], "pageshare journal 1\nframes 1\npage 1\n", (1, 'line 3: expected "pages NUMBER .."\n')),
+        (["replay"], journal + "1 close\n", (1, 'line 4: expected a guest of the "pages" line, counted from 0\n')),
+        (["replay"], journal + "0 close\nend 2\n", (1, f"the number of request lines is wrong: expected {end}\n")),
         (["run"], "", (1, cut_off)),
         (["serial"], rings, (1, 'line 4: expected "ring NUMBER"; in version 2 "salts NUMBER .."\n')),
         (["replay", none], "", (1, f"fault read\n{none}: {MISSING}\n")),
