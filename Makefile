@@ -120,8 +120,8 @@ bench: out/pageshare out/page_bench
 
 bench-v3: out/pageshare-v3 out/page_bench-v3 bench
 
-# The library for C and Rust, left at out/libpageshare.a, or for x86-64-v3 at out/v3/libpageshare.a, with its
-# examples and tests. What this computer has no program for is skipped, and reported.
+# The library for C and Rust, left at out/libpageshare.a, or for x86-64-v3 at out/v3/libpageshare.a, with its examples and tests; with
+# FULL=1 also 4,294,967,295 requests, in about a minute. What this computer has no program for is skipped, and reported.
 embed: out/$(FOLDER)libpageshare.a
 	checks/embed.sh $<
 
@@ -148,7 +148,8 @@ out/v3/proved.a: $(SOURCES)
 	tools/build.py pageshare_c $@ --cpu x86-64-v3
 
 # A host for processes of virtual machine monitors (docs/HOST.md), and the library that is preloaded into them.
-# `make host CHECK=1` (root) runs checks/host.py and benches/host.py over them, and FIGURE=1 draws what 1 to 8 guests share.
+# `make host CHECK=1` (root) runs checks/host.py and benches/host.py over them, and FIGURE=1 draws what 1 to 8 guests share. INSTALL=1
+# gets the Debian packages that they need.
 host: $(HOST_PRODUCTS)
 	$(if $(CHECK),checks/host.py && benches/host.py)
 	$(if $(FIGURE),benches/host.py figure)
