@@ -14,6 +14,7 @@ SLOW = {"PAGESHARE_PERIOD_MS": "1000", "PAGESHARE_FILTER": "0"}
 def case_filter() -> None:
     """With a filter the library is told of calls past the C library before they are made; beside signals, threads and forks."""
     run_parts([f"raw-{name}" for name in RAW], more={"PAGESHARE_FILTER": "1"}, program="raw_calls")
+    run_parts(("orphan",), more={"PAGESHARE_FILTER": "1"}, program="waits")
 
 
 def case_filter_by_itself() -> None:

@@ -1,23 +1,27 @@
 /*
- * A stand-in for a monitor, of which some calls take long: waits range|end|guard|disk|locks. Others mustn't wait for them.
+ * A stand-in for a monitor, of which some calls take long: waits range|end|guard|disk|locks|orphan. Others mustn't wait for them.
  *   range   a range becomes a window while reading the process's mappings takes a second each time;
  *   end     all pages get memory of their own before the monitor watches for missing pages by a userfaultfd;
  *   guard   and where they are before it guards them against writes by one;
  *   locks   memory elsewhere is locked and unlocked, and reading the mappings takes long: it is read within a tenth of the thread's share;
  *   disk    threads read by O_DIRECT with many buffers each, and idle pages between these are lent.
+ *   orphan  a child makes a call that is shown (PAGESHARE_FILTER=1), and the process ends before it has answered.
  * Prints figures, and what isn't so. Status 0 if all is so, 77 if it is left out, else 1.
  */
 #define _GNU_SOURCE
 #include "offered.h"
 #include <errno.h>
 #include <fcntl.h>
+#include <linux/aio_abi.h>
 #include <linux/userfaultfd.h>
+#include <poll.h>
 #include <pthread.h>
 #include <stdarg.h>
 #include <stdatomic.h>
 #include <sys/ioctl.h>
 #include <sys/syscall.h>
 #include <sys/uio.h>
+#include <sys/wait.h>
 #include <time.h>
 
 enum { PAGE = 4096, LEFT_OUT = 77 };
@@ -46,6 +50,27 @@ __attribute__((visibility("default"))) int open(const char *path, int flags, ...
         if (atomic_load(&dear_ms) == 0) sleep(1);
     }
     return (int)syscall(SYS_openat, AT_FDCWD, path, flags, mode);
+}
+
+static atomic_bool is_asking_slow;
+
+/* As the C library's, but that it takes long to find out whose thread something is. */
+__attribute__((visibility("default"))) long syscall(long number, ...) {
+    enum { WORDS = 6, ERRORS = 4095 };
+    long words[WORDS], status;
+    va_list more;
+    va_start(more, number);
+    for (size_t i = 0; i < WORDS; i++) words[i] = va_arg(more, long);
+    va_end(more);
+    if (number == SYS_tgkill && atomic_load(&is_asking_slow)) usleep(500000);
+    register long fourth __asm__("r10") = words[3], fifth __asm__("r8") = words[4], sixth __asm__("r9") = words[5];
+    __asm__ volatile("syscall"
+                     : "=a"(status)
+                     : "a"(number), "D"(words[0]), "S"(words[1]), "d"(words[2]), "r"(fourth), "r"(fifth), "r"(sixth)
+                     : "rcx", "r11", "memory");
+    if (status >= 0 || status < -ERRORS) return status;
+    errno = (int)-status;
+    return -1;
 }
 
 static double now(void) { return clock_of(CLOCK_MONOTONIC); }
@@ -212,14 +237,35 @@ static int busy_disk(void) {
     return are_lent ? 0 : 1;
 }
 
+static int orphan(void) {
+    enum { SECONDS = 20 };
+    int ends[2];
+    char byte = 0;
+    if (pipe(ends) != 0) return perror("pipe"), 1;
+    pid_t sharing = fork();
+    if (sharing == 0) {
+        aio_context_t context = 0;
+        offer(make_memory(64), 64);
+        atomic_store(&is_asking_slow, true);
+        if (fork() == 0) _exit(syscall(SYS_io_setup, 1, &context) == 0 && write(ends[1], "x", 1) == 1 ? 0 : 1);
+        usleep(200000);
+        _exit(0);
+    }
+    close(ends[1]);
+    struct pollfd end = {.fd = ends[0], .events = POLLIN};
+    bool is_answered = waitpid(sharing, NULL, 0) == sharing && poll(&end, 1, 1000 * SECONDS) == 1 && read(ends[0], &byte, 1) == 1;
+    return is_answered ? 0 : (puts("the call isn't answered"), 1);
+}
+
 int main(int count, char **words) {
     const char *way = count == 2 ? words[1] : "";
-    int status = strcmp(way, "range") == 0   ? range()
-                 : strcmp(way, "end") == 0   ? end(false)
-                 : strcmp(way, "guard") == 0 ? end(true)
-                 : strcmp(way, "disk") == 0  ? busy_disk()
-                 : strcmp(way, "locks") == 0 ? locks()
-                                             : 2;
+    int status = strcmp(way, "range") == 0    ? range()
+                 : strcmp(way, "end") == 0    ? end(false)
+                 : strcmp(way, "guard") == 0  ? end(true)
+                 : strcmp(way, "disk") == 0   ? busy_disk()
+                 : strcmp(way, "locks") == 0  ? locks()
+                 : strcmp(way, "orphan") == 0 ? orphan()
+                                              : 2;
     fflush(stdout);
     return status;
 }

@@ -12,6 +12,7 @@
 #include <poll.h>
 #include <semaphore.h>
 #include <stdatomic.h>
+#include <sys/mman.h>
 #include <sys/prctl.h>
 
 /* From Linux 5.19 on; older headers lack it. */
@@ -196,19 +197,34 @@ static bool is_to_wait(int thread) {
     return is_own && !sharing_is_inside_of(thread);
 }
 
-/* Takes one call and answers it. `is_standing_by`: what the call does is nothing to this process. Returns false if there are no more. */
-static bool answer_one(int from, bool is_standing_by) {
-    struct shown shown = {.room = {0}};
+static void send_answer(int to, const struct answer *answer) {
+    filter_call(SYS_ioctl, to, (long)SECCOMP_IOCTL_NOTIF_SEND, (long)answer, 0, 0);
+}
+
+/* Takes one call, as it is shown there, and answers it. `is_standing_by`: what the call does is nothing to this process. Returns false if there
+ * are no more. */
+static bool answer_one(int from, struct shown *shown, bool is_standing_by) {
     struct answer answer = {.room = {0}};
-    if (filter_call(SYS_ioctl, from, (long)SECCOMP_IOCTL_NOTIF_RECV, (long)&shown, 0, 0) < 0) {
+    *shown = (struct shown){.room = {0}};
+    if (filter_call(SYS_ioctl, from, (long)SECCOMP_IOCTL_NOTIF_RECV, (long)shown, 0, 0) < 0) {
         struct pollfd wait = {.fd = from, .events = POLLIN};
         return poll(&wait, 1, -1) >= 0 ? (wait.revents & (POLLNVAL | POLLERR)) == 0 : errno == EINTR;
     }
-    answer.reply.id = shown.call.id;
-    if (!is_standing_by && is_to_wait((int)shown.call.pid)) prepare(&shown.call.data, &answer);
+    answer.reply.id = shown->call.id;
+    if (!is_standing_by && is_to_wait((int)shown->call.pid)) prepare(&shown->call.data, &answer);
     else let(&answer);
-    filter_call(SYS_ioctl, from, (long)SECCOMP_IOCTL_NOTIF_SEND, (long)&answer, 0, 0);
+    send_answer(from, &answer);
     return true;
+}
+
+/* What was shown last to the process that has the listener: in memory that children share with it. */
+static struct shown *last_shown;
+
+static bool make_room_for_shown(void) {
+    const int kind = MAP_SHARED | MAP_ANONYMOUS;
+    void *at = mmap(NULL, sizeof *last_shown, PROT_READ | PROT_WRITE, kind, NOTHING, 0);
+    last_shown = at == MAP_FAILED ? NULL : at;
+    return last_shown != NULL;
 }
 
 static void *listen(void *unused) {
@@ -216,7 +232,7 @@ static void *listen(void *unused) {
     ask_for_short_slices(); /* (callers wait for this thread) */
     while (sem_wait(&begun) != 0) {
     }
-    while (filter_is_on() && answer_one(atomic_load(&listener), false)) {
+    while (filter_is_on() && answer_one(atomic_load(&listener), last_shown, false)) {
     }
     return unused;
 }
@@ -234,13 +250,24 @@ static bool outlives_owner(void) {
            (end.revents & POLLIN) != 0; /* (nothing is closed: the number may be another file's of the child by now) */
 }
 
+/* Lets the call go on that the process with the listener had taken, if it ended before it answered: the system shows no call twice. */
+static void answer_last(int to) {
+    struct answer answer = {.reply = {.id = last_shown->call.id}};
+    let(&answer);
+    send_answer(to, &answer);
+}
+
 /* A child of a fork has the filter, too. The process that has the listener answers its calls; and once that has ended, the child itself. */
 static void *stand_by(void *unused) {
+    struct shown shown;
     int from = atomic_load(&listener);
-    if (!outlives_owner()) syscall(SYS_close, from); /* (once there is no listener any more such calls fail) */
-    else
-        while (answer_one(from, true)) {
-        }
+    if (!outlives_owner()) {
+        syscall(SYS_close, from); /* (once there is no listener any more such calls fail) */
+        return unused;
+    }
+    answer_last(from);
+    while (answer_one(from, &shown, true)) {
+    }
     return unused;
 }
 
@@ -273,8 +300,8 @@ void filter_begin(void) {
     bool is_asked;
     if (!is_wanted(&is_asked)) return;
     atomic_store(&process, getpid());
-    bool can =
-        sem_init(&begun, 0, 0) == 0 && has_sizes() && pthread_atfork(NULL, NULL, begin_child) == 0 && signals_start(listen);
+    bool can = sem_init(&begun, 0, 0) == 0 && has_sizes() && make_room_for_shown() &&
+               pthread_atfork(NULL, NULL, begin_child) == 0 && signals_start(listen);
     int made = can ? install() : NOTHING;
     if (made < 0 && is_asked) log_line("PAGESHARE_FILTER=1: %s; calls past the C library are found by scans", strerror(errno));
     if (made >= 0) atomic_store(&listener, sharing_own(made));
