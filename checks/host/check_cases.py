@@ -14,7 +14,7 @@ from collections.abc import Mapping, Sequence
 
 import bounds_cases
 from harness import StrPath
-from places import AS_NOBODY, HERE, compile_shim, in_time, must, until
+from places import AS_NOBODY, CC, FLAGS, HERE, TOP, LeftOut, compile_shim, in_time, must, until
 from qemu_guests import NOBODY
 
 # What is said of any computer.
@@ -87,6 +87,8 @@ def case_check() -> None:
         must(len(text.splitlines()) < LINES_OF_SCREEN and "right: each byte was as written" in text and status == 0, f"status {status}: {text}")
         counts = [number(it, text) for it in ("pages compared", "written", "discarded", "children", "pages lent")]
         must(all(counts), f"counts {counts}: {text}")
+        due = r"guest of some instructions under KVM: [1-9]\d* pages" if name == "root" and os.access("/dev/kvm", os.W_OK) else "guest under KVM"
+        must(re.search(due, text), f"no word of {due}: {text}")
         in_time(re.search(r"at most [1-9]\d*\.\d MiB", text), f"less than 1 MiB was reclaimed: {text}")
     for words in (["--check", "--seconds", "0"], ["--check", "--seconds"], ["--check", "now"]):
         ran = subprocess.run([HERE.host, *words], capture_output=True, text=True)
@@ -94,6 +96,17 @@ def case_check() -> None:
     other = shutil.copy(HERE.host, HERE.place.room / "check-root")
     ran = subprocess.run([other, "--check", "--seconds", "1"], capture_output=True, text=True)
     must(ran.returncode == 1 and "there is no libpageshare-window.so" in ran.stdout, f"without a library: {ran}")
+
+
+def case_check_guest() -> None:
+    """A guest of --check fills pages by KVM, and finds each that isn't as it was filled."""
+    program = HERE.place.room / "tiny"
+    words: list[StrPath] = [CC, *FLAGS, f"-I{TOP / 'host'}", "-o", program, TOP / "checks/host/tiny.c", TOP / "host/check/tiny.c"]
+    must(subprocess.run(words).returncode == 0, "tiny.c doesn't compile")
+    ran = subprocess.run([program], capture_output=True, text=True)
+    if ran.returncode == 3:
+        raise LeftOut(f"guests under KVM: {ran.stdout.strip()}")
+    must(ran.returncode == 0 and " 0 wrong" in ran.stdout, f"{ran}")
 
 
 def case_check_denied() -> None:

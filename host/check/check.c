@@ -58,6 +58,10 @@ static void say_trial(const struct trial *trial, unsigned seconds) {
            (unsigned long long)done->compared, (unsigned long long)done->written, (unsigned long long)done->discarded,
            (unsigned long long)done->children, (unsigned long long)trial->lends,
            (double)trial->reclaimed_most * PAGE / (1 << 20));
+    if (done->kvm_cause == 0)
+        printf("  each process had a guest of some instructions under KVM: %llu pages compared by these\n",
+               (unsigned long long)done->by_guest);
+    else printf("  no guest under KVM: /dev/kvm: %s\n", strerror((int)done->kvm_cause));
     if (trial->is_right) printf("right: each byte was as written\n");
     else printf("WRONG: %s\n", trial->why);
 }

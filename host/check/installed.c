@@ -102,7 +102,7 @@ static void check_kvm(void) {
     int device = open("/dev/kvm", O_RDWR | O_CLOEXEC);
     int version = device >= 0 ? ioctl(device, KVM_GET_API_VERSION, 0) : NOTHING;
     if (version >= 0)
-        check_say(FOUND_NOTE, "KVM", NULL, "interface %d; guests under KVM were never tried, nor does this command", version);
+        check_say(FOUND_NOTE, "KVM", NULL, "interface %d; the trial has guests of its own, and QEMU's were never tried", version);
     else check_say(FOUND_NOTE, "KVM", NULL, "/dev/kvm: %s", strerror(errno));
     if (device >= 0) close(device);
 }

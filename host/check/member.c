@@ -1,5 +1,9 @@
 #define _GNU_SOURCE
-/* A process of the trial: two threads change pages that are offered for sharing, and compare each with a shadow that isn't. */
+/*
+ * A process of the trial: two threads change pages that are offered for sharing, and compare each with a shadow that isn't. Where there is KVM,
+ * a guest of a third thread's does so with pages of its own.
+ */
+#include "tiny.h"
 #include "trial.h"
 #include "trouble.h"
 #include <pthread.h>
@@ -9,13 +13,15 @@
 #include <sys/wait.h>
 
 enum {
-    PAGES = MEMBER_MIB * (1 << 20) / PAGE,
+    WORKED = MEMBER_MIB * (1 << 20) / PAGE,
+    PAGES = WORKED + TINY_PAGES_MOST, /* the last are a guest's */
     THREADS = 2,
-    OWN = PAGES / THREADS, /* pages of a thread, which no other thread touches */
-    HOT = OWN / 8,         /* the first of these, to which it comes more often */
-    CONTENTS = 300,        /* that pages of all processes have */
-    RUN_MOST = 16,         /* pages that are discarded together */
-    STEPS = 16,            /* between two pauses */
+    OWN = WORKED / THREADS, /* pages of a thread, which no other thread touches */
+    HOT = OWN / 8,          /* the first of these, to which it comes more often */
+    CONTENTS = 300,         /* that pages of all processes have */
+    RUN_MOST = 16,          /* pages that are discarded together */
+    STEPS = 16,             /* between two pauses; a guest's are one by one */
+    WORDS = 40,             /* that fill pages of all guests */
     FORK_US = 250000
 };
 static const struct timespec pause_of_steps = {.tv_nsec = 2000000};
@@ -27,7 +33,7 @@ static atomic_int outcome; /* the process's status: the first thing that went wr
 struct worker {
     pthread_t thread;
     uint64_t seed;
-    size_t first; /* of its own pages */
+    size_t first, count; /* its own pages */
     struct member_counts done;
 };
 
@@ -74,7 +80,7 @@ static void write_some(struct worker *worker, size_t page) {
 }
 
 static void discard(struct worker *worker, size_t page) {
-    size_t left = worker->first + OWN - page, pages = 1 + draw(worker, RUN_MOST);
+    size_t left = worker->first + worker->count - page, pages = 1 + draw(worker, RUN_MOST);
     if (pages > left) pages = left;
     if (madvise(memory + page * PAGE, pages * PAGE, MADV_DONTNEED) != 0) {
         if (note(MEMBER_CANT)) trouble("madvise (MADV_DONTNEED)");
@@ -85,7 +91,7 @@ static void discard(struct worker *worker, size_t page) {
 }
 
 static void step(struct worker *worker) {
-    size_t page = worker->first + draw(worker, draw(worker, 4) == 0 ? OWN : HOT);
+    size_t page = worker->first + draw(worker, draw(worker, 4) == 0 ? worker->count : HOT);
     uint64_t what = draw(worker, 32);
     compare("before a write", page);
     worker->done.compared++;
@@ -104,6 +110,48 @@ static void *work(void *of) {
     struct worker *worker = of;
     while (!atomic_load(&is_over) && atomic_load(&outcome) == 0) {
         for (int i = 0; i < STEPS; i++) step(worker);
+        nanosleep(&pause_of_steps, NULL);
+    }
+    return NULL;
+}
+
+/* ---- a guest under KVM ---- */
+
+static void fill_page(uint8_t *at, uint16_t word) {
+    for (size_t i = 0; i < PAGE; i += sizeof word) memcpy(at + i, &word, sizeof word);
+}
+
+/* Changes a page of the guest's: by the guest, by this process, or by giving it up. Returns false, with errno, where KVM doesn't run the guest. */
+static bool change(struct worker *worker, size_t page) {
+    uint16_t word = (uint16_t)draw(worker, draw(worker, 8) == 0 ? 1 << 16 : WORDS);
+    uint64_t what = draw(worker, 8);
+    if (what == 0) discard(worker, page);
+    if (what == 0 || what > 3) return true;
+    fill_page(shadow + page * PAGE, word);
+    worker->done.written++;
+    if (what > 1) return tiny_fill(page - worker->first, word);
+    fill_page(memory + page * PAGE, word);
+    return true;
+}
+
+/* The guest compares a page, whose words are all the same; then it may be changed. */
+static bool step_of_guest(struct worker *worker) {
+    size_t page = worker->first + draw(worker, worker->count);
+    uint16_t word;
+    bool is_so = false;
+    memcpy(&word, shadow + page * PAGE, sizeof word);
+    if (!tiny_compare(page - worker->first, word, &is_so)) return false;
+    worker->done.by_guest++;
+    if (!is_so && note(MEMBER_WRONG))
+        log_line("process %d: page %zu isn't filled with %04x for its guest under KVM", (int)getpid(), page, word);
+    return change(worker, page);
+}
+
+static void *work_by_guest(void *of) {
+    bool is_good = true;
+    while (is_good && !atomic_load(&is_over) && atomic_load(&outcome) == 0) {
+        is_good = step_of_guest(of);
+        if (!is_good && note(MEMBER_CANT)) trouble("a guest under KVM");
         nanosleep(&pause_of_steps, NULL);
     }
     return NULL;
@@ -134,7 +182,7 @@ static bool make_memory(void) {
     memory = mmap(NULL, bytes, rights, kind, -1, 0);
     shadow = mmap(NULL, bytes, rights, kind, -1, 0);
     if (memory == MAP_FAILED || shadow == MAP_FAILED) return trouble("memory for the trial");
-    for (size_t page = 0; page < PAGES; page++)
+    for (size_t page = 0; page < WORKED; page++)
         if (page % 8 != 0) write_page(page, page % CONTENTS);
     /* (the kernel may have no KSM; the library takes the offer all the same) */
     madvise(memory, bytes, MADV_MERGEABLE);
@@ -150,10 +198,13 @@ static void fork_until(uint64_t end_ns, struct member_counts *done) {
     }
 }
 
-static bool start_threads(struct worker workers[THREADS]) {
-    for (size_t i = 0; i < THREADS; i++) {
-        workers[i] = (struct worker){.seed = (uint64_t)getpid() * THREADS + i, .first = i * OWN};
-        int cause = pthread_create(&workers[i].thread, NULL, work, &workers[i]);
+/* The last worker has a guest. */
+static bool start_threads(struct worker *workers, size_t count) {
+    for (size_t i = 0; i < count; i++) {
+        const bool has_guest = i == THREADS;
+        workers[i] =
+            (struct worker){.seed = (uint64_t)getpid() * count + i, .first = i * OWN, .count = has_guest ? TINY_PAGES_MOST : OWN};
+        int cause = pthread_create(&workers[i].thread, NULL, has_guest ? work_by_guest : work, &workers[i]);
         if (cause != 0) return (errno = cause, trouble("a thread of the trial")); /* (the others end with the process) */
     }
     return true;
@@ -168,14 +219,18 @@ static void compare_at_end(struct member_counts *done) {
 }
 
 int member_run(unsigned seconds) {
-    struct worker workers[THREADS];
+    struct worker workers[THREADS + 1];
     struct member_counts done = {0};
     prctl(PR_SET_NAME, "pageshare-check");
-    if (!make_memory() || !start_threads(workers)) return MEMBER_CANT;
+    if (!make_memory()) return MEMBER_CANT;
+    done.kvm_cause = (uint64_t)tiny_make(memory + (size_t)WORKED * PAGE, TINY_PAGES_MOST);
+    const size_t count = done.kvm_cause == 0 ? THREADS + 1 : THREADS;
+    if (!start_threads(workers, count)) return MEMBER_CANT;
     fork_until(now_ns() + (uint64_t)seconds * 1000000000u, &done);
     atomic_store(&is_over, true);
-    for (size_t i = 0; i < THREADS; i++) {
+    for (size_t i = 0; i < count; i++) {
         pthread_join(workers[i].thread, NULL);
+        done.by_guest += workers[i].done.by_guest;
         done.compared += workers[i].done.compared;
         done.written += workers[i].done.written;
         done.discarded += workers[i].done.discarded;

@@ -158,6 +158,8 @@ static void add_counts(struct trial *trial, int from) {
     trial->done.written += counts.written;
     trial->done.discarded += counts.discarded;
     trial->done.children += counts.children;
+    trial->done.by_guest += counts.by_guest;
+    if (counts.kvm_cause != 0) trial->done.kvm_cause = counts.kvm_cause;
 }
 
 /* Looks which members have ended, and how. Returns how many run still. */

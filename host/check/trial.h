@@ -1,6 +1,6 @@
 /*
  * A trial of sharing: a host of its own and some processes under the library, which share, write, discard and fork beside a shadow of
- * every byte. All of it is gone when it ends, also by SIGINT, SIGTERM or SIGHUP.
+ * every byte, as do guests of theirs where there is KVM. All of it is gone when it ends, also by SIGINT, SIGTERM or SIGHUP.
  */
 #ifndef HOST_TRIAL_H
 #define HOST_TRIAL_H
@@ -14,6 +14,8 @@ enum { TRIAL_MEMBERS = 3, MEMBER_MIB = 8 };
 struct member_counts {
     uint64_t compared, written, discarded; /* pages */
     uint64_t children;
+    uint64_t by_guest;  /* pages that its guest under KVM compared */
+    uint64_t kvm_cause; /* why it has none: an errno, or 0 */
 };
 
 struct trial {
