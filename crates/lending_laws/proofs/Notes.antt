@@ -93,7 +93,7 @@ each_step_tells outcome old new part after t = pick outcome (is_taken outcome (k
 -- ---- looks
 
 -- what is known of a page stays
-known_stays : (p : ℕ) (w : Mappings) (pending : Pending) (old new : WindowPage) → known_of new ≡ known_of old → Calls p w old pending new pending
+pub known_stays : (p : ℕ) (w : Mappings) (pending : Pending) (old new : WindowPage) → known_of new ≡ known_of old → Calls p w old pending new pending
 known_stays p w pending old new e = notes old new pending (record {
   belief = ap (λ k. k.belief) e;
   ordered = ap (λ k. k.ordered) e;

@@ -3,6 +3,7 @@
 //! The laws hold for every history. The functions do nothing: the contract is all there is.
 #![tactic(auto)]
 
+ghost use Rattle.lending_laws.specs.Batches.{EachIsHistory, EachNoteGoes};
 ghost use Rattle.lending_laws.specs.Histories.{CarriedOut, Given, IsTold};
 ghost use Rattle.lending_laws.specs.Holds.{EachComparisonIsTrue, EachHoldReadsTheSame, EachRowIsHeld, EachStepAgrees, EachTruthIsInBytes, EachZeroIsTrue};
 ghost use Rattle.lending_laws.specs.Looks.{EachStepReadsWhatItMay};
@@ -43,6 +44,8 @@ pub fn calls_law()
     ensures detached { EachIsDetached }
     ensures steps { EachStepTells }
     ensures looks { EachLookIsCalls }
+    ensures history { EachIsHistory }
+    ensures noted { EachNoteGoes }
 {}
 
 /// With a host that gives only slots that it hasn't given: *each slot that it gave and hasn't got back is exactly one page's*, at each

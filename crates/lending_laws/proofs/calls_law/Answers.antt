@@ -1,3 +1,4 @@
+use Rattle.lending_laws.proofs.Batches.{each_is_history, each_note_goes}
 use Rattle.lending_laws.proofs.Notes.{each_is_detached, each_look_is_calls, each_note_is_a_call, each_step_tells}
 use Rattle.lending_laws.proofs.calls_law.Goals as goal
 
@@ -12,3 +13,9 @@ returns-clause-looks c = each_look_is_calls
 
 pub returns-clause-detached : goal.returns-clause-detached
 returns-clause-detached c = each_is_detached
+
+pub returns-clause-history : goal.returns-clause-history
+returns-clause-history c = each_is_history
+
+pub returns-clause-noted : goal.returns-clause-noted
+returns-clause-noted c = each_note_goes

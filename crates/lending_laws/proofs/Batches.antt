@@ -1,0 +1,204 @@
+-- Calls for many pages at once are calls of a history, one page after another.
+use Rattle.std.proofs.Common.{◌≡◌, ◌∙◌, ℕ, zero, suc, ◌+◌, ◌-◌, ◌<◌, ◌≤◌, ◌⊎◌, inl, inr, Bool, true, false, cond, List, [], ◌∷◌, ◌++◌, length, Some, None, refl, ap, sym, subst, arith}
+use Rattle.std.specs.Prelude.{nat_eq, slice_get, slice_set}
+use Rattle.std.proofs.Math.Seq.{set-append_seam}
+use Rattle.std.proofs.lemmas.Bool.{cases_lt, eqb-false, eqb-true}
+use Rattle.std.proofs.lemmas.List.{length-append}
+use Rattle.window_pages.specs.Lives.{OneChanges}
+use Rattle.window_pages.specs.declared.page.WindowPage.{WindowPage}
+use Rattle.window_tables.proofs.Places.{set_length, set_other, set_own}
+use Rattle.std.proofs.lemmas.Option.{slice_get_within}
+use Rattle.window_events.specs.Windows.{Mappings}
+use Rattle.window_pages.specs.Bytes.{known_of}
+use Rattle.window_tables.specs.Changes.{IsBehind, NowBegins, RangeChanged, marks}
+use Rattle.window_tables.specs.declared.changes.Change.{Change}
+use Rattle.lending_laws.proofs.Kept.{IsKept, history_kept}
+use Rattle.lending_laws.proofs.Notes.{each_note_is_a_call, known_stays}
+use Rattle.lending_laws.specs.Batches.{AreTruly, EachIsHistory, EachNoteGoes, Goes, Reaches}
+use Rattle.lending_laws.specs.Notes.{IsTruly}
+use Rattle.lending_laws.specs.Batches as goes
+use Rattle.lending_laws.specs.Histories.{Calls, CallsAt, History, Moment, OneIs, Pending, Reads, calls, is_told, notes}
+
+pub each_is_history : EachIsHistory
+each_is_history may_give first count old is h goes.stays = h
+each_is_history may_give first count old is h (goes.calls now next i g c) = calls now is i (each_is_history may_give first count old now h g) c
+each_is_history may_give first count old is h (goes.is_told now next i g t) = is_told now is i (each_is_history may_give first count old now h g) t
+
+-- ---- one page of a list becomes another
+
+pub one_changes : (xs : List WindowPage) (i : ℕ) (x y : WindowPage) → slice_get xs i ≡ Some x → OneChanges i x y xs (slice_set xs i y)
+one_changes xs i x y e = record {
+  before = e;
+  after = set_own xs i x y e;
+  others = λ j n. set_other xs i j y (λ s. n (sym s));
+  count = set_length xs i y;
+}
+
+-- what is pending of one page becomes this
+abbrev pub with_pending : ℕ → Pending → (ℕ → Pending) → ℕ → Pending
+with_pending i pending orders j = cond (nat_eq j i) pending (orders j)
+
+own_pending : (i : ℕ) (pending before : Pending) → cond (nat_eq i i) pending before ≡ pending
+own_pending i pending before = pick (nat_eq i i) refl where
+  pick : (b : Bool) → nat_eq i i ≡ b → cond b pending before ≡ pending
+  pick true e = refl
+  pick false e = absurd (eqb-false i i e refl)
+
+other_pending : (i j : ℕ) (pending before : Pending) → (j ≡ i → ⊥) → cond (nat_eq j i) pending before ≡ before
+other_pending i j pending before n = pick (nat_eq j i) refl where
+  pick : (b : Bool) → nat_eq j i ≡ b → cond b pending before ≡ before
+  pick true e = absurd (n (eqb-true j i e))
+  pick false e = refl
+
+pub one_is : (i : ℕ) (pending : Pending) (orders : ℕ → Pending) → OneIs i pending orders (with_pending i pending orders)
+one_is i pending orders = record { own = own_pending i pending (orders i); others = λ j n. other_pending i j pending (orders j) n }
+
+-- a moment after a call for one page
+abbrev pub after_call : Moment → ℕ → WindowPage → Pending → Moment
+after_call m i y pending = record m { pages = slice_set m.pages i y; orders = with_pending i pending m.orders }
+
+pub call_at : (first i : ℕ) (m : Moment) (x y : WindowPage) (pending : Pending) → slice_get m.pages i ≡ Some x → Calls (first + i) m.world x (m.orders i) y pending →
+    CallsAt first i m (after_call m i y pending)
+call_at first i m x y pending e c = record {
+  before = x;
+  after = y;
+  pages = one_changes m.pages i x y e;
+  pending = pending;
+  call = c;
+  orders = one_is i pending m.orders;
+  slots = refl;
+  stored = refl;
+  world = refl;
+}
+
+-- ---- many pages
+
+-- The page at a place becomes this by calls and outcomes. Orders of other pages stay.
+pub record Turns (may_give : (ℕ → Bool) → ℕ → Bool) (first : ℕ) (old : Moment) (i : ℕ) (y : WindowPage) : Type 0 where
+  pub new : Moment
+  pub goes : Goes may_give first old new
+  pub has : new.pages ≡ slice_set old.pages i y
+  pub others : (j : ℕ) → (j ≡ i → ⊥) → new.orders j ≡ old.orders j
+  pub stored : new.stored ≡ old.stored
+  pub world : new.world ≡ old.world
+
+pub joined : (may_give : (ℕ → Bool) → ℕ → Bool) (first : ℕ) (a b c : Moment) → Goes may_give first a b → Goes may_give first b c → Goes may_give first a c
+joined g first a b c s goes.stays = s
+joined g first a b c s (goes.calls now next i t e) = goes.calls now c i (joined g first a b now s t) e
+joined g first a b c s (goes.is_told now next i t e) = goes.is_told now c i (joined g first a b now s t) e
+
+-- a turn by one call
+pub one_call : (may_give : (ℕ → Bool) → ℕ → Bool) (first i : ℕ) (m : Moment) (x y : WindowPage) (pending : Pending) → slice_get m.pages i ≡ Some x → Calls (first + i) m.world x (m.orders i) y pending →
+    Turns may_give first m i y
+one_call g first i m x y pending e c = record {
+  new = after_call m i y pending;
+  goes = goes.calls m (after_call m i y pending) i goes.stays (call_at first i m x y pending e c);
+  has = refl;
+  others = λ j n. other_pending i j pending (m.orders j) n;
+  stored = refl;
+  world = refl;
+}
+
+-- what each turn of a list needs: the page that was there first, and whose order is as it was
+abbrev pub CanTurn : ((ℕ → Bool) → ℕ → Bool) → ℕ → Moment → ℕ → WindowPage → WindowPage → Type 0
+CanTurn g first m i x y = (k : Moment) → k.world ≡ m.world → k.stored ≡ m.stored → k.orders i ≡ m.orders i → slice_get k.pages i ≡ Some x → Turns g first k i y
+
+seam_get : (pre xs : List WindowPage) (x : WindowPage) → slice_get (pre ++ x ∷ xs) (length pre) ≡ Some x
+seam_get [] xs x = refl
+seam_get (p ∷ pre) xs x = seam_get pre xs x
+
+one_more : (pre xs : List WindowPage) (y : WindowPage) → (pre ++ y ∷ []) ++ xs ≡ pre ++ y ∷ xs
+one_more [] xs y = refl
+one_more (p ∷ pre) xs y = ap (λ l. p ∷ l) (one_more pre xs y)
+
+one_longer : (pre : List WindowPage) (y : WindowPage) → length (pre ++ y ∷ []) ≡ suc (length pre)
+one_longer [] y = refl
+one_longer (p ∷ pre) y = ap suc (one_longer pre y)
+
+rest_goes : (g : (ℕ → Bool) → ℕ → Bool) (first : ℕ) (m now : Moment) (pre xs ys : List WindowPage) → Goes g first m now → now.pages ≡ pre ++ xs → now.stored ≡ m.stored → now.world ≡ m.world →
+    ((j : ℕ) → now.orders (length pre + j) ≡ m.orders (length pre + j)) → length xs ≡ length ys →
+    ((j : ℕ) (x y : WindowPage) → slice_get xs j ≡ Some x → slice_get ys j ≡ Some y → CanTurn g first m (length pre + j) x y) → Reaches g first m (pre ++ ys)
+rest_goes g first m now pre [] [] s is stored world orders l turns = record { new = now; goes = s; has = is; stored = stored; world = world }
+rest_goes g first m now pre [] (y ∷ ys) s is stored world orders l turns = cc
+rest_goes g first m now pre (x ∷ xs) [] s is stored world orders l turns = cc
+rest_goes g first m now pre (x ∷ xs) (y ∷ ys) s is stored world orders l turns =
+    let at : length pre + 0 ≡ length pre = omega arith in
+    let here : slice_get now.pages (length pre) ≡ Some x = subst (λ v. slice_get v (length pre) ≡ Some x) (sym is) (seam_get pre xs x) in
+    let can : CanTurn g first m (length pre) x y = subst (λ i. CanTurn g first m i x y) at (turns 0 x y refl refl) in
+    let order : now.orders (length pre) ≡ m.orders (length pre) = subst (λ i. now.orders i ≡ m.orders i) at (orders 0) in
+    let t : Turns g first now (length pre) y = can now world stored order here in
+    let pages : t.new.pages ≡ (pre ++ y ∷ []) ++ xs = t.has ∙ ap (λ v. slice_set v (length pre) y) is ∙ set-append_seam pre x xs y ∙ sym (one_more pre xs y) in
+    let shift : (j : ℕ) → length pre + suc j ≡ length (pre ++ y ∷ []) + j = λ j. omega (arith, one_longer pre y) in
+    let apart : (j : ℕ) → length (pre ++ y ∷ []) + j ≡ length pre → ⊥ = λ j e. omega (arith, one_longer pre y, e) in
+    let more : (j : ℕ) → t.new.orders (length (pre ++ y ∷ []) + j) ≡ m.orders (length (pre ++ y ∷ []) + j) =
+        λ j. t.others (length (pre ++ y ∷ []) + j) (apart j) ∙ subst (λ i. now.orders i ≡ m.orders i) (shift j) (orders (suc j)) in
+    let rest : (j : ℕ) (a b : WindowPage) → slice_get xs j ≡ Some a → slice_get ys j ≡ Some b → CanTurn g first m (length (pre ++ y ∷ []) + j) a b =
+        λ j a b e f. subst (λ i. CanTurn g first m i a b) (shift j) (turns (suc j) a b e f) in
+    let r : Reaches g first m ((pre ++ y ∷ []) ++ ys) = rest_goes g first m t.new (pre ++ y ∷ []) xs ys (joined g first m now t.new s t.goes) pages (t.stored ∙ stored) (t.world ∙ world) more (suc_same xs ys l) rest in
+    subst (λ v. Reaches g first m v) (one_more pre ys y) r
+  where
+  suc_same : (xs ys : List WindowPage) → suc (length xs) ≡ suc (length ys) → length xs ≡ length ys
+  suc_same xs ys e = omega (arith, e)
+
+-- where each page of a window can become what it is in a list, the window gets these pages
+pub each_goes : (g : (ℕ → Bool) → ℕ → Bool) (first : ℕ) (m : Moment) (new : List WindowPage) → length m.pages ≡ length new →
+    ((i : ℕ) (x y : WindowPage) → slice_get m.pages i ≡ Some x → slice_get new i ≡ Some y → CanTurn g first m i x y) → Reaches g first m new
+each_goes g first m new l turns = rest_goes g first m m [] m.pages new goes.stays refl refl refl (λ j. refl) l
+    (λ j x y e f. subst (λ i. CanTurn g first m i x y) (from j) (turns j x y e f)) where
+  from : (j : ℕ) → j ≡ 0 + j
+  from j = omega arith
+
+-- ---- what is noted of many pages
+
+some_same : (x y : WindowPage) → Some x ≡ Some y → x ≡ y
+some_same x y e = cc
+
+-- a page that stays does by a call
+pub stays_call : (p : ℕ) (w : Mappings) (pending : Pending) (x y : WindowPage) → y ≡ x → Calls p w x pending y pending
+stays_call p w pending x y e = known_stays p w pending x y (ap known_of e)
+
+begins_call : (p : ℕ) (w : Mappings) (pending : Pending) (x y : WindowPage) → NowBegins x y → Calls p w x pending y pending
+begins_call p w pending x y b = notes x y pending (record {
+  belief = ap (λ k. k.belief) b.known;
+  ordered = ap (λ k. k.ordered) b.known;
+  place = λ page o f l. absurd (not_both (known_of y).over (ap (λ k. k.over) b.known ∙ o) f);
+}) where
+  not_both : (b : Bool) → b ≡ true → b ≡ false → ⊥
+  not_both b e f = cc
+
+behind_call : (change : Change) (count p : ℕ) (w : Mappings) (pending : Pending) (x y : WindowPage) → IsBehind change count x y → Calls p w x pending y pending
+behind_call change count p w pending x y b = pick (marks change count) refl where
+  pick : (m : Bool) → marks change count ≡ m → Calls p w x pending y pending
+  pick true e = begins_call p w pending x y (b.begins e)
+  pick false e = stays_call p w pending x y (b.same e)
+
+note_call : (first count from n : ℕ) (change : Change) (m : Moment) (new : List WindowPage) → IsKept first count m → RangeChanged change from n m.pages new → AreTruly change first from n m →
+    (i : ℕ) (pending : Pending) (x y : WindowPage) → slice_get m.pages i ≡ Some x → slice_get new i ≡ Some y → Calls (first + i) m.world x pending y pending
+note_call first count from n change m new kept r t i pending x y e f = elim (cases_lt i from) [
+  | inl below ↦ stays_call (first + i) m.world pending x y (some_same y x (sym f ∙ r.outside i (inl below) ∙ e))
+  | inr above ↦ elim (cases_lt i (from + n)) [
+    | inl inside ↦ within (i - from) (omega (arith, above)) (omega (arith, above, inside))
+    | inr past ↦ elim (cases_lt (from + n) i) [
+      | inl beyond ↦ stays_call (first + i) m.world pending x y (some_same y x (sym f ∙ r.outside i (inr beyond) ∙ e))
+      | inr edge ↦ at_edge (omega (arith, past, edge))
+    ]
+  ]
+] where
+  its : (j : ℕ) → from + j ≡ i → Reads m.world (first + i) (m.stored (first + i))
+  its j s = kept.reads i (omega (arith, slice_get_within m.pages i x e, kept.many))
+  within : (j : ℕ) → from + j ≡ i → j < n → Calls (first + i) m.world x pending y pending
+  within j s l =
+      let got : slice_get m.pages (from + j) ≡ Some x = subst (λ v. slice_get m.pages v ≡ Some x) (sym s) e in
+      let gets : slice_get new (from + j) ≡ Some y = subst (λ v. slice_get new v ≡ Some y) (sym s) f in
+      let truly : IsTruly change (first + i) m.world = subst (λ v. IsTruly change (first + v) m.world) s (t j l) in
+      each_note_is_a_call change j (first + i) m.world x y pending (its j s).page (r.inside j x y l got gets) (its j s).there truly
+  at_edge : from + n ≡ i → Calls (first + i) m.world x pending y pending
+  at_edge s = behind_call change n (first + i) m.world pending x y
+      (r.behind x y (subst (λ v. slice_get m.pages v ≡ Some x) (sym s) e) (subst (λ v. slice_get new v ≡ Some y) (sym s) f))
+
+pub each_note_goes : EachNoteGoes
+each_note_goes g first count lead from n change m new parts parts_new h noted t =
+    let r : RangeChanged change from n m.pages new = noted.pages refl in
+    let kept : IsKept first count m = history_kept g first count m h in
+    each_goes g first m new (sym r.length) (λ i x y e f k w s o at.
+        one_call g first i k x y (k.orders i) at (subst (λ v. Calls (first + i) v x (k.orders i) y (k.orders i)) (sym w) (note_call first count from n change m new kept r t i (k.orders i) x y e f)))
