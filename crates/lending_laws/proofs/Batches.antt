@@ -1,23 +1,34 @@
 -- Calls for many pages at once are calls of a history, one page after another.
-use Rattle.std.proofs.Common.{◌≡◌, ◌∙◌, ℕ, zero, suc, ◌+◌, ◌-◌, ◌<◌, ◌≤◌, ◌⊎◌, inl, inr, Bool, true, false, cond, List, [], ◌∷◌, ◌++◌, length, Some, None, refl, ap, sym, subst, arith}
-use Rattle.std.specs.Prelude.{nat_eq, slice_get, slice_set}
+use Rattle.std.proofs.Common.{◌≡◌, ◌∙◌, ℕ, zero, suc, ◌+◌, ◌-◌, ◌<◌, ◌≤◌, ◌⊎◌, inl, inr, Bool, true, false, ◌&&◌, cond, List, [], ◌∷◌, ◌++◌, length, Some, None, refl, ap, sym, subst, arith}
+use Rattle.std.specs.Prelude.{Option, nat_eq, nat_le, slice_get, slice_index_or, slice_set}
 use Rattle.std.proofs.Math.Seq.{set-append_seam}
-use Rattle.std.proofs.lemmas.Bool.{cases_lt, eqb-false, eqb-true}
+use Rattle.std.proofs.lemmas.Bool.{cases_lt, eqb-false, eqb-true, leb-true}
 use Rattle.std.proofs.lemmas.List.{length-append}
 use Rattle.window_pages.specs.Lives.{OneChanges}
 use Rattle.window_pages.specs.declared.page.WindowPage.{WindowPage}
 use Rattle.window_tables.proofs.Places.{set_length, set_other, set_own}
-use Rattle.std.proofs.lemmas.Option.{slice_get_within}
+use Rattle.std.proofs.lemmas.Option.{slice_get-get_or, slice_get_within}
 use Rattle.window_events.specs.Windows.{Mappings}
-use Rattle.window_pages.specs.Bytes.{known_of}
-use Rattle.window_tables.specs.Changes.{IsBehind, NowBegins, RangeChanged, marks}
+use Rattle.page_holds.specs.Orders.{facts_there}
+use Rattle.page_holds.specs.Rows.{Asks, CameOut, IsBegun, PageBecomes, RowChanges, is_asked, taking_at}
+use Rattle.page_holds.specs.Steps.{Took, asks_for, is_taken}
+use Rattle.page_lender.specs.Calls.{IsDone, order_due}
+use Rattle.page_lender.specs.declared.order.Outcome.{Outcome}
+use Rattle.window_pages.specs.Bytes.{belief_of, known_of}
+use Rattle.window_pages.specs.Changed.{Lends}
+use Rattle.window_pages.specs.Known.{bars_of, lender_of, no_bars, takes}
+use Rattle.window_pages.specs.declared.counts.PartCounts.{PartCounts}
+use Rattle.window_pages.specs.declared.facts.WindowFacts.{WindowFacts}
+use Rattle.window_tables.specs.Changes.{Changed, IsBehind, NowBegins, RangeChanged, marks}
+use Rattle.window_tables.specs.Tables.{can_note}
 use Rattle.window_tables.specs.declared.changes.Change.{Change}
 use Rattle.lending_laws.proofs.Kept.{IsKept, history_kept}
 use Rattle.lending_laws.proofs.Notes.{each_note_is_a_call, known_stays}
-use Rattle.lending_laws.specs.Batches.{AreTruly, EachIsHistory, EachNoteGoes, Goes, Reaches}
+use Rattle.lending_laws.specs.Batches.{AreTruly, EachIsHistory, EachNoteGoes, EachRowGoes, EachRowOrderGoes, EachRowStepGoes, Goes, IsSo, Reaches, row_outcome}
 use Rattle.lending_laws.specs.Notes.{IsTruly}
 use Rattle.lending_laws.specs.Batches as goes
-use Rattle.lending_laws.specs.Histories.{Calls, CallsAt, History, Moment, OneIs, Pending, Reads, calls, is_told, notes}
+use Rattle.lending_laws.specs.Histories.{Calls, CallsAt, History, IsTold, Moment, Nothing, OneIs, Pending, Reads, calls, is_told, notes, pending_after, slots_after}
+use Rattle.lending_laws.specs.Histories as made
 
 pub each_is_history : EachIsHistory
 each_is_history may_give first count old is h goes.stays = h
@@ -202,3 +213,117 @@ each_note_goes g first count lead from n change m new parts parts_new h noted t 
     let kept : IsKept first count m = history_kept g first count m h in
     each_goes g first m new (sym r.length) (λ i x y e f k w s o at.
         one_call g first i k x y (k.orders i) at (subst (λ v. Calls (first + i) v x (k.orders i) y (k.orders i)) (sym w) (note_call first count from n change m new kept r t i (k.orders i) x y e f)))
+
+-- ---- rows
+
+-- where pages of a range become what this says, and each can turn to that
+pub changed_goes : (g : (ℕ → Bool) → ℕ → Bool) (first from count : ℕ) (m : Moment) (new : List WindowPage) (Becomes : ℕ → WindowPage → WindowPage → Type 0) → Changed Becomes from count m.pages new →
+    ((n : ℕ) (x y : WindowPage) → n < count → slice_get m.pages (from + n) ≡ Some x → Becomes n x y → CanTurn g first m (from + n) x y) → Reaches g first m new
+changed_goes g first from count m new Becomes r can = each_goes g first m new (sym r.length) turn where
+  stays : (i : ℕ) (x y : WindowPage) → y ≡ x → CanTurn g first m i x y
+  stays i x y s k w o p at = one_call g first i k x y (k.orders i) at (stays_call (first + i) k.world (k.orders i) x y s)
+  within : (i : ℕ) (x y : WindowPage) → slice_get m.pages i ≡ Some x → slice_get new i ≡ Some y → (n : ℕ) → from + n ≡ i → n < count → CanTurn g first m i x y
+  within i x y e f n s l =
+      let got : slice_get m.pages (from + n) ≡ Some x = subst (λ v. slice_get m.pages v ≡ Some x) (sym s) e in
+      let gets : slice_get new (from + n) ≡ Some y = subst (λ v. slice_get new v ≡ Some y) (sym s) f in
+      subst (λ v. CanTurn g first m v x y) s (can n x y l got (r.inside n x y l got gets))
+  turn : (i : ℕ) (x y : WindowPage) → slice_get m.pages i ≡ Some x → slice_get new i ≡ Some y → CanTurn g first m i x y
+  turn i x y e f = elim (cases_lt i from) [
+    | inl below ↦ stays i x y (some_same y x (sym f ∙ r.outside i (inl below) ∙ e))
+    | inr above ↦ elim (cases_lt i (from + count)) [
+      | inl inside ↦ within i x y e f (i - from) (omega (arith, above)) (omega (arith, above, inside))
+      | inr past ↦ stays i x y (some_same y x (sym f ∙ r.outside i (inr past) ∙ e))
+    ]
+  ]
+
+-- the same of pages of a row, with their bytes
+pub row_goes : (g : (ℕ → Bool) → ℕ → Bool) (first from begin count : ℕ) (m : Moment) (new : List WindowPage) (row row_new : List ℕ) (Becomes : ℕ → ℕ → ℕ → WindowPage → WindowPage → Type 0) →
+    RowChanges Becomes from begin count m.pages new row row_new → begin + count ≤ length row →
+    ((n c : ℕ) (x y : WindowPage) → n < count → slice_get m.pages (from + (begin + n)) ≡ Some x → Becomes n (slice_index_or row (begin + n) 0) c x y → CanTurn g first m (from + (begin + n)) x y) → Reaches g first m new
+row_goes g first from begin count m new row row_new Becomes r fits can =
+    changed_goes g first (from + begin) count m new (λ n x y. (c : ℕ) × Becomes n (slice_index_or row (begin + n) 0) c x y) (record {
+      length = r.length;
+      inside = λ n x y l e f. inside n x y l e f;
+      outside = λ i o. r.outside i (outside i o);
+    }) (λ n x y l e b. subst (λ v. CanTurn g first m v x y) (place n) (can n b.0 x y l (subst (λ v. slice_get m.pages v ≡ Some x) (sym (place n)) e) b.1)) where
+  place : (n : ℕ) → from + (begin + n) ≡ from + begin + n
+  place n = omega arith
+  outside : (i : ℕ) → (i < from + begin) ⊎ (from + begin + count ≤ i) → (i < from + begin) ⊎ (from + (begin + count) ≤ i)
+  outside i (inl l) = inl l
+  outside i (inr l) = inr (omega (arith, l))
+  byte_in : (xs : List ℕ) (i : ℕ) → i < length xs → slice_get xs i ≡ Some (slice_index_or xs i 0)
+  byte_in xs i l = slice_get-get_or xs i 0 l
+  inside : (n : ℕ) (x y : WindowPage) → n < count → slice_get m.pages (from + begin + n) ≡ Some x → slice_get new (from + begin + n) ≡ Some y → (c : ℕ) × Becomes n (slice_index_or row (begin + n) 0) c x y
+  inside n x y l e f =
+      let there : begin + n < length row = omega (arith, l, fits) in
+      let there_new : begin + n < length row_new = omega (arith, l, fits, r.bytes) in
+      (slice_index_or row_new (begin + n) 0, r.inside n (slice_index_or row (begin + n) 0) (slice_index_or row_new (begin + n) 0) x y l (byte_in row (begin + n) there) (byte_in row_new (begin + n) there_new)
+          (subst (λ v. slice_get m.pages v ≡ Some x) (sym (place n)) e) (subst (λ v. slice_get new v ≡ Some y) (sym (place n)) f))
+
+-- a turn by an outcome that is told
+told_turn : (g : (ℕ → Bool) → ℕ → Bool) (first i : ℕ) (m : Moment) (x y : WindowPage) (its : Outcome) (part after : PartCounts) → IsSo g m i x its → Lends (IsDone its) no_bars x y part after → CanTurn g first m i x y
+told_turn g first i m x y its part after so d k w o p at =
+    let new : Moment = record k { pages = slice_set k.pages i y; orders = with_pending i Nothing k.orders; slots = slots_after so.order its k.slots } in
+    record {
+      new = new;
+      goes = goes.is_told k new i goes.stays (record {
+        before = x;
+        after = y;
+        part = part;
+        part_after = after;
+        pages = one_changes k.pages i x y at;
+        order = so.order;
+        outcome = its;
+        told = subst (λ v. IsTold its so.order v) (sym p) so.told;
+        done = d;
+        noted = λ slot n e. so.noted slot n (sym p ∙ e);
+        gives = so.gives k.slots;
+        orders = one_is i Nothing k.orders;
+        slots = refl;
+        stored = refl;
+        world = refl;
+      });
+      has = refl;
+      others = λ j n. other_pending i j Nothing (k.orders j) n;
+      stored = refl;
+      world = refl;
+    }
+
+-- what a step of a hold takes
+pub took_turn : (g : (ℕ → Bool) → ℕ → Bool) (first i : ℕ) (m : Moment) (x y : WindowPage) (outcome : Option Outcome) (part after : PartCounts) → Took outcome x y part after →
+    ((its : Outcome) → outcome ≡ Some its → takes its (known_of x) ≡ true → IsSo g m i x its) → CanTurn g first m i x y
+took_turn g first i m x y outcome part after t so = pick outcome (is_taken outcome (known_of x)) refl t so where
+  pick : (o : Option Outcome) (is : Bool) → is_taken o (known_of x) ≡ is → Took o x y part after → ((its : Outcome) → o ≡ Some its → takes its (known_of x) ≡ true → IsSo g m i x its) → CanTurn g first m i x y
+  pick o false e t so = λ k w s p at. one_call g first i k x y (k.orders i) at (stays_call (first + i) k.world (k.orders i) x y (t.page e))
+  pick None true e t so = cc
+  pick (Some its) true e t so = told_turn g first i m x y its part after (so its refl e) (t.done its refl e)
+
+pub each_row_goes : EachRowGoes
+each_row_goes g first lead from takings m new parts parts_new row row_new b so =
+    row_goes g first from 0 (length row) m new row row_new (IsBegun takings) (b.pages refl) (omega arith)
+    (λ n c x y l e begun. took_turn g first (from + (0 + n)) m x y (asks_for (belief_of x) (taking_at takings n)) begun.page.part begun.page.part_after begun.page.becomes (λ its a t. so n x its l e a t))
+
+pub each_row_step_goes : EachRowStepGoes
+each_row_step_goes g first lead from begin done refused m new parts parts_new row row_new b so =
+    row_goes g first from begin (done + refused) m new row row_new (CameOut done) (b.pages refl) (omega (arith, fits))
+    (λ n c x y l e came. took_turn g first (from + (begin + n)) m x y (row_outcome row begin done n x) came.page.part came.page.part_after came.page.becomes (λ its a t. so n x its l e a t)) where
+  right : (one other : Bool) → (one && other) ≡ true → other ≡ true
+  right true other e = e
+  right false other e = cc
+  fits : begin + done + refused ≤ length row
+  fits = leb-true (begin + done + refused) (length row) (right (can_note lead from (length row) m.pages parts) (nat_le (begin + done + refused) (length row)) (sym b.taken))
+
+-- a turn by the page's next order
+ordered_turn : (g : (ℕ → Bool) → ℕ → Bool) (first i : ℕ) (m : Moment) (facts : WindowFacts) (byte : ℕ) (x y : WindowPage) (part after : PartCounts) → Asks facts byte x y part after → CanTurn g first m i x y
+ordered_turn g first i m facts byte x y part after a k w o p at = pick (is_asked byte (belief_of x)) refl where
+  pick : (b : Bool) → is_asked byte (belief_of x) ≡ b → Turns g first k i y
+  pick true e = one_call g first i k x y (pending_after (order_due (lender_of facts (known_of x))) (k.orders i)) at
+      (made.orders x y part after (order_due (lender_of facts (known_of x))) (bars_of facts (known_of x)) (k.orders i) (a.order e))
+  pick false e = one_call g first i k x y (k.orders i) at (stays_call (first + i) k.world (k.orders i) x y (a.page e))
+
+pub each_row_order_goes : EachRowOrderGoes
+each_row_order_goes g first lead from table pins row order m new parts parts_new n = pick (can_note lead from (length row) m.pages parts) refl where
+  pick : (b : Bool) → can_note lead from (length row) m.pages parts ≡ b → Reaches g first m new
+  pick true e = changed_goes g first from (length row) m new (λ j. PageBecomes (Asks (facts_there table pins (from + j)) (slice_index_or row j 0))) (n.asked e)
+      (λ j x y l at b. ordered_turn g first (from + j) m (facts_there table pins (from + j)) (slice_index_or row j 0) x y b.part b.part_after b.becomes)
+  pick false e = record { new = m; goes = goes.stays; has = sym (n.same e); stored = refl; world = refl }

@@ -1,10 +1,22 @@
 -- Calls for many pages at once are calls of a history, one page after another.
-use Rattle.std.specs.Prelude.{◌≡◌, ℕ, ◌+◌, ◌<◌, Bool, true, List, length, Some, slice_get, slice_set}
+use Rattle.std.specs.Prelude.{◌≡◌, ℕ, ◌+◌, ◌<◌, Bool, true, nat_lt, List, length, Option, Some, slice_get, slice_index_or}
+use Rattle.page_holds.specs.Bytes.{step_by}
+use Rattle.page_holds.specs.Orders.{OrdersNext}
+use Rattle.page_holds.specs.Rows.{RowBegins, RowCameOut, taking_at}
+use Rattle.page_holds.specs.Steps.{asks_for, outcome_for}
+use Rattle.page_holds.specs.declared.rows.run.RowOrder.{RowOrder}
+use Rattle.page_lender.specs.declared.belief.Target.TheVariants.{Frame}
+use Rattle.page_lender.specs.declared.order.Order.{Order}
+use Rattle.page_lender.specs.declared.order.Order.TheVariants.{Map}
+use Rattle.page_lender.specs.declared.order.Outcome.{Outcome}
+use Rattle.window_pages.specs.Bytes.{belief_of, known_of}
+use Rattle.window_pages.specs.Known.{takes}
 use Rattle.window_pages.specs.declared.counts.PartCounts.{PartCounts}
 use Rattle.window_pages.specs.declared.page.WindowPage.{WindowPage}
 use Rattle.window_tables.specs.Tables.{Notes}
 use Rattle.window_tables.specs.declared.changes.Change.{Change}
-use Rattle.lending_laws.specs.Histories.{CallsAt, History, IsToldAt, Moment}
+use Rattle.window_tables.specs.declared.facts.TableFacts.{TableFacts}
+use Rattle.lending_laws.specs.Histories.{CallsAt, CarriedOut, GivesWhatItMay, History, IsTold, IsToldAt, Moment}
 use Rattle.lending_laws.specs.Notes.{IsTruly}
 
 -- A window goes from one moment to another by calls, and by outcomes that are told. Nothing else happens meanwhile.
@@ -35,3 +47,39 @@ abbrev pub EachNoteGoes : Type 0
 EachNoteGoes =
     (may_give : (ℕ → Bool) → ℕ → Bool) (first count lead from n : ℕ) (change : Change) (m : Moment) (new : List WindowPage) (parts parts_new : List PartCounts) → History may_give first count m →
     Notes change lead from n true m.pages new parts parts_new → AreTruly change first from n m → Reaches may_give first m new
+
+-- The outcome of the order of the page at place i is so: the order is said to be done only once it was carried out. That a frame was mapped was noted
+-- before, and a host gives a slot that it may give.
+pub record IsSo (may_give : (ℕ → Bool) → ℕ → Bool) (m : Moment) (i : ℕ) (x : WindowPage) (outcome : Outcome) : Type 0 where
+  pub order : Order
+  pub told : IsTold outcome order (m.orders i)
+  pub noted : (slot n : ℕ) → m.orders i ≡ CarriedOut (Map (Frame slot n)) → (known_of x).over ≡ true
+  pub gives : (slots : ℕ → Bool) → GivesWhatItMay may_give slots outcome
+
+-- the outcomes are so that a call takes of pages of a row, from its place `begin` on
+abbrev pub AreSo : ((ℕ → Bool) → ℕ → Bool) → Moment → ℕ → ℕ → ℕ → (ℕ → WindowPage → Option Outcome) → Type 0
+AreSo may_give m from begin count outcome =
+    (n : ℕ) (x : WindowPage) (its : Outcome) → n < count → slice_get m.pages (from + (begin + n)) ≡ Some x → outcome n x ≡ Some its → takes its (known_of x) ≡ true → IsSo may_give m (from + (begin + n)) x its
+
+-- A row begins: what came of the attempt to hold each of its pages is told.
+abbrev pub EachRowGoes : Type 0
+EachRowGoes =
+    (may_give : (ℕ → Bool) → ℕ → Bool) (first lead from : ℕ) (takings : List ℕ) (m : Moment) (new : List WindowPage) (parts parts_new : List PartCounts) (row row_new : List ℕ) →
+    RowBegins lead from takings true m.pages new parts parts_new row row_new →
+    AreSo may_give m from 0 (length row) (λ n x. asks_for (belief_of x) (taking_at takings n)) → Reaches may_give first m new
+
+-- Pages of a row get their orders.
+abbrev pub EachRowOrderGoes : Type 0
+EachRowOrderGoes =
+    (may_give : (ℕ → Bool) → ℕ → Bool) (first lead from : ℕ) (table : TableFacts) (pins row : List ℕ) (order : RowOrder) (m : Moment) (new : List WindowPage) (parts parts_new : List PartCounts) →
+    OrdersNext table pins lead from row order m.pages new parts parts_new → Reaches may_give first m new
+
+-- what a step of the row says of a page: with the first `done` pages it was done
+abbrev pub row_outcome : List ℕ → ℕ → ℕ → ℕ → WindowPage → Option Outcome
+row_outcome row begin done n x = outcome_for (step_by (belief_of x) (slice_index_or row (begin + n) 0)) (belief_of x) (nat_lt n done)
+
+-- What came of a step of a row is told.
+abbrev pub EachRowStepGoes : Type 0
+EachRowStepGoes =
+    (may_give : (ℕ → Bool) → ℕ → Bool) (first lead from begin done refused : ℕ) (m : Moment) (new : List WindowPage) (parts parts_new : List PartCounts) (row row_new : List ℕ) →
+    RowCameOut lead from begin done refused true m.pages new parts parts_new row row_new → AreSo may_give m from begin (done + refused) (row_outcome row begin done) → Reaches may_give first m new

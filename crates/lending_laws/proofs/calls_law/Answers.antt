@@ -1,4 +1,4 @@
-use Rattle.lending_laws.proofs.Batches.{each_is_history, each_note_goes}
+use Rattle.lending_laws.proofs.Batches.{each_is_history, each_note_goes, each_row_goes, each_row_order_goes, each_row_step_goes}
 use Rattle.lending_laws.proofs.Notes.{each_is_detached, each_look_is_calls, each_note_is_a_call, each_step_tells}
 use Rattle.lending_laws.proofs.calls_law.Goals as goal
 
@@ -19,3 +19,12 @@ returns-clause-history c = each_is_history
 
 pub returns-clause-noted : goal.returns-clause-noted
 returns-clause-noted c = each_note_goes
+
+pub returns-clause-rows : goal.returns-clause-rows
+returns-clause-rows c = each_row_goes
+
+pub returns-clause-row_orders : goal.returns-clause-row_orders
+returns-clause-row_orders c = each_row_order_goes
+
+pub returns-clause-row_steps : goal.returns-clause-row_steps
+returns-clause-row_steps c = each_row_step_goes
