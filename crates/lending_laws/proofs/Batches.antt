@@ -12,7 +12,9 @@ use Rattle.window_events.specs.Windows.{Mappings}
 use Rattle.page_holds.specs.Orders.{facts_there}
 use Rattle.page_holds.specs.Rows.{Asks, CameOut, IsBegun, PageBecomes, RowChanges, is_asked, taking_at}
 use Rattle.page_holds.specs.Steps.{Took, asks_for, is_taken}
-use Rattle.page_lender.specs.Calls.{IsDone, order_due}
+use Rattle.page_lender.specs.Calls.{IsDone, IsOrdered, order_due}
+use Rattle.page_lender.specs.declared.bars.Bars.{Bars}
+use Rattle.page_lender.specs.declared.order.Order.{Order}
 use Rattle.page_lender.specs.declared.order.Outcome.{Outcome}
 use Rattle.window_pages.specs.Bytes.{belief_of, known_of}
 use Rattle.window_pages.specs.Changed.{Lends}
@@ -25,7 +27,7 @@ use Rattle.window_tables.specs.declared.changes.Change.{Change}
 use Rattle.lending_laws.proofs.Kept.{IsKept, history_kept}
 use Rattle.lending_laws.proofs.Notes.{each_note_is_a_call, known_stays}
 use Rattle.lending_laws.specs.Batches.{AreTruly, EachIsHistory, EachNoteGoes, EachRowGoes, EachRowOrderGoes, EachRowStepGoes, Goes, IsSo, Reaches, row_outcome}
-use Rattle.lending_laws.specs.Notes.{IsTruly}
+use Rattle.lending_laws.specs.Notes.{ChangesByTwo, IsTruly}
 use Rattle.lending_laws.specs.Batches as goes
 use Rattle.lending_laws.specs.Histories.{Calls, CallsAt, History, IsTold, Moment, Nothing, OneIs, Pending, Reads, calls, is_told, notes, pending_after, slots_after}
 use Rattle.lending_laws.specs.Histories as made
@@ -327,3 +329,60 @@ each_row_order_goes g first lead from table pins row order m new parts parts_new
   pick true e = changed_goes g first from (length row) m new (λ j. PageBecomes (Asks (facts_there table pins (from + j)) (slice_index_or row j 0))) (n.asked e)
       (λ j x y l at b. ordered_turn g first (from + j) m (facts_there table pins (from + j)) (slice_index_or row j 0) x y b.part b.part_after b.becomes)
   pick false e = record { new = m; goes = goes.stays; has = sym (n.same e); stored = refl; world = refl }
+
+-- ---- turns one after another
+
+set_twice : (xs : List WindowPage) (i : ℕ) (x y : WindowPage) → slice_set (slice_set xs i x) i y ≡ slice_set xs i y
+set_twice [] i x y = refl
+set_twice (a ∷ xs) zero x y = refl
+set_twice (a ∷ xs) (suc i) x y = ap (λ l. a ∷ l) (set_twice xs i x y)
+
+-- a turn behind a call
+pub call_then : (g : (ℕ → Bool) → ℕ → Bool) (first i : ℕ) (m : Moment) (x between y : WindowPage) (pending : Pending) → slice_get m.pages i ≡ Some x → Calls (first + i) m.world x (m.orders i) between pending →
+    Turns g first (after_call m i between pending) i y → Turns g first m i y
+call_then g first i m x between y pending e c u = record {
+  new = u.new;
+  goes = joined g first m (after_call m i between pending) u.new (goes.calls m (after_call m i between pending) i goes.stays (call_at first i m x between pending e c)) u.goes;
+  has = u.has ∙ set_twice m.pages i between y;
+  others = λ j n. u.others j n ∙ other_pending i j pending (m.orders j) n;
+  stored = u.stored;
+  world = u.world;
+}
+
+-- two calls, neither of which gives an order
+pub two_turn : (g : (ℕ → Bool) → ℕ → Bool) (first i : ℕ) (m : Moment) (x y : WindowPage) → ((pending : Pending) → ChangesByTwo (first + i) m.world pending x y) → CanTurn g first m i x y
+two_turn g first i m x y c k w o p at =
+    let two : ChangesByTwo (first + i) k.world (k.orders i) x y = subst (λ v. ChangesByTwo (first + i) v (k.orders i) x y) (sym w) (c (k.orders i)) in
+    let then : Moment = after_call k i two.middle (k.orders i) in
+    let second : Calls (first + i) k.world two.middle (then.orders i) y (then.orders i) =
+        subst (λ v. Calls (first + i) k.world two.middle v y v) (sym (own_pending i (k.orders i) (k.orders i))) two.second in
+    call_then g first i k x two.middle y (k.orders i) at two.first (one_call g first i then two.middle y (then.orders i) (set_own k.pages i x two.middle at) second)
+
+pub turns_then : (g : (ℕ → Bool) → ℕ → Bool) (first i : ℕ) (m : Moment) (x y : WindowPage) → (t : Turns g first m i x) → Turns g first t.new i y → Turns g first m i y
+turns_then g first i m x y t u = record {
+  new = u.new;
+  goes = joined g first m t.new u.new t.goes u.goes;
+  has = u.has ∙ ap (λ v. slice_set v i y) t.has ∙ set_twice m.pages i x y;
+  others = λ j n. u.others j n ∙ t.others j n;
+  stored = u.stored ∙ t.stored;
+  world = u.world ∙ t.world;
+}
+
+-- a call behind a turn, whatever is pending then
+pub then_call : (g : (ℕ → Bool) → ℕ → Bool) (first i : ℕ) (m : Moment) (x between y : WindowPage) → CanTurn g first m i x between →
+    ((pending : Pending) → Calls (first + i) m.world between pending y pending) → CanTurn g first m i x y
+then_call g first i m x between y t c k w o p at =
+    let one : Turns g first k i between = t k w o p at in
+    let there : slice_get one.new.pages i ≡ Some between = subst (λ v. slice_get v i ≡ Some between) (sym one.has) (set_own k.pages i x between at) in
+    let second : Calls (first + i) one.new.world between (one.new.orders i) y (one.new.orders i) =
+        subst (λ v. Calls (first + i) v between (one.new.orders i) y (one.new.orders i)) (sym (one.world ∙ w)) (c (one.new.orders i)) in
+    turns_then g first i k between y one (one_call g first i one.new between y (one.new.orders i) there second)
+
+-- a page that stays
+pub stays_turn : (g : (ℕ → Bool) → ℕ → Bool) (first i : ℕ) (m : Moment) (x y : WindowPage) → y ≡ x → CanTurn g first m i x y
+stays_turn g first i m x y s k w o p at = one_call g first i k x y (k.orders i) at (stays_call (first + i) k.world (k.orders i) x y s)
+
+-- an order that a page gets
+pub order_turn : (g : (ℕ → Bool) → ℕ → Bool) (first i : ℕ) (m : Moment) (x y : WindowPage) (part after : PartCounts) (order : Order) (bars : Bars) → Lends (IsOrdered order) bars x y part after → CanTurn g first m i x y
+order_turn g first i m x y part after order bars l k w o p at =
+    one_call g first i k x y (pending_after order (k.orders i)) at (made.orders x y part after order bars (k.orders i) l)
