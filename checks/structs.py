@@ -32,6 +32,7 @@ NUMBERS = {
     "crates/pageshare_window_c/src/holds.rt step_number": "PAGESHARE_WINDOW_HOLD_",
     "crates/pageshare_window_c/src/finds.rt step_number": "PAGESHARE_WINDOW_FIND_",
     "crates/pageshare_window_c/src/part.rt part_number": "PAGESHARE_WINDOW_",
+    "crates/lend_steps/src/copies.rt number": "PAGESHARE_WINDOW_CHECK_",
 }
 # The names of C that aren't spelled as the library's. What has none is no number of its own.
 SPELLED = {"Frame": "", "Off": "SHOWN", "InPlace": "HOMING_IN_PLACE", "Elsewhere": "HOMING", "TakeHome(true)": "COPY_IN_PLACE"}

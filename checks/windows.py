@@ -71,7 +71,6 @@ DROPPED = "madvise(address_of(window, first), bytes_of(count), MADV_DONTNEED) ==
 GUARDED = "return cause == 0 ? pagemap_are_guarded(&windows->pagemap, at, PART) : cause;"
 REFUSED = "else pageshare_window_refused("
 LEAVES = "(struct pageshare_window_facts){.leaves = true}"
-WITHDRAWN = "if (order != PAGESHARE_WINDOW_RELEASE) pageshare_window_withdraw(&window->pages[number]);"
 WATCHED = "is_begun ? PAGESHARE_WINDOW_TAKEN_WATCHED : PAGESHARE_WINDOW_NOT_TAKEN"
 ALONE = "return !joins_before && (behind == window->count"
 NOT_PUT = "hold->stuck_cause = cause;\n            return (struct came){.done = done, .refused = 1};"
@@ -114,7 +113,6 @@ BODIES = {
     "takes no mappings away that frames replace": Body("pages.c", "    *mappings -= mappings_of(window, first, count);\n", "", ["pages"]),
     "counts no mappings of a part that changes": Body("parts.c", "    counts->mappings += mappings_of(window, first, PART);\n", "", ["parts"]),
     "counts a refused order as done": Body("pages.c", REFUSED, "else pageshare_window_done(", ["pages"]),
-    "keeps an order with which nobody began": Body("pages.c", WITHDRAWN, "", ["guards"]),
     "counts all pages in the first part": Body("set.h", "return &window->counts[(page + window->lead) / PART];",
                                                "return &window->counts[page * 0];", ["parts"]),
     "forgets slots to release": Body("set.h", "belief_of(page) <= PAGESHARE_WINDOW_LEAVING;",
@@ -156,7 +154,7 @@ BODIES = {
     "believes no copy": Body("look.c", "    if (!outcome->is_own) return;", "    outcome->is_own = false;\n    if (!outcome->is_own) return;", ["pages"]),
     "reads another page": Body("look.c", "fingerprint_and_fetch(window->windows->lender.salt, address_of(window, number), next);",
                                "fingerprint_and_fetch(window->windows->lender.salt, address_of(window, 0), next);", ["pages"]),
-    "copies what was given up": Body("lend.c", "if (there[at] && copy_one(", "if (copy_one(", ["leaves"]),
+    "copies what was given up": Body("lend.c", "    pageshare_window_to_copy(", "    memset(there, 1, count);\n    pageshare_window_to_copy(", ["leaves"]),
     "compares what was given up": Body("lend.c", "is_hold && is_there && seems_equal(", "is_hold && (is_there || true) && seems_equal(", ["leaves"]),
     "forgets that the caller watches": Body("windows.c", "    windows->is_watched = true;\n", "", ["leaves"]),
     "leaves copies over frames apart": Body("tasks.c", "if (has_more) join_left_over(look);", "", ["leaves"]),
@@ -169,7 +167,7 @@ BODIES = {
     "goes to no window": Body("tasks.c", "look->next = windows->first;", "look->next = NULL;", ["tasks"]),
     "takes a lost reply for a refusal": Body("lend.c", "if (cause == 0 || cause == ENOTCONN", "if (cause >= 0 || cause == ENOTCONN", ["pages"]),
     "asks about no page of a lost reply again": Body("windows.c", "if (windows->awaits_loans) each_part(", "if (false) each_part(", ["pages"]),
-    "loses the loan of a page that has left": Body("lend.c", "if (is_named) pageshare", "if (is_named && !is_out(page)) pageshare", ["tasks"]),
+    "loses the loan of a page that has left": Body("lend.c", "slots[i] = loans[i].slot,", "slots[i] = is_out(&window->pages[batch->pages[i]]) ? UINT64_MAX : loans[i].slot,", ["tasks"]),
     "keeps the order of a page that isn't held": Body("lend.c", "else pageshare_window_withdraw(page);", "", ["tasks"]),
     "takes what stays guarded for free": Body("pages.c", "page, PAGESHARE_WINDOW_PLACE_GUARDED, 0);", "page, PAGESHARE_WINDOW_PLACE_FREE, 0);", ["guards"]),
     "takes what is stuck for free": Body("lend.c", "hold->row[i], hold->scratch + i", "PAGESHARE_WINDOW_PLACE_FREE, hold->scratch + i", ["guards"]),

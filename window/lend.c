@@ -327,11 +327,11 @@ static size_t in_one_call(const uint32_t *pages, size_t count) {
  * put the kernel's page of zeros there: who watches for missing pages later, as QEMU does for a postcopy, couldn't put another one in its place.
  * With the lock, and while it is held that stays so.
  */
-static size_t find_there(const struct window *window, const uint32_t *pages, size_t most, bool *there) {
+static size_t find_there(const struct window *window, const uint32_t *pages, size_t most, uint8_t *there) {
     bool own[PART];
     const size_t count = in_one_call(pages, most);
     pagemap_find_own(&window->windows->pagemap, address_of(window, pages[0]), pages[count - 1] - pages[0] + 1, own);
-    for (size_t i = 0; i < count; i++) there[i] = is_over(&window->pages[pages[i]]) || own[pages[i] - pages[0]];
+    for (size_t i = 0; i < count; i++) there[i] = is_over(&window->pages[pages[i]]) || own[pages[i] - pages[0]] ? 1 : 0;
     return count;
 }
 
@@ -420,13 +420,13 @@ static void add_unsaid(struct window *window, struct unsaid *unsaid, size_t firs
 }
 
 /* Settles the first of some pages that are in a row. Returns how many are settled, or stay as they are. With the lock. */
-static size_t settle_row(struct window *window, const uint32_t *pages, const bool *there, size_t count, enum wish wish,
+static size_t settle_row(struct window *window, const uint32_t *pages, const uint8_t *there, size_t count, enum wish wish,
                          struct unsaid *unsaid) {
     struct hold hold = {.window = window, .first = pages[0]};
     const size_t most = in_row(window, pages, count);
     size_t passed = 0;
     while (hold.count < most && passed == 0) {
-        passed = order_hold(window, pages[hold.count], wish, there[hold.count]) ? 0 : 1;
+        passed = order_hold(window, pages[hold.count], wish, there[hold.count] != 0) ? 0 : 1;
         hold.count += 1 - passed;
     }
     if (hold.count > 0) settle(&hold);
@@ -442,7 +442,7 @@ static size_t settle_some(struct look *look, const uint32_t *pages, size_t count
     struct windows *windows = look->windows;
     struct unsaid unsaid = {.end = 0};
     size_t done = 0, known = 0;
-    bool there[SETTLE_MOST + HOLD_MOST];
+    uint8_t there[SETTLE_MOST + HOLD_MOST];
     begin_turn(look);
     lock_for_look(windows);
     for (size_t rows = 0; rows < ROWS_MOST && done < least(count, SETTLE_MOST) && windows->stuck_count == 0; rows++) {
@@ -569,62 +569,68 @@ bool ask_lender(struct look *look) {
 }
 
 /*
- * Whether a copy is of the page that a look found. Of one that was read at the last looks a glance tells: what that misses costs a loan at most,
- * since the host compares whole pages, and so does the thread before it maps a frame. (Of a page over a frame no glance is kept.)
+ * Whether a copy is of the page that a look found, by the check that is due. What a glance misses costs a loan at most, since the host compares
+ * whole pages, and so does the thread before it maps a frame.
  */
-static bool is_as_found(const struct window *window, const page_entry *found, const unsigned char *copy, uint64_t fingerprint) {
-    if (is_over(found) || is_asked_again(found)) return fingerprint_of(window->windows->lender.salt, copy) == fingerprint;
-    return kept_of(found) == fingerprint && glance_at(fingerprint, copy) == clue_in(found);
+static bool is_as_found(const struct window *window, size_t number, uint8_t check, const unsigned char *copy,
+                        uint64_t fingerprint) {
+    if (check == PAGESHARE_WINDOW_CHECK_FINGERPRINT) return fingerprint_of(window->windows->lender.salt, copy) == fingerprint;
+    return check == PAGESHARE_WINDOW_CHECK_GLANCE && glance_at(fingerprint, copy) == clue_in(&window->pages[number]);
 }
 
-/* Copies a page to a place in the lender's buffer, with nothing guarded. Returns whether a loan of that is to be asked for. With the lock. */
-static bool copy_one(struct window *window, size_t number, unsigned char *to, uint64_t fingerprint) {
-    const page_entry found = window->pages[number];
-    const struct pageshare_window_facts facts = facts_of(window, number);
-    if (part_of(window, number)->whole) return false;
-    if (!pageshare_window_choose(&window->pages[number], part_counts(window, number), &facts, false)) return false;
-    if (order_of(window, number) != PAGESHARE_WINDOW_COPY) return false;
+/* Copies a page to a place in the lender's buffer, with nothing guarded. Returns enum pageshare_window_copied. With the lock. */
+static uint8_t copy_one(struct window *window, size_t number, uint8_t check, unsigned char *to, uint64_t fingerprint) {
+    if (check == PAGESHARE_WINDOW_CHECK_NO_COPY) return PAGESHARE_WINDOW_NOT_COPIED;
     copy_page(to, address_of(window, number));
-    bool is_same_page = is_as_found(window, &found, to, fingerprint);
-    note_order(window, number, is_same_page && !is_zero(to));
-    if (!is_same_page) note_changed(window, number);
-    return is_same_page && order_of(window, number) == PAGESHARE_WINDOW_LEND;
+    const bool is_same = is_as_found(window, number, check, to, fingerprint);
+    window->windows->counts.changed += is_same ? 0 : 1;
+    if (!is_same) return PAGESHARE_WINDOW_COPY_CHANGED;
+    return is_zero(to) ? PAGESHARE_WINDOW_COPY_ZEROS : PAGESHARE_WINDOW_COPY_GOOD;
+}
+
+/* Finds how the copy of each page of a batch is checked: enum pageshare_window_check. With the lock. */
+static void find_copies(struct window *window, const struct batch *batch, uint8_t *checks) {
+    const struct pageshare_window_table_facts table = table_of(window);
+    const size_t count = batch->count;
+    uint8_t there[WINDOW_BATCH];
+    for (size_t found = 0; found < count;) found += find_there(window, batch->pages + found, count - found, there + found);
+    pageshare_window_to_copy(TABLES(window), &table, PINS(window), window->parts, parts_in(window), batch->pages, count, there,
+                             count, batch->fingerprints, count, checks, count);
 }
 
 /* Leaves those pages of the batch that can be lent still. Nothing is guarded: their users may write to them. */
 bool copy_for_lender(struct look *look) {
     struct windows *windows = look->windows;
+    struct window *window = look->window;
     struct batch *batch = &look->batch;
+    const size_t count = batch->count;
     size_t kept = 0;
     uint32_t copied[WINDOW_BATCH];
-    bool there[WINDOW_BATCH];
+    uint8_t checks[WINDOW_BATCH] = {0}, outcomes[WINDOW_BATCH], lends[WINDOW_BATCH];
     lock_for_look(windows);
-    for (size_t found = 0; found < batch->count;)
-        found += find_there(look->window, batch->pages + found, batch->count - found, there + found);
-    for (size_t i = 0; i < batch->count; i++) {
-        const size_t at = windows->frames_fall ? batch->count - 1 - i : i;
-        if (there[at] && copy_one(look->window, batch->pages[at], windows->lender.pages[kept], batch->fingerprints[at]))
-            copied[kept++] = batch->pages[at];
+    const struct pageshare_window_table_facts table = table_of(window);
+    find_copies(window, batch, checks);
+    for (size_t i = 0; i < count; i++) {
+        const size_t at = windows->frames_fall ? count - 1 - i : i;
+        outcomes[at] = copy_one(window, batch->pages[at], checks[at], windows->lender.pages[kept], batch->fingerprints[at]);
+        copied[kept] = batch->pages[at];
+        kept += outcomes[at] == PAGESHARE_WINDOW_COPY_GOOD ? 1 : 0;
     }
+    /* (the lock was held: of each good copy a loan is to be asked for) */
+    pageshare_window_copied(TABLES(window), &table, PINS(window), batch->pages, count, outcomes, count, lends, count);
     unlock_set(windows);
     memcpy(batch->pages, copied, kept * sizeof copied[0]);
     batch->count = kept;
     return kept > 0;
 }
 
-/* Takes a loan, so that its slot is released if its page doesn't come to show the frame. With the lock. */
-static void take_loan(struct window *window, size_t number, const struct window_loan *loan) {
-    struct windows *windows = window->windows;
-    page_entry *page = &window->pages[number];
-    bool is_given = loan->frame != WINDOW_NO_FRAME, is_named = is_given && window_is_slot(loan->slot);
-    bool is_good = is_named && loan->frame < windows->lender.frame_count;
-    bool is_read = is_good && windows->frames_at != NULL; /* (not once lending has ended) */
-    if (is_named) pageshare_window_lent(page, part_counts(window, number), slot_name(loan->slot), loan->frame);
-    else note_order(window, number, false);
-    if (!is_named) pageshare_window_asked_last(page, part_counts(window, number));
-    windows->counts.no_frame += is_given ? 0 : 1;
-    if (is_given && !is_good) note_failure(windows, WINDOW_LENDER_FAILED, EPROTO);
-    if (is_read) trace_frame(windows->trace, loan->frame, windows->frames_at + bytes_of(loan->frame));
+/* Notes what was answered to a loan, or to none. With the lock. */
+static void note_loan(struct windows *windows, uint32_t frame, uint8_t answer) {
+    const bool is_read =
+        (answer & PAGESHARE_WINDOW_LOAN_IN_FILE) != 0 && windows->frames_at != NULL; /* (not once lending has ended) */
+    windows->counts.no_frame += (answer & PAGESHARE_WINDOW_LOAN_NO_FRAME) != 0 ? 1 : 0;
+    if ((answer & PAGESHARE_WINDOW_LOAN_WRONG) != 0) note_failure(windows, WINDOW_LENDER_FAILED, EPROTO);
+    if (is_read) trace_frame(windows->trace, frame, windows->frames_at + bytes_of(frame));
 }
 
 /*
@@ -648,19 +654,27 @@ static void turn_round(uint32_t *pages, size_t count) {
     }
 }
 
-/* Takes the loans of a batch, or that none was made. Leaves the pages that have one. Takes the lock. */
+/* Takes the loans of a batch, or that none was made: a slot is released if its page doesn't come to show the frame. Leaves the pages that have
+ * one. Takes the lock. */
 static void take_loans(struct window *window, struct batch *batch, const struct window_loan *loans, bool are_got) {
+    struct windows *windows = window->windows;
+    const size_t count = batch->count;
     size_t kept = 0;
-    lock_for_look(window->windows);
-    for (size_t i = 0; i < batch->count; i++) {
-        uint32_t number = batch->pages[i];
-        if (are_got) take_loan(window, number, &loans[i]);
-        else note_order(window, number, false);
-        if (belief_of(&window->pages[number]) == PAGESHARE_WINDOW_READY) batch->pages[kept++] = number;
+    uint64_t slots[WINDOW_BATCH];
+    uint32_t frames[WINDOW_BATCH];
+    uint8_t answers[WINDOW_BATCH] = {0};
+    for (size_t i = 0; i < count; i++) slots[i] = loans[i].slot, frames[i] = loans[i].frame;
+    lock_for_look(windows);
+    pageshare_window_loaned(TABLES(window), batch->pages, count, slots, count, frames, count, windows->lender.frame_count,
+                            are_got, answers, count);
+    for (size_t i = 0; i < count; i++) {
+        note_loan(windows, frames[i], answers[i]);
+        batch->pages[kept] = batch->pages[i];
+        kept += (answers[i] & PAGESHARE_WINDOW_LOAN_GOT) != 0 ? 1 : 0;
     }
-    unlock_set(window->windows);
-    if (window->windows->frames_fall) turn_round(batch->pages, kept);
-    if (are_got) window->windows->frames_fall = do_fall(loans, batch->count, window->windows->frames_fall);
+    unlock_set(windows);
+    if (windows->frames_fall) turn_round(batch->pages, kept);
+    if (are_got) windows->frames_fall = do_fall(loans, count, windows->frames_fall);
     batch->count = kept;
     batch->done = 0;
 }

@@ -25,8 +25,6 @@ void find_pins(struct windows *windows) {
 
 _Static_assert(WINDOW_SLOT_RESTS - 1 <= UINT32_MAX / WINDOW_SLOT_TOPS, "a slot has a name of 32 bits");
 
-uint32_t slot_name(uint64_t slot) { return (uint32_t)(slot >> 32) * WINDOW_SLOT_RESTS + (uint32_t)slot; }
-
 uint64_t slot_number(uint32_t name) { return (uint64_t)(name / WINDOW_SLOT_RESTS) << 32 | name % WINDOW_SLOT_RESTS; }
 
 /* ---- what the library decides, and hears ---- */
@@ -34,9 +32,9 @@ uint64_t slot_number(uint32_t name) { return (uint64_t)(name / WINDOW_SLOT_RESTS
 /* Where no transfer of a page was under way yet. */
 static const uint16_t no_pins;
 
-static size_t pins_in(const struct window *window) { return window->pins != NULL ? window->count : 0; }
+size_t pins_in(const struct window *window) { return window->pins != NULL ? window->count : 0; }
 
-static const uint16_t *pins_of(const struct window *window) { return window->pins != NULL ? window->pins : &no_pins; }
+const uint16_t *pins_of(const struct window *window) { return window->pins != NULL ? window->pins : &no_pins; }
 
 struct pageshare_window_table_facts table_of(const struct window *window) {
     const struct windows *windows = window->windows;
@@ -76,16 +74,6 @@ enum pageshare_window_order order_of(struct window *window, size_t number) {
 void note_order(struct window *window, size_t number, bool is_done) {
     if (is_done) pageshare_window_done(&window->pages[number], part_counts(window, number));
     else pageshare_window_refused(&window->pages[number], part_counts(window, number));
-}
-
-bool order_release(struct window *window, size_t number) {
-    enum pageshare_window_order order = order_of(window, number);
-    if (order == PAGESHARE_WINDOW_HOLD) {
-        note_order(window, number, false); /* (a step has left the loan) */
-        order = order_of(window, number);
-    }
-    if (order != PAGESHARE_WINDOW_RELEASE) pageshare_window_withdraw(&window->pages[number]);
-    return order == PAGESHARE_WINDOW_RELEASE;
 }
 
 bool may_go_on(const struct window *window, size_t first, size_t count, struct pageshare_window_facts why) {

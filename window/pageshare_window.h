@@ -288,13 +288,11 @@ uint8_t pageshare_window_next(struct pageshare_window_page *page, struct pagesha
 void pageshare_window_withdraw(struct pageshare_window_page *page);
 
 /*
- * What came of the order: it was done; it wasn't, and nothing changed; or the host gave this loan. Of a comparison
- * `done` means that they are equal. Each returns false, and changes nothing, if no order is open that can have this outcome.
+ * What came of the order: it was done; or it wasn't, and nothing changed. Of a comparison `done` means that they are equal. Each returns
+ * false, and changes nothing, if no order is open that can have this outcome.
  */
 bool pageshare_window_done(struct pageshare_window_page *page, struct pageshare_window_counts *part);
 bool pageshare_window_refused(struct pageshare_window_page *page, struct pageshare_window_counts *part);
-bool pageshare_window_lent(struct pageshare_window_page *page, struct pageshare_window_counts *part, uint32_t slot,
-                           uint32_t frame);
 
 /* A copy over the page's frame was found, or it has memory of its own. Returns false, and changes nothing, while an order is open that
  * touches the page. */
@@ -321,8 +319,6 @@ void pageshare_window_see(struct pageshare_window_page *page, struct pageshare_w
  */
 size_t pageshare_window_alike(const struct pageshare_window_page *pages, size_t count);
 size_t pageshare_window_here(const struct pageshare_window_page *pages, size_t count);
-/* How many of them come before the first one whose slot is to be released, and of which no order is open. */
-size_t pageshare_window_before_release(const struct pageshare_window_page *pages, size_t count);
 
 /* ---- tables of a window's pages ---- */
 
@@ -502,6 +498,69 @@ size_t pageshare_window_mappings_more(const struct pageshare_window_page *pages,
                                       const struct pageshare_window_part *parts, size_t parts_count, size_t lead, size_t first,
                                       size_t count);
 size_t pageshare_window_mappings_new(const struct pageshare_window_part *parts, size_t parts_count, size_t lead, size_t count);
+
+/* ---- lists of a window's pages, of which one is taken after another ---- */
+
+/* How it is seen that the copy of a page is of the page that a look found. */
+enum pageshare_window_check {
+    PAGESHARE_WINDOW_CHECK_NO_COPY = 0,     /* it isn't to be copied */
+    PAGESHARE_WINDOW_CHECK_FINGERPRINT = 1, /* it has the fingerprint that was found */
+    PAGESHARE_WINDOW_CHECK_GLANCE = 2,      /* a glance at it, by that fingerprint, finds the page's clue */
+    PAGESHARE_WINDOW_CHECK_NEVER = 3        /* it isn't: something else was found of the page since */
+};
+
+/* What came of a copy. */
+enum pageshare_window_copied {
+    PAGESHARE_WINDOW_NOT_COPIED = 0,   /* it wasn't to be made */
+    PAGESHARE_WINDOW_COPY_GOOD = 1,    /* it is of the page that was found */
+    PAGESHARE_WINDOW_COPY_CHANGED = 2, /* it isn't */
+    PAGESHARE_WINDOW_COPY_ZEROS = 3    /* it is zeros */
+};
+
+/* The answer to what a host said of a page: a sum of these. */
+enum pageshare_window_loan {
+    PAGESHARE_WINDOW_LOAN_GOT = 1,      /* the page has its loan: it is to be held */
+    PAGESHARE_WINDOW_LOAN_NO_FRAME = 2, /* the host has no frame for it */
+    PAGESHARE_WINDOW_LOAN_WRONG = 4,    /* the host owes a slot, or a frame of its file */
+    PAGESHARE_WINDOW_LOAN_IN_FILE = 8   /* the frame is in the host's file */
+};
+
+/*
+ * The pages of a list have these numbers. Of each there is an entry in the other lists. Where a page isn't in the table, the answer to it is 0, and
+ * nothing else is done. Each returns false, and changes nothing, if lists have different lengths, or if the table has more pages than its parts.
+ *
+ * to_copy chooses those that are to be copied, which have these fingerprints by the last look. `there` is 1 for a page that is there. Answers: enum
+ * pageshare_window_check. While that isn't 0, the page's order is open.
+ * copied takes what came of the copies, enum pageshare_window_copied. The answer is 1 for a page of which a loan is to be asked for.
+ * loaned takes what a host said of them, if it was heard, whose file has so many frames: the slot and the frame of each loan, or UINT32_MAX as a
+ * frame for none. Answers: enum pageshare_window_loan. If it wasn't heard, it has lent none of them.
+ * released takes whether the host heard that their slots aren't needed.
+ */
+bool pageshare_window_to_copy(struct pageshare_window_page *pages, size_t pages_count, struct pageshare_window_counts *parts,
+                              size_t parts_count, size_t lead, const struct pageshare_window_table_facts *table,
+                              const uint16_t *pins, size_t pins_count, const struct pageshare_window_part *wholes,
+                              size_t wholes_count, const uint32_t *numbers, size_t numbers_count, const uint8_t *there,
+                              size_t there_count, const uint64_t *fingerprints, size_t fingerprints_count, uint8_t *answers,
+                              size_t answers_count);
+bool pageshare_window_copied(struct pageshare_window_page *pages, size_t pages_count, struct pageshare_window_counts *parts,
+                             size_t parts_count, size_t lead, const struct pageshare_window_table_facts *table,
+                             const uint16_t *pins, size_t pins_count, const uint32_t *numbers, size_t numbers_count,
+                             const uint8_t *outcomes, size_t outcomes_count, uint8_t *answers, size_t answers_count);
+bool pageshare_window_loaned(struct pageshare_window_page *pages, size_t pages_count, struct pageshare_window_counts *parts,
+                             size_t parts_count, size_t lead, const uint32_t *numbers, size_t numbers_count,
+                             const uint64_t *slots, size_t slots_count, const uint32_t *given, size_t given_count,
+                             uint32_t frames, bool is_heard, uint8_t *answers, size_t answers_count);
+bool pageshare_window_released(struct pageshare_window_page *pages, size_t pages_count, struct pageshare_window_counts *parts,
+                               size_t parts_count, size_t lead, const size_t *numbers, size_t numbers_count, bool is_done);
+/*
+ * Finds which of `count` pages from `first` on are to be released: their slots aren't needed, no order of them is open, and no transfer of them is
+ * under way. Releasing them is their order from then on. Writes the numbers of as many as there is room for, and returns how many; none if the
+ * pages aren't all there, or if the table has more pages than its parts.
+ */
+size_t pageshare_window_to_release(struct pageshare_window_page *pages, size_t pages_count, struct pageshare_window_counts *parts,
+                                   size_t parts_count, size_t lead, const struct pageshare_window_table_facts *table,
+                                   const uint16_t *pins, size_t pins_count, size_t first, size_t count, size_t *places,
+                                   size_t places_count);
 
 /* ---- looks ---- */
 

@@ -237,6 +237,10 @@ size_t mappings_more(const struct window *window, size_t first, size_t count);
 
 /* What is so of a window and its process; and of a page, by that. It stays so while the lock is held. */
 struct pageshare_window_table_facts table_of(const struct window *window);
+/* How many transfers are under way of each page, and of how many pages that is known. */
+const uint16_t *pins_of(const struct window *window);
+size_t pins_in(const struct window *window);
+#define PINS(WINDOW) pins_of(WINDOW), pins_in(WINDOW)
 void find_facts(const struct window *window, const struct pageshare_window_table_facts *table, size_t page,
                 struct pageshare_window_facts *facts);
 /* What is so of a page; `why`: what is so besides, from now on. */
@@ -246,8 +250,6 @@ struct pageshare_window_facts facts_with(const struct window *window, size_t pag
 enum pageshare_window_order order_of(struct window *window, size_t page);
 /* What came of the order of a page that is open. */
 void note_order(struct window *window, size_t page, bool is_done);
-/* Orders a page to be released. Returns false if there is nothing to release. */
-bool order_release(struct window *window, size_t page);
 /* Whether a call of the monitor may go on by each of these pages, of which `why` is so from then on, beside what is so already. */
 bool may_go_on(const struct window *window, size_t first, size_t count, struct pageshare_window_facts why);
 /* Whether one may that gives them up: no write to any of them waits. */
@@ -266,8 +268,7 @@ void stop_showing_past(struct window *window, size_t page);
 void forget_content(struct window *window, size_t page);
 /* Whether a page of a whole part could be shared. */
 void note_seen(struct window *window, size_t page, bool is_seen);
-/* A slot's number of a lender in 32 bits, and back. */
-uint32_t slot_name(uint64_t slot);
+/* A slot's number of a lender, by the name in 32 bits that the library gave it. */
 uint64_t slot_number(uint32_t name);
 
 /* Makes the scratch area, or makes it anew. Returns 0 or an errno. */

@@ -18,18 +18,15 @@ struct slots {
     size_t count;
     uint64_t slots[WINDOW_BATCH];
     struct window *windows[WINDOW_BATCH];
-    uint32_t pages[WINDOW_BATCH];
+    size_t pages[WINDOW_BATCH];
 };
 
 static void collect_part(struct slots *slots, struct window *window, size_t first) {
-    size_t end = first + rest_of_part(window, first);
-    for (size_t page = first; page < end && slots->count < WINDOW_BATCH; page++) {
-        page += pageshare_window_before_release(window->pages + page, end - page);
-        /* (a device may be reading the frame, as the page showed it when it began) */
-        if (page == end || is_in_transfer(window, page) || !order_release(window, page)) continue;
-        slots->windows[slots->count] = window;
-        slots->pages[slots->count++] = (uint32_t)page;
-    }
+    const struct pageshare_window_table_facts table = table_of(window);
+    const size_t before = slots->count;
+    slots->count += pageshare_window_to_release(TABLES(window), &table, PINS(window), first, rest_of_part(window, first),
+                                                slots->pages + before, WINDOW_BATCH - before);
+    for (size_t i = before; i < slots->count; i++) slots->windows[i] = window;
 }
 
 /*
@@ -50,9 +47,12 @@ static void collect(struct windows *windows, struct slots *slots) {
 /* Notes whether the slots were released. Takes the lock. */
 static void note_releases(struct windows *windows, const struct slots *slots, bool are_released) {
     lock_for_look(windows);
-    for (size_t i = 0; i < slots->count; i++) {
-        note_order(slots->windows[i], slots->pages[i], are_released);
-        if (are_released) trace_release(windows->trace, slots->windows[i]->base + slots->pages[i]);
+    for (size_t i = 0, count = 1; i < slots->count; i += count, count = 1) {
+        struct window *window = slots->windows[i];
+        while (i + count < slots->count && slots->windows[i + count] == window) count++;
+        pageshare_window_released(TABLES(window), slots->pages + i, count, are_released);
+        for (size_t n = i; are_released && n < i + count; n++)
+            trace_release(windows->trace, window->base + (uint32_t)slots->pages[n]);
     }
     unlock_set(windows);
 }

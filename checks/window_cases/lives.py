@@ -119,7 +119,10 @@ class Life:
             self.given[place] = None
         given = self.given[place]
         if given:
-            self.seen.holds("lent", self.call("lent", place, *given))
+            made, answer = self.library.array, self.library.array("uint8_t", [0])
+            lists = (made("uint32_t", [place]), 1, made("uint64_t", [given[0]]), 1, made("uint32_t", [given[1]]), 1)
+            self.seen.holds("loaned", self.library.call("loaned", self.pages, PAGES, self.counts, 1, 0, *lists, 2, True, answer, 1))
+            self.seen.equal("the loan", answer[0], 9)
         else:
             self.seen.holds("refused", self.call("refused", place))
         return True

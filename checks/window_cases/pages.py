@@ -9,6 +9,7 @@ from common.compared import Compared
 from common.plain_page import DONE, FACTS, LENT, REFUSED, Facts, Page, sums
 from common.window_library import Library, values_of
 from harness import Tally
+from window_cases.lends import slot_of
 
 # The pages of a table, of which three are in its first part. They are made anew so many times, and each time there are so many calls.
 PAGES, LEAD = 8, 509
@@ -61,11 +62,17 @@ class Table:
         """Takes an outcome, which the page's order may have or not."""
         known, which = self.known[at], self.chance.randrange(16)
         if which <= 4:
-            slot, frame = self.chance.randrange(2**32), self.chance.randrange(2**32)
-            self.seen.equal(LENT, self.call(LENT, at, slot, frame), known.take(LENT, slot, frame))
+            self.loan(at, self.chance.randrange(2**32), self.chance.randrange(2**32 - 1))
         else:
             outcome = REFUSED if which == 5 else DONE
             self.seen.equal(outcome, self.call(outcome, at), known.take(outcome))
+
+    def loan(self, at: int, slot: int, frame: int) -> None:
+        """A host has lent a page, where its file has no frame."""
+        made, answer = self.library.array, self.library.array("uint8_t", [0])
+        lists = (made("uint32_t", [at]), 1, made("uint64_t", [slot_of(slot)]), 1, made("uint32_t", [frame]), 1)
+        self.seen.holds("loaned", self.library.call("loaned", self.pages, PAGES, self.parts, 2, LEAD, *lists, 0, True, answer, 1))
+        self.seen.equal("the loan", answer[0], 4 + self.known[at].take(LENT, slot, frame))
 
     def hear(self, at: int) -> None:
         self.seen.equal("written", self.call("written", at), self.known[at].written())
@@ -160,7 +167,6 @@ class Table:
         for name, due in (
             ("alike", [(it.over, it.out) == (first.over, first.out) for it in self.known]),
             ("here", [it == here[0] for it in here]),
-            ("before_release", [not it.to_release() or it.ordered for it in self.known]),
         ):
             self.seen.equal(name, self.library.call(name, self.pages, PAGES), [*due, False].index(False))
 

@@ -18,7 +18,7 @@ ghost use Rattle.page_lender.specs.declared.order.Notice.TheVariants as Notice;
 ghost use Rattle.page_lender.specs.declared.order.Outcome.TheVariants as Outcome;
 ghost use Rattle.page_lender.specs.Calls.{IsChosen, IsHeard, IsOrdered, is_free, order_due};
 ghost use Rattle.page_looks.specs.Parts.{order_of, part_then};
-ghost use Rattle.window_pages.specs.Runs.{is_here_as, keeps_slot, lies_as};
+ghost use Rattle.window_pages.specs.Runs.{is_here_as, lies_as};
 ghost use Rattle.pageshare_window_c.specs.Budgets.{ledger_of, rates};
 ghost use Rattle.window_pages.specs.Bytes.{known_of, notes_of};
 ghost use Rattle.window_pages.specs.Changed.{Becomes, Lends, given_back, lender_with, no_past};
@@ -31,6 +31,7 @@ mod budget;
 mod finds;
 mod holds;
 mod laws;
+mod lend;
 mod looks;
 mod mappings;
 mod numbers;
@@ -43,59 +44,108 @@ mod tables;
 mod tasks;
 mod times;
 
-pub use budget::{CREDIT_NS, OWED_NS, SAVED_NS, WindowBudget};
-use budget::{budget_of, config_by, put};
+pub use budget::CREDIT_NS;
+pub use budget::OWED_NS;
+pub use budget::SAVED_NS;
+pub use budget::WindowBudget;
+use budget::budget_of;
+use budget::config_by;
+use budget::put;
 pub use client_session::KeptSession;
-pub use finds::{pageshare_window_begin_find, pageshare_window_find_done};
-pub use holds::{
-    WindowRowOrder, pageshare_window_begin_row, pageshare_window_next_of_row,
-    pageshare_window_row_again, pageshare_window_row_done,
-};
-pub use laws::{limits_law, tasks_law};
+pub use finds::pageshare_window_begin_find;
+pub use finds::pageshare_window_find_done;
+pub use holds::WindowRowOrder;
+pub use holds::pageshare_window_begin_row;
+pub use holds::pageshare_window_next_of_row;
+pub use holds::pageshare_window_row_again;
+pub use holds::pageshare_window_row_done;
+pub use laws::limits_law;
+pub use laws::tasks_law;
+pub use lend::pageshare_window_copied;
+pub use lend::pageshare_window_loaned;
+pub use lend::pageshare_window_released;
+pub use lend::pageshare_window_to_copy;
+pub use lend::pageshare_window_to_release;
 use look_tasks::Budget;
-use look_tasks::room::{fits, most};
-pub use look_tasks::{LookFinds, LookSteps, LookTasks, LookTimes, PartReturn, TaskOutcome};
-pub use looks::{
-    WindowLook, pageshare_window_ask_at_once, pageshare_window_asked, pageshare_window_asked_last,
-    pageshare_window_glanced_by, pageshare_window_held, pageshare_window_is_in_passing,
-    pageshare_window_is_left_out, pageshare_window_is_to_fetch, pageshare_window_set_rest,
-    pageshare_window_wake,
-};
-pub use mappings::{
-    pageshare_window_mappings_at, pageshare_window_mappings_more, pageshare_window_mappings_new,
-};
+pub use look_tasks::LookFinds;
+pub use look_tasks::LookSteps;
+pub use look_tasks::LookTasks;
+pub use look_tasks::LookTimes;
+pub use look_tasks::PartReturn;
+pub use look_tasks::TaskOutcome;
+use look_tasks::room::fits;
+use look_tasks::room::most;
+pub use looks::WindowLook;
+pub use looks::pageshare_window_ask_at_once;
+pub use looks::pageshare_window_asked;
+pub use looks::pageshare_window_asked_last;
+pub use looks::pageshare_window_glanced_by;
+pub use looks::pageshare_window_held;
+pub use looks::pageshare_window_is_in_passing;
+pub use looks::pageshare_window_is_left_out;
+pub use looks::pageshare_window_is_to_fetch;
+pub use looks::pageshare_window_set_rest;
+pub use looks::pageshare_window_wake;
+pub use mappings::pageshare_window_mappings_at;
+pub use mappings::pageshare_window_mappings_more;
+pub use mappings::pageshare_window_mappings_new;
 pub use numbers::pageshare_window_find_numbers;
-pub use offered_ranges::{OfferedBounds, OfferedRange, Piece, Taken};
-use offered_ranges::{add, is_part_left, next as next_piece, take_out};
+pub use offered_ranges::OfferedBounds;
+pub use offered_ranges::OfferedRange;
+pub use offered_ranges::Piece;
+pub use offered_ranges::Taken;
+use offered_ranges::add;
+use offered_ranges::is_part_left;
+use offered_ranges::next as next_piece;
+use offered_ranges::take_out;
 use order::number_of;
-use page_lender::{Notice, Outcome};
+use page_lender::Notice;
+use page_lender::Outcome;
 pub use page_looks::finds::FindOutcome;
-pub use page_looks::parts::{Part, PartConfig, PartLook};
+pub use page_looks::parts::Part;
+pub use page_looks::parts::PartConfig;
+pub use page_looks::parts::PartLook;
 use part::part_number;
-pub use pins::{
-    pageshare_window_begin_transfer, pageshare_window_end_transfer, pageshare_window_pin,
-    pageshare_window_unpin,
-};
-pub use ranges::{pageshare_window_bounds, pageshare_window_is_all_left};
-pub use tables::{
-    pageshare_window_are_movable, pageshare_window_cover, pageshare_window_detach,
-    pageshare_window_find_facts, pageshare_window_give_up, pageshare_window_leave,
-    pageshare_window_may_give_up, pageshare_window_may_go_on, pageshare_window_uncover,
-    pageshare_window_unmap,
-};
-pub use tasks::{
-    WindowTask, pageshare_window_begin_tasks, pageshare_window_next_task,
-    pageshare_window_task_done,
-};
-pub use times::{
-    pageshare_window_be_eager, pageshare_window_begin_times, pageshare_window_look_ended,
-    pageshare_window_pause_ms,
-};
-pub use window_pages::{PartCounts, WindowFacts, WindowPage};
-use window_pages::{
-    alike, before_release, choose, forget, give_back, hear, here, is_free, next, see, stays,
-    stop_past, take, withdraw,
-};
+pub use pins::pageshare_window_begin_transfer;
+pub use pins::pageshare_window_end_transfer;
+pub use pins::pageshare_window_pin;
+pub use pins::pageshare_window_unpin;
+pub use ranges::pageshare_window_bounds;
+pub use ranges::pageshare_window_is_all_left;
+pub use tables::pageshare_window_are_movable;
+pub use tables::pageshare_window_cover;
+pub use tables::pageshare_window_detach;
+pub use tables::pageshare_window_find_facts;
+pub use tables::pageshare_window_give_up;
+pub use tables::pageshare_window_leave;
+pub use tables::pageshare_window_may_give_up;
+pub use tables::pageshare_window_may_go_on;
+pub use tables::pageshare_window_uncover;
+pub use tables::pageshare_window_unmap;
+pub use tasks::WindowTask;
+pub use tasks::pageshare_window_begin_tasks;
+pub use tasks::pageshare_window_next_task;
+pub use tasks::pageshare_window_task_done;
+pub use times::pageshare_window_be_eager;
+pub use times::pageshare_window_begin_times;
+pub use times::pageshare_window_look_ended;
+pub use times::pageshare_window_pause_ms;
+pub use window_pages::PartCounts;
+pub use window_pages::WindowFacts;
+pub use window_pages::WindowPage;
+use window_pages::alike;
+use window_pages::choose;
+use window_pages::forget;
+use window_pages::give_back;
+use window_pages::hear;
+use window_pages::here;
+use window_pages::is_free;
+use window_pages::next;
+use window_pages::see;
+use window_pages::stays;
+use window_pages::stop_past;
+use window_pages::take;
+use window_pages::withdraw;
 pub use window_tables::TableFacts;
 pub use window_tables::pins::Transfer;
 
@@ -285,19 +335,6 @@ pub extern "C" fn pageshare_window_refused(page: &mut WindowPage, part: &mut Par
     take(page, part, Outcome::Refused)
 }
 
-/// Learns that the host gave this slot with this frame for a page. Returns false, and learns nothing, if it wasn't asked for a loan.
-#[unsafe(no_mangle)]
-pub extern "C" fn pageshare_window_lent(
-    page: &mut WindowPage,
-    part: &mut PartCounts,
-    slot: u32,
-    frame: u32,
-) -> bool
-    ensures { Takes (Outcome.Lent slot frame) result page.old page.new part.old part.new }
-{
-    take(page, part, Outcome::Lent(slot, frame))
-}
-
 /// Hears that a copy over a page's frame was found, or that it has memory of its own now. Returns false, and hears nothing, while an order
 /// is open that touches the page.
 #[unsafe(no_mangle)]
@@ -375,14 +412,6 @@ pub extern "C" fn pageshare_window_here(pages: &[WindowPage]) -> usize
     ensures { result ≡ option_map_or (λ first. prefix_len (is_here_as first) pages.now) (slice_get pages.now 0) 0 }
 {
     here(pages)
-}
-
-/// Returns how many pages come before the first one whose slot is to be released, and of which no order is open.
-#[unsafe(no_mangle)]
-pub extern "C" fn pageshare_window_before_release(pages: &[WindowPage]) -> usize
-    ensures { result ≡ prefix_len keeps_slot pages.now }
-{
-    before_release(pages)
 }
 
 /// Returns the number of what is to be done with a part of a window after a look: 0 nothing, 1 it is split, 2 it is made whole. The caller

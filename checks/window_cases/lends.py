@@ -1,0 +1,180 @@
+"""Lists of pages that are copied, lent and released as chance has it, beside a plain model of each page (common/plain_page.py)."""
+from __future__ import annotations
+
+import collections
+import random
+from typing import Any
+
+from common.compared import Compared
+from common.plain_page import (
+    CHOSEN, COPIED, COPY, DONE, HOLD, LEAVING, LEND, LENT, PRIVATE, READY, REFUSED, RELEASE, SHOWN, WAITING, ZEROS, Facts, Page, sums,
+)
+from common.window_library import Library, values_of
+from harness import Tally
+
+# The pages of a table, of which three are in its first part; the frames of the host's file; and how often a table is made.
+PAGES, LEAD, FRAMES, ROUNDS, CALLS = 8, 509, 50, 3000, 5
+NO_FRAME = 2**32 - 1
+
+
+def slot_of(name: int) -> int:
+    """The slot of a host that has this name in 32 bits."""
+    return name >> 26 << 32 | name & 0x3FFFFFF
+
+
+def some_page(chance: random.Random) -> Page:
+    """A page as it may come to a list."""
+    belief = chance.choice([*[PRIVATE] * 4, *[CHOSEN] * 3, *[COPIED] * 5, READY, READY | ZEROS, LEAVING, LEAVING, SHOWN, *WAITING])
+    frame = 0 if belief == LEAVING else chance.randrange(2)
+    return Page(belief, chance.randrange(2), frame, chance.random() < 0.4, chance.random() < 0.3, looks=chance.choice([1, 3, 3]),
+                asks=chance.choice([0, 3]), clue=chance.randrange(9), out=chance.random() < 0.05)
+
+
+class Table:
+    """A table of pages for the library, what is known of each page, and what is so of them."""
+
+    def __init__(self, library: Library, seen: Compared, chance: random.Random) -> None:
+        self.library, self.seen, self.chance = library, seen, chance
+        self.known = [some_page(chance) for _ in range(PAGES)]
+        self.pages = library.array("page", [it.bytes() for it in self.known])
+        self.parts = library.array("counts", [sums(self.known[:3]), sums(self.known[3:])])
+        self.pins = [chance.choice([0, 0, 0, 1]) for _ in range(chance.choice([0, PAGES]))]
+        self.barred = chance.random() < 0.1
+        self.facts = [library.make("table_facts", locked=self.barred), library.array("uint16_t", self.pins), len(self.pins)]
+        self.whole = [chance.random() < 0.2 for _ in range(2)]
+        self.found: collections.Counter[str] = collections.Counter()
+
+    def facts_of(self, number: int) -> Facts:
+        return Facts(pinned=number < len(self.pins) and self.pins[number] > 0, locked=self.barred)
+
+    def numbers(self) -> list[int]:
+        """Some pages, maybe one twice, and maybe one that isn't there."""
+        return [self.chance.randrange(PAGES + 1) for _ in range(self.chance.randrange(6))]
+
+    def call(self, name: str, *words: Any) -> Any:
+        return self.library.call(name, self.pages, PAGES, self.parts, 2, LEAD, *words)
+
+    def list(self, name: str, before: list[Any], numbers: list[int], lists: list[tuple[str, list[int]]], more: list[Any], due: list[int]) -> None:
+        """A call for a list of pages. Lists that are too short are refused, and nothing changes then."""
+        words: list[Any] = [self.library.array("uint32_t", numbers), len(numbers)]
+        for kind, values in lists:
+            words += [self.library.array(kind, values), len(values)]
+        answers = self.library.array("uint8_t", [9] * len(numbers))
+        self.seen.holds(f"{name}, too short", not self.call(name, *before, *words, *more, answers, len(numbers) + 1))
+        self.seen.holds(name, self.call(name, *before, *words, *more, answers, len(numbers)))
+        self.seen.equal(f"answers of {name}", list(answers)[: len(numbers)], due)
+        self.found.update(f"{name} {it}" for it in due)
+
+    # ---- copies ----
+
+    def kept(self, number: int) -> int:
+        """The fingerprint that is kept of a page."""
+        return 0 if number >= PAGES else self.known[number].frame << 32 | self.known[number].slot
+
+    def check_of(self, number: int, there: int, fingerprint: int) -> int:
+        """How it is seen that a copy is of the page that was found, where it is to be copied; it has its order then."""
+        if number >= PAGES or not there or self.whole[(LEAD + number) // 512]:
+            return 0
+        page, facts = self.known[number], self.facts_of(number)
+        if page.ordered or not page.is_free(facts):
+            return 0
+        by_reading, is_kept = page.over or (page.looks, page.asks) == (3, 3), fingerprint == self.kept(number)
+        page.choose(facts, False)
+        return (1 if by_reading else 2 if is_kept else 3) if page.next(facts) == COPY else 0
+
+    def to_copy(self) -> None:
+        numbers = self.numbers()
+        there = [self.chance.choice([0, 1, 1, 1]) for _ in numbers]
+        prints = [self.kept(it) if self.chance.random() < 0.7 else 5 for it in numbers]
+        due = [self.check_of(*it) for it in zip(numbers, there, prints)]
+        before = [*self.facts, self.library.array("part", [(it, 0, 0, 0, 0, False, False, 0) for it in self.whole]), 2]
+        self.list("to_copy", before, numbers, [("uint8_t", there), ("uint64_t", prints)], [], due)
+
+    def came(self, number: int, outcome: int) -> int:
+        """What came of a copy: 1 if a loan is to be asked for."""
+        if number >= PAGES or outcome not in (1, 2, 3):
+            return 0
+        page = self.known[number]
+        page.take(DONE if outcome == 1 else REFUSED)
+        if outcome == 2:
+            page.forget()
+        return int(outcome == 1 and page.next(self.facts_of(number)) == LEND)
+
+    def copied(self) -> None:
+        numbers = self.numbers()
+        outcomes = [self.chance.choice([0, 1, 1, 1, 2, 3, 4]) for _ in numbers]
+        due = [self.came(*it) for it in zip(numbers, outcomes)]
+        self.list("copied", self.facts, numbers, [("uint8_t", outcomes)], [], due)
+
+    # ---- loans ----
+
+    def loan(self, number: int, slot: int, frame: int, is_heard: bool) -> int:
+        """What a host said of a page."""
+        if number >= PAGES:
+            return 0
+        page = self.known[number]
+        if not is_heard or frame == NO_FRAME or slot >> 32 >= 64 or slot & 0xFFFFFFFF >= 2**26:
+            page.take(REFUSED)
+            page.asks = 3 if is_heard else page.asks
+            return (2 if frame == NO_FRAME else 4) if is_heard else 0
+        is_taken = page.take(LENT, (slot >> 32) * 2**26 + slot % 2**32, frame)
+        return is_taken + (8 if frame < FRAMES else 4)
+
+    def loaned(self) -> None:
+        numbers, is_heard = self.numbers(), self.chance.random() < 0.8
+        slots = [self.chance.choice([slot_of(self.chance.randrange(2**32)), self.chance.randrange(2**40)]) for _ in numbers]
+        frames = [self.chance.choice([FRAMES - 1, FRAMES, NO_FRAME, self.chance.randrange(FRAMES)]) for _ in numbers]
+        due = [self.loan(*it, is_heard) for it in zip(numbers, slots, frames)]
+        self.list("loaned", [], numbers, [("uint64_t", slots), ("uint32_t", frames)], [FRAMES, is_heard], due)
+
+    # ---- slots that are released ----
+
+    def is_to_release(self, number: int) -> bool:
+        page, facts = self.known[number], self.facts_of(number)
+        if not page.to_release() or page.ordered or page.belief in WAITING or facts.pinned:
+            return False
+        order = page.next(facts)
+        if order == HOLD:
+            page.take(REFUSED)
+            order = page.next(facts)
+        return order == RELEASE
+
+    def to_release(self) -> None:
+        """Pages are found, as many as there is room for, and their slots are released or not."""
+        first, room = self.chance.randrange(PAGES), self.chance.randrange(4)
+        count, due = self.chance.randrange(PAGES - first + 1), list[int]()
+        for number in range(first, first + count):
+            if len(due) < room and self.is_to_release(number):
+                due.append(number)
+        places = self.library.array("size_t", [0] * room)
+        beyond = self.call("to_release", *self.facts, first, PAGES - first + 1, places, room)
+        self.seen.equal("to_release beyond the table", beyond, 0)
+        found = self.call("to_release", *self.facts, first, count, places, room)
+        self.seen.equal("to_release", list(places)[:found], due)
+        self.found["found"] += len(due)
+        if self.chance.random() < 0.7:
+            is_done = self.chance.random() < 0.7
+            self.seen.holds("released", self.call("released", self.library.array("size_t", [*due, PAGES]), len(due) + 1, is_done))
+            for number in due:
+                self.known[number].take(DONE if is_done else REFUSED)
+
+    def go_on(self) -> None:
+        """A call, after which the pages and the counts of their parts are as they are known."""
+        call = self.chance.choice([self.to_copy, self.copied, self.loaned, self.to_release])
+        call()
+        self.seen.equal(f"the pages after {call.__name__}", values_of(self.pages), tuple(page.bytes() for page in self.known))
+        self.seen.equal(f"the counts after {call.__name__}", values_of(self.parts), (sums(self.known[:3]), sums(self.known[3:])))
+
+
+def run(tally: Tally, library: Library) -> None:
+    """Calls for lists of pages, of tables that are made anew."""
+    seen, chance = Compared(tally, "lists of pages as chance has it"), random.Random(12)
+    found: collections.Counter[str] = collections.Counter()
+    for _ in range(ROUNDS):
+        table = Table(library, seen, chance)
+        for _ in range(CALLS):
+            table.go_on()
+        found.update(table.found)
+    for name in ("to_copy 1", "to_copy 2", "to_copy 3", "copied 1", "loaned 2", "loaned 9", "loaned 5", "found"):
+        seen.holds(f"enough of {name}", found[name] >= 50)
+    seen.close()
