@@ -1,6 +1,6 @@
 -- Calls for many pages at once are calls of a history, one page after another.
 use Rattle.std.proofs.Common.{◌≡◌, ◌∙◌, ℕ, zero, suc, ◌+◌, ◌-◌, ◌<◌, ◌≤◌, ◌⊎◌, inl, inr, Bool, true, false, ◌&&◌, cond, List, [], ◌∷◌, ◌++◌, length, Some, None, refl, ap, sym, subst, arith}
-use Rattle.std.specs.Prelude.{Option, nat_eq, nat_le, slice_get, slice_index_or, slice_set}
+use Rattle.std.specs.Prelude.{Option, nat_eq, nat_le, nat_lt, slice_get, slice_index_or, slice_set}
 use Rattle.std.proofs.Math.Seq.{set-append_seam}
 use Rattle.std.proofs.lemmas.Bool.{cases_lt, eqb-false, eqb-true, leb-true}
 use Rattle.std.proofs.lemmas.List.{length-append}
@@ -11,7 +11,25 @@ use Rattle.std.proofs.lemmas.Option.{slice_get-get_or, slice_get_within}
 use Rattle.window_events.specs.Windows.{Mappings}
 use Rattle.page_holds.specs.Orders.{facts_there}
 use Rattle.page_holds.specs.Rows.{Asks, CameOut, IsBegun, PageBecomes, RowChanges, is_asked, taking_at}
-use Rattle.page_holds.specs.Steps.{Took, asks_for, is_taken}
+use Rattle.lend_steps.specs.Copies.{CameOfCopy, ChosenFor, ToCopy, is_changed, is_chosen, is_good, is_left, is_nothing, is_zeros}
+use Rattle.lend_steps.specs.Lists.{Told, is_not_there, is_there}
+use Rattle.lend_steps.specs.Loans.{CameOfLoan, NotLent, is_given, is_unheard, is_without_frame, is_without_slot}
+use Rattle.lend_steps.specs.Releases.{OrderedTo, asks, at_once, is_hold, passes, refused_first}
+use Rattle.lend_steps.specs.declared.copies.CopyOutcome.{CopyOutcome}
+use Rattle.lend_steps.specs.declared.loans.LoanReply.{LoanReply}
+use Rattle.lend_steps.specs.declared.loans.LoanReply.TheVariants.{Unheard, NoFrame, NoSlot, Given as Loan}
+use Rattle.page_holds.specs.Bytes.{step_by}
+use Rattle.page_holds.specs.Steps.{Took, asks_for, is_taken, is_to_hold, outcome_for, outcome_of, said}
+use Rattle.page_holds.specs.declared.place.HoldStep.{HoldStep}
+use Rattle.page_holds.specs.declared.place.HoldStep.TheVariants as Hold
+use Rattle.page_holds.specs.declared.place.Taking.{Taking}
+use Rattle.page_holds.specs.declared.place.Taking.TheVariants.{Refused as NotTaken, Watched, Guarded as TakenGuarded, Aside as TakenAside}
+use Rattle.page_lender.specs.Decisions.{waiting}
+use Rattle.page_lender.specs.declared.belief.Belief.{Belief}
+use Rattle.page_lender.specs.declared.belief.Target.TheVariants.{Frame}
+use Rattle.page_lender.specs.declared.order.Order.TheVariants as Order
+use Rattle.page_lender.specs.declared.order.Order.TheVariants.{Map}
+use Rattle.page_lender.specs.declared.order.Outcome.TheVariants.{Done, Lent, Refused, Unknown}
 use Rattle.page_lender.specs.Calls.{IsDone, IsOrdered, order_due}
 use Rattle.page_lender.specs.declared.bars.Bars.{Bars}
 use Rattle.page_lender.specs.declared.order.Order.{Order}
@@ -26,10 +44,10 @@ use Rattle.window_tables.specs.Tables.{can_note}
 use Rattle.window_tables.specs.declared.changes.Change.{Change}
 use Rattle.lending_laws.proofs.Kept.{IsKept, history_kept}
 use Rattle.lending_laws.proofs.Notes.{each_note_is_a_call, known_stays}
-use Rattle.lending_laws.specs.Batches.{AreTruly, EachIsHistory, EachNoteGoes, EachRowGoes, EachRowOrderGoes, EachRowStepGoes, Goes, IsSo, Reaches, row_outcome}
+use Rattle.lending_laws.specs.Batches.{AreTruly, CopyIsSo, EachChoiceGoes, EachCopyGoes, EachIsHistory, EachLoanGoes, EachNoteGoes, EachReleaseGoes, EachReleaseOrderGoes, EachRowGoes, EachRowOrderGoes, EachRowStepGoes, Goes, IsSo, IsSoOf, LoanIsSo, Reaches, row_outcome}
 use Rattle.lending_laws.specs.Notes.{ChangesByTwo, IsTruly}
 use Rattle.lending_laws.specs.Batches as goes
-use Rattle.lending_laws.specs.Histories.{Calls, CallsAt, History, IsTold, Moment, Nothing, OneIs, Pending, Reads, calls, is_told, notes, pending_after, slots_after}
+use Rattle.lending_laws.specs.Histories.{Calls, CallsAt, CarriedOut, Given, GivesWhatItMay, History, IsTold, Moment, Nothing, OneIs, Pending, Reads, calls, is_told, notes, pending_after, slots_after}
 use Rattle.lending_laws.specs.Histories as made
 
 pub each_is_history : EachIsHistory
@@ -262,10 +280,25 @@ row_goes g first from begin count m new row row_new Becomes r fits can =
       (slice_index_or row_new (begin + n) 0, r.inside n (slice_index_or row (begin + n) 0) (slice_index_or row_new (begin + n) 0) x y l (byte_in row (begin + n) there) (byte_in row_new (begin + n) there_new)
           (subst (λ v. slice_get m.pages v ≡ Some x) (sym (place n)) e) (subst (λ v. slice_get new v ≡ Some y) (sym (place n)) f))
 
+-- an outcome with which a host gives no slot
+no_loan : Outcome → Bool
+no_loan Done = true
+no_loan (Lent slot n) = false
+no_loan Refused = true
+no_loan Unknown = true
+
+gives_any : (g : (ℕ → Bool) → ℕ → Bool) (slots : ℕ → Bool) (its : Outcome) → no_loan its ≡ true → GivesWhatItMay g slots its
+unfolding no_loan
+gives_any g slots Done e = tt
+gives_any g slots (Lent slot n) e = cc
+gives_any g slots Refused e = tt
+gives_any g slots Unknown e = tt
+
 -- a turn by an outcome that is told
-told_turn : (g : (ℕ → Bool) → ℕ → Bool) (first i : ℕ) (m : Moment) (x y : WindowPage) (its : Outcome) (part after : PartCounts) → IsSo g m i x its → Lends (IsDone its) no_bars x y part after → CanTurn g first m i x y
-told_turn g first i m x y its part after so d k w o p at =
-    let new : Moment = record k { pages = slice_set k.pages i y; orders = with_pending i Nothing k.orders; slots = slots_after so.order its k.slots } in
+told_as : (g : (ℕ → Bool) → ℕ → Bool) (first i : ℕ) (k : Moment) (x y : WindowPage) (its : Outcome) (part after : PartCounts) (order : Order) → IsTold its order (k.orders i) →
+    ((slot n : ℕ) → k.orders i ≡ CarriedOut (Map (Frame slot n)) → (known_of x).over ≡ true) → GivesWhatItMay g k.slots its → Lends (IsDone its) no_bars x y part after → slice_get k.pages i ≡ Some x → Turns g first k i y
+told_as g first i k x y its part after order t n gives d at =
+    let new : Moment = record k { pages = slice_set k.pages i y; orders = with_pending i Nothing k.orders; slots = slots_after order its k.slots } in
     record {
       new = new;
       goes = goes.is_told k new i goes.stays (record {
@@ -274,41 +307,89 @@ told_turn g first i m x y its part after so d k w o p at =
         part = part;
         part_after = after;
         pages = one_changes k.pages i x y at;
-        order = so.order;
+        order = order;
         outcome = its;
-        told = subst (λ v. IsTold its so.order v) (sym p) so.told;
+        told = t;
         done = d;
-        noted = λ slot n e. so.noted slot n (sym p ∙ e);
-        gives = so.gives k.slots;
+        noted = n;
+        gives = gives;
         orders = one_is i Nothing k.orders;
         slots = refl;
         stored = refl;
         world = refl;
       });
       has = refl;
-      others = λ j n. other_pending i j Nothing (k.orders j) n;
+      others = λ j m. other_pending i j Nothing (k.orders j) m;
       stored = refl;
       world = refl;
     }
 
+told_turn : (g : (ℕ → Bool) → ℕ → Bool) (first i : ℕ) (m : Moment) (x y : WindowPage) (its : Outcome) (part after : PartCounts) → no_loan its ≡ true → IsSo g m i x its → Lends (IsDone its) no_bars x y part after → CanTurn g first m i x y
+told_turn g first i m x y its part after free so d k w o p at =
+    told_as g first i k x y its part after so.order (subst (λ v. IsTold its so.order v) (sym p) so.told) (λ slot n e. so.noted slot n (sym p ∙ e)) (gives_any g k.slots its free) d at
+
+told_now : (g : (ℕ → Bool) → ℕ → Bool) (first i : ℕ) (m : Moment) (x y : WindowPage) (its : Outcome) (part after : PartCounts) → IsSo g m i x its → Lends (IsDone its) no_bars x y part after → slice_get m.pages i ≡ Some x → Turns g first m i y
+told_now g first i m x y its part after so d at = told_as g first i m x y its part after so.order so.told so.noted so.gives d at
+
 -- what a step of a hold takes
-pub took_turn : (g : (ℕ → Bool) → ℕ → Bool) (first i : ℕ) (m : Moment) (x y : WindowPage) (outcome : Option Outcome) (part after : PartCounts) → Took outcome x y part after →
-    ((its : Outcome) → outcome ≡ Some its → takes its (known_of x) ≡ true → IsSo g m i x its) → CanTurn g first m i x y
-took_turn g first i m x y outcome part after t so = pick outcome (is_taken outcome (known_of x)) refl t so where
-  pick : (o : Option Outcome) (is : Bool) → is_taken o (known_of x) ≡ is → Took o x y part after → ((its : Outcome) → o ≡ Some its → takes its (known_of x) ≡ true → IsSo g m i x its) → CanTurn g first m i x y
-  pick o false e t so = λ k w s p at. one_call g first i k x y (k.orders i) at (stays_call (first + i) k.world (k.orders i) x y (t.page e))
-  pick None true e t so = cc
-  pick (Some its) true e t so = told_turn g first i m x y its part after (so its refl e) (t.done its refl e)
+took_turn : (g : (ℕ → Bool) → ℕ → Bool) (first i : ℕ) (m : Moment) (x y : WindowPage) (outcome : Option Outcome) (part after : PartCounts) → Took outcome x y part after →
+    ((its : Outcome) → outcome ≡ Some its → no_loan its ≡ true) → ((its : Outcome) → outcome ≡ Some its → takes its (known_of x) ≡ true → IsSo g m i x its) → CanTurn g first m i x y
+took_turn g first i m x y outcome part after t free so = pick outcome (is_taken outcome (known_of x)) refl t free so where
+  pick : (o : Option Outcome) (is : Bool) → is_taken o (known_of x) ≡ is → Took o x y part after → ((its : Outcome) → o ≡ Some its → no_loan its ≡ true) →
+      ((its : Outcome) → o ≡ Some its → takes its (known_of x) ≡ true → IsSo g m i x its) → CanTurn g first m i x y
+  pick o false e t free so = λ k w s p at. one_call g first i k x y (k.orders i) at (stays_call (first + i) k.world (k.orders i) x y (t.page e))
+  pick None true e t free so = cc
+  pick (Some its) true e t free so = told_turn g first i m x y its part after (free its refl) (so its refl e) (t.done its refl e)
+
+some_no_loan : (a its : Outcome) → Some a ≡ Some its → no_loan a ≡ true → no_loan its ≡ true
+some_no_loan a its e h = subst (λ v. no_loan v ≡ true) (same a its e) h where
+  same : (a b : Outcome) → Some a ≡ Some b → a ≡ b
+  same a b e = cc
+
+asks_no_loan : (belief : Belief) (taking : Taking) (its : Outcome) → asks_for belief taking ≡ Some its → no_loan its ≡ true
+unfolding no_loan
+asks_no_loan belief taking its e = pick (is_to_hold belief) e where
+  taken : (taking : Taking) → no_loan (outcome_of taking) ≡ true
+  taken NotTaken = refl
+  taken Watched = refl
+  taken TakenGuarded = refl
+  taken TakenAside = refl
+  pick : (b : Bool) → cond b (Some (outcome_of taking)) None ≡ Some its → no_loan its ≡ true
+  pick true e = some_no_loan (outcome_of taking) its e (taken taking)
+  pick false e = cc
+
+said_no_loan : (is_done : Bool) → no_loan (said is_done) ≡ true
+unfolding no_loan
+said_no_loan true = refl
+said_no_loan false = refl
+
+step_no_loan : (step : HoldStep) (belief : Belief) (is_done : Bool) (its : Outcome) → outcome_for step belief is_done ≡ Some its → no_loan its ≡ true
+unfolding no_loan
+step_no_loan Hold.Over belief is_done its e = cc
+step_no_loan Hold.Compare belief is_done its e = some_no_loan (said is_done) its e (said_no_loan is_done)
+step_no_loan Hold.CompareZeros belief is_done its e = some_no_loan (said is_done) its e (said_no_loan is_done)
+step_no_loan Hold.Map belief is_done its e = some_no_loan (said is_done) its e (said_no_loan is_done)
+step_no_loan Hold.GiveBack belief true its e = cc
+step_no_loan Hold.GiveBack belief false its e = some_no_loan Refused its e refl
+step_no_loan Hold.PutBack belief true its e = cc
+step_no_loan Hold.PutBack belief false its e = pick (waiting belief) e where
+  pick : (b : Bool) → cond b (Some Refused) None ≡ Some its → no_loan its ≡ true
+  pick true e = some_no_loan Refused its e refl
+  pick false e = cc
+step_no_loan Hold.EndWatch belief is_done its e = pick (waiting belief) e where
+  pick : (b : Bool) → cond b (Some (said is_done)) None ≡ Some its → no_loan its ≡ true
+  pick true e = some_no_loan (said is_done) its e (said_no_loan is_done)
+  pick false e = cc
 
 pub each_row_goes : EachRowGoes
 each_row_goes g first lead from takings m new parts parts_new row row_new b so =
     row_goes g first from 0 (length row) m new row row_new (IsBegun takings) (b.pages refl) (omega arith)
-    (λ n c x y l e begun. took_turn g first (from + (0 + n)) m x y (asks_for (belief_of x) (taking_at takings n)) begun.page.part begun.page.part_after begun.page.becomes (λ its a t. so n x its l e a t))
+    (λ n c x y l e begun. took_turn g first (from + (0 + n)) m x y (asks_for (belief_of x) (taking_at takings n)) begun.page.part begun.page.part_after begun.page.becomes (λ its a. asks_no_loan (belief_of x) (taking_at takings n) its a) (λ its a t. so n x its l e a t))
 
 pub each_row_step_goes : EachRowStepGoes
 each_row_step_goes g first lead from begin done refused m new parts parts_new row row_new b so =
     row_goes g first from begin (done + refused) m new row row_new (CameOut done) (b.pages refl) (omega (arith, fits))
-    (λ n c x y l e came. took_turn g first (from + (begin + n)) m x y (row_outcome row begin done n x) came.page.part came.page.part_after came.page.becomes (λ its a t. so n x its l e a t)) where
+    (λ n c x y l e came. took_turn g first (from + (begin + n)) m x y (row_outcome row begin done n x) came.page.part came.page.part_after came.page.becomes (λ its a. step_no_loan (step_by (belief_of x) (slice_index_or row (begin + n) 0)) (belief_of x) (nat_lt n done) its a) (λ its a t. so n x its l e a t)) where
   right : (one other : Bool) → (one && other) ≡ true → other ≡ true
   right true other e = e
   right false other e = cc
@@ -386,3 +467,112 @@ stays_turn g first i m x y s k w o p at = one_call g first i k x y (k.orders i) 
 pub order_turn : (g : (ℕ → Bool) → ℕ → Bool) (first i : ℕ) (m : Moment) (x y : WindowPage) (part after : PartCounts) (order : Order) (bars : Bars) → Lends (IsOrdered order) bars x y part after → CanTurn g first m i x y
 order_turn g first i m x y part after order bars l k w o p at =
     one_call g first i k x y (pending_after order (k.orders i)) at (made.orders x y part after order bars (k.orders i) l)
+
+-- ---- lists of pages that are lent
+
+-- a step behind a turn
+pub and_then : (g : (ℕ → Bool) → ℕ → Bool) (first i : ℕ) (m : Moment) (x between y : WindowPage) → slice_get m.pages i ≡ Some x → (t : Turns g first m i between) → CanTurn g first t.new i between y → Turns g first m i y
+and_then g first i m x between y e t c =
+    turns_then g first i m between y t (c t.new refl refl refl (subst (λ v. slice_get v i ≡ Some between) (sym t.has) (set_own m.pages i x between e)))
+
+-- a page that stays, or of which no more is known than before
+stays_now : (g : (ℕ → Bool) → ℕ → Bool) (first i : ℕ) (m : Moment) (x y : WindowPage) → slice_get m.pages i ≡ Some x → known_of y ≡ known_of x → Turns g first m i y
+stays_now g first i m x y e s = one_call g first i m x y (m.orders i) e (known_stays (first + i) m.world (m.orders i) x y s)
+
+-- what a turn of a list reaches
+turn_reaches : (g : (ℕ → Bool) → ℕ → Bool) (first i : ℕ) (m : Moment) (y : WindowPage) (new : List WindowPage) → Turns g first m i y → new ≡ slice_set m.pages i y → Reaches g first m new
+turn_reaches g first i m y new t e = record { new = t.new; goes = t.goes; has = t.has ∙ sym e; stored = t.stored; world = t.world }
+
+none_reaches : (g : (ℕ → Bool) → ℕ → Bool) (first : ℕ) (m : Moment) (new : List WindowPage) → new ≡ m.pages → Reaches g first m new
+none_reaches g first m new e = record { new = m; goes = goes.stays; has = sym e; stored = refl; world = refl }
+
+-- an outcome that is told if it can be taken
+told_of : (g : (ℕ → Bool) → ℕ → Bool) (first i : ℕ) (m : Moment) (x y : WindowPage) (its : Outcome) (part after : PartCounts) → slice_get m.pages i ≡ Some x → Told its x y part after → IsSoOf g m i its → Turns g first m i y
+told_of g first i m x y its part after e t so = pick (takes its (known_of x)) refl where
+  pick : (b : Bool) → takes its (known_of x) ≡ b → Turns g first m i y
+  pick true is = told_now g first i m x y its part after (so x e is) (t.done is) e
+  pick false is = stays_now g first i m x y e (ap known_of (t.page is))
+
+chosen_turn : (g : (ℕ → Bool) → ℕ → Bool) (first i : ℕ) (m : Moment) (x y : WindowPage) (facts : WindowFacts) (order : Order) (part after : PartCounts) → slice_get m.pages i ≡ Some x → ChosenFor facts order x y part after → Turns g first m i y
+chosen_turn g first i m x y facts order part after e c =
+    let t : Turns g first m i c.between = one_call g first i m x c.between (m.orders i) e
+        (made.chooses x c.between part c.part_between false (bars_of facts (known_of x)) (m.orders i) c.chosen) in
+    and_then g first i m x c.between y e t (order_turn g first i t.new c.between y c.part_between after order (bars_of facts (known_of c.between)) c.ordered)
+
+pub each_choice_goes : EachChoiceGoes
+each_choice_goes g first lead number fingerprint answer facts is_ready m new parts parts_new (is_there c) = turn_reaches g first number m c.after new (turn c.becomes) c.changed where
+  turn : ToCopy facts is_ready fingerprint answer c.before c.after c.part c.part_after → Turns g first m number c.after
+  turn (is_chosen order can chosen said) = chosen_turn g first number m c.before c.after facts order c.part c.part_after c.is_there chosen
+  turn (is_left can said same counts) = stays_now g first number m c.before c.after c.is_there (ap known_of same)
+each_choice_goes g first lead number fingerprint answer facts is_ready m new parts parts_new (is_not_there l said same counts) = none_reaches g first m new same
+
+copied_turn : (g : (ℕ → Bool) → ℕ → Bool) (first i : ℕ) (m : Moment) (x y : WindowPage) (facts : WindowFacts) (answer : ℕ) (came : CopyOutcome) (part after : PartCounts) → slice_get m.pages i ≡ Some x →
+    CameOfCopy facts answer x y part after came → CopyIsSo g m i came → Turns g first m i y
+copied_turn g first i m x y facts answer CopyOutcome.Good part after e (is_good order c said) so =
+    let t : Turns g first m i c.between = told_of g first i m x c.between Done part c.part_between e c.told so in
+    and_then g first i m x c.between y e t (order_turn g first i t.new c.between y c.part_between after order (bars_of facts (known_of c.between)) c.ordered)
+copied_turn g first i m x y facts answer CopyOutcome.Changed part after e (is_changed c said) so =
+    let t : Turns g first m i c.between = told_of g first i m x c.between Refused part c.part_between e c.told so in
+    and_then g first i m x c.between y e t (λ k w o p at. stays_now g first i k c.between y at c.forgotten.known)
+copied_turn g first i m x y facts answer CopyOutcome.Zeros part after e (is_zeros t said) so = told_of g first i m x y Refused part after e t so
+copied_turn g first i m x y facts answer CopyOutcome.Nothing part after e (is_nothing said same counts) so = stays_now g first i m x y e (ap known_of same)
+
+pub each_copy_goes : EachCopyGoes
+each_copy_goes g first lead number answer facts came m new parts parts_new (is_there c) so =
+    turn_reaches g first number m c.after new (copied_turn g first number m c.before c.after facts answer came c.part c.part_after c.is_there c.becomes so) c.changed
+each_copy_goes g first lead number answer facts came m new parts parts_new (is_not_there l said same counts) so = none_reaches g first m new same
+
+not_lent_turn : (g : (ℕ → Bool) → ℕ → Bool) (first i : ℕ) (m : Moment) (x y : WindowPage) (part after : PartCounts) → slice_get m.pages i ≡ Some x → NotLent x y part after → IsSoOf g m i Refused → Turns g first m i y
+not_lent_turn g first i m x y part after e n so =
+    let t : Turns g first m i n.between = told_of g first i m x n.between Refused part n.part_between e n.told so in
+    and_then g first i m x n.between y e t (λ k w o p at. stays_now g first i k n.between y at n.last.known)
+
+loaned_turn : (g : (ℕ → Bool) → ℕ → Bool) (first i : ℕ) (m : Moment) (x y : WindowPage) (frames answer : ℕ) (reply : LoanReply) (part after : PartCounts) → slice_get m.pages i ≡ Some x →
+    CameOfLoan frames answer x y part after reply → LoanIsSo g m i reply → Turns g first m i y
+loaned_turn g first i m x y frames answer Unheard part after e (is_unheard t said) so = told_of g first i m x y Refused part after e t so
+loaned_turn g first i m x y frames answer NoFrame part after e (is_without_frame n said) so = not_lent_turn g first i m x y part after e n so
+loaned_turn g first i m x y frames answer NoSlot part after e (is_without_slot n said) so = not_lent_turn g first i m x y part after e n so
+loaned_turn g first i m x y frames answer (Loan s f) part after e (is_given slot frame t said) so = told_of g first i m x y (Lent s f) part after e t so
+
+pub each_loan_goes : EachLoanGoes
+each_loan_goes g first lead number frames answer reply m new parts parts_new (is_there c) so =
+    turn_reaches g first number m c.after new (loaned_turn g first number m c.before c.after frames answer reply c.part c.part_after c.is_there c.becomes so) c.changed
+each_loan_goes g first lead number frames answer reply m new parts parts_new (is_not_there l said same counts) so = none_reaches g first m new same
+
+pub each_release_goes : EachReleaseGoes
+each_release_goes g first lead number answer outcome m new parts parts_new (is_there c) so =
+    turn_reaches g first number m c.after new (told_of g first number m c.before c.after outcome c.part c.part_after c.is_there c.becomes so) c.changed
+each_release_goes g first lead number answer outcome m new parts parts_new (is_not_there l said same counts) so = none_reaches g first m new same
+
+-- an order to hold a page that was given, and is refused at once
+held_given : (order : Order) (before : Pending) → is_hold order ≡ true → pending_after order before ≡ Given order
+held_given Order.Wait before e = cc
+held_given Order.Copy before e = cc
+held_given Order.Lend before e = cc
+held_given (Order.Hold target) before e = refl
+held_given (Order.Compare target) before e = cc
+held_given (Order.Map target) before e = cc
+held_given (Order.LetGo target) before e = cc
+held_given (Order.TakeHome in_place) before e = cc
+held_given (Order.Release slot) before e = cc
+
+not_carried : (order other : Order) → Given order ≡ CarriedOut other → ⊥
+not_carried order other e = cc
+
+ordered_to_turn : (g : (ℕ → Bool) → ℕ → Bool) (first i : ℕ) (m : Moment) (x y : WindowPage) (facts : WindowFacts) (order : Order) (part after : PartCounts) → slice_get m.pages i ≡ Some x → OrderedTo facts order x y part after →
+    Turns g first m i y
+ordered_to_turn g first i m x y facts order part after e (at_once h l) = order_turn g first i m x y part after order (bars_of facts (known_of x)) l m refl refl refl e
+ordered_to_turn g first i m x y facts order part after e (refused_first before one two part_one part_two h l t r) =
+    let pending : Pending = pending_after before (m.orders i) in
+    let then : Moment = after_call m i one pending in
+    let there : slice_get then.pages i ≡ Some one = set_own m.pages i x one e in
+    let given : then.orders i ≡ Given before = own_pending i pending (m.orders i) ∙ held_given before (m.orders i) h in
+    let so : IsSoOf g then i Refused = λ z at k. record { order = before; told = given; noted = λ slot n c. absurd (not_carried before (Map (Frame slot n)) (sym given ∙ c)); gives = tt } in
+    let refused : Turns g first then i two = told_of g first i then one two Refused part_one part_two there t so in
+    call_then g first i m x one y pending e (made.orders x one part part_one before (bars_of facts (known_of x)) (m.orders i) l)
+    (and_then g first i then one two y there refused (order_turn g first i refused.new two y part_two after order (bars_of facts (known_of two)) r))
+
+pub each_release_order_goes : EachReleaseOrderGoes
+each_release_order_goes g first lead place room count count_new facts pins m new parts parts_new places places_new (passes p n same counts said) = none_reaches g first m new same
+each_release_order_goes g first lead place room count count_new facts pins m new parts parts_new places places_new (asks is l p c n said) =
+    turn_reaches g first place m c.after new (ordered_to_turn g first place m c.before c.after facts c.becomes.order c.part c.part_after c.is_there c.becomes.ordered) c.changed

@@ -1,5 +1,12 @@
 -- Calls for many pages at once are calls of a history, one page after another.
 use Rattle.std.specs.Prelude.{◌≡◌, ℕ, ◌+◌, ◌<◌, Bool, true, nat_lt, List, length, Option, Some, slice_get, slice_index_or}
+use Rattle.lend_steps.specs.Copies.{CameOfCopy, ToCopy}
+use Rattle.lend_steps.specs.Lists.{Told, Turn}
+use Rattle.lend_steps.specs.Loans.{CameOfLoan}
+use Rattle.lend_steps.specs.Releases.{FindsAt}
+use Rattle.lend_steps.specs.declared.copies.CopyOutcome.{CopyOutcome}
+use Rattle.lend_steps.specs.declared.loans.LoanReply.{LoanReply}
+use Rattle.lend_steps.specs.declared.loans.LoanReply.TheVariants.{Unheard, NoFrame, NoSlot, Given as Loan}
 use Rattle.page_holds.specs.Bytes.{step_by}
 use Rattle.page_holds.specs.Orders.{OrdersNext}
 use Rattle.page_holds.specs.Rows.{RowBegins, RowCameOut, taking_at}
@@ -9,9 +16,11 @@ use Rattle.page_lender.specs.declared.belief.Target.TheVariants.{Frame}
 use Rattle.page_lender.specs.declared.order.Order.{Order}
 use Rattle.page_lender.specs.declared.order.Order.TheVariants.{Map}
 use Rattle.page_lender.specs.declared.order.Outcome.{Outcome}
+use Rattle.page_lender.specs.declared.order.Outcome.TheVariants.{Done, Lent, Refused}
 use Rattle.window_pages.specs.Bytes.{belief_of, known_of}
 use Rattle.window_pages.specs.Known.{takes}
 use Rattle.window_pages.specs.declared.counts.PartCounts.{PartCounts}
+use Rattle.window_pages.specs.declared.facts.WindowFacts.{WindowFacts}
 use Rattle.window_pages.specs.declared.page.WindowPage.{WindowPage}
 use Rattle.window_tables.specs.Tables.{Notes}
 use Rattle.window_tables.specs.declared.changes.Change.{Change}
@@ -54,7 +63,7 @@ pub record IsSo (may_give : (ℕ → Bool) → ℕ → Bool) (m : Moment) (i : �
   pub order : Order
   pub told : IsTold outcome order (m.orders i)
   pub noted : (slot n : ℕ) → m.orders i ≡ CarriedOut (Map (Frame slot n)) → (known_of x).over ≡ true
-  pub gives : (slots : ℕ → Bool) → GivesWhatItMay may_give slots outcome
+  pub gives : GivesWhatItMay may_give m.slots outcome
 
 -- the outcomes are so that a call takes of pages of a row, from its place `begin` on
 abbrev pub AreSo : ((ℕ → Bool) → ℕ → Bool) → Moment → ℕ → ℕ → ℕ → (ℕ → WindowPage → Option Outcome) → Type 0
@@ -83,3 +92,53 @@ abbrev pub EachRowStepGoes : Type 0
 EachRowStepGoes =
     (may_give : (ℕ → Bool) → ℕ → Bool) (first lead from begin done refused : ℕ) (m : Moment) (new : List WindowPage) (parts parts_new : List PartCounts) (row row_new : List ℕ) →
     RowCameOut lead from begin done refused true m.pages new parts parts_new row row_new → AreSo may_give m from begin (done + refused) (row_outcome row begin done) → Reaches may_give first m new
+
+-- ---- lists of pages that are lent, one after another
+
+-- if an order of the page is open that can have this outcome, it is so
+abbrev pub IsSoOf : ((ℕ → Bool) → ℕ → Bool) → Moment → ℕ → Outcome → Type 0
+IsSoOf may_give m i outcome = (x : WindowPage) → slice_get m.pages i ≡ Some x → takes outcome (known_of x) ≡ true → IsSo may_give m i x outcome
+
+-- Pages that are to be copied are chosen, and get their orders.
+abbrev pub EachChoiceGoes : Type 0
+EachChoiceGoes =
+    (may_give : (ℕ → Bool) → ℕ → Bool) (first lead number fingerprint answer : ℕ) (facts : WindowFacts) (is_ready : Bool) (m : Moment) (new : List WindowPage) (parts parts_new : List PartCounts) →
+    Turn (ToCopy facts is_ready fingerprint) lead number answer m.pages new parts parts_new → Reaches may_give first m new
+
+-- what is said of a page's copy
+abbrev pub CopyIsSo : ((ℕ → Bool) → ℕ → Bool) → Moment → ℕ → CopyOutcome → Type 0
+CopyIsSo may_give m i CopyOutcome.Nothing = Unit {0}
+CopyIsSo may_give m i CopyOutcome.Good = IsSoOf may_give m i Done
+CopyIsSo may_give m i CopyOutcome.Changed = IsSoOf may_give m i Refused
+CopyIsSo may_give m i CopyOutcome.Zeros = IsSoOf may_give m i Refused
+
+-- What came of a copy is told.
+abbrev pub EachCopyGoes : Type 0
+EachCopyGoes =
+    (may_give : (ℕ → Bool) → ℕ → Bool) (first lead number answer : ℕ) (facts : WindowFacts) (came : CopyOutcome) (m : Moment) (new : List WindowPage) (parts parts_new : List PartCounts) →
+    Turn (λ said x y p q. CameOfCopy facts said x y p q came) lead number answer m.pages new parts parts_new → CopyIsSo may_give m number came → Reaches may_give first m new
+
+-- what a host said of a page; a slot that the page can't take any more isn't the page's
+abbrev pub LoanIsSo : ((ℕ → Bool) → ℕ → Bool) → Moment → ℕ → LoanReply → Type 0
+LoanIsSo may_give m i Unheard = IsSoOf may_give m i Refused
+LoanIsSo may_give m i NoFrame = IsSoOf may_give m i Refused
+LoanIsSo may_give m i NoSlot = IsSoOf may_give m i Refused
+LoanIsSo may_give m i (Loan slot frame) = IsSoOf may_give m i (Lent slot frame)
+
+-- What a host said is told.
+abbrev pub EachLoanGoes : Type 0
+EachLoanGoes =
+    (may_give : (ℕ → Bool) → ℕ → Bool) (first lead number frames answer : ℕ) (reply : LoanReply) (m : Moment) (new : List WindowPage) (parts parts_new : List PartCounts) →
+    Turn (λ said x y p q. CameOfLoan frames said x y p q reply) lead number answer m.pages new parts parts_new → LoanIsSo may_give m number reply → Reaches may_give first m new
+
+-- Slots are ordered to be released.
+abbrev pub EachReleaseOrderGoes : Type 0
+EachReleaseOrderGoes =
+    (may_give : (ℕ → Bool) → ℕ → Bool) (first lead place room count count_new : ℕ) (facts : WindowFacts) (pins : List ℕ) (m : Moment) (new : List WindowPage) (parts parts_new : List PartCounts) (places places_new : List ℕ) →
+    FindsAt facts pins lead place room count count_new m.pages new parts parts_new places places_new → Reaches may_give first m new
+
+-- What came of the message that released them is told.
+abbrev pub EachReleaseGoes : Type 0
+EachReleaseGoes =
+    (may_give : (ℕ → Bool) → ℕ → Bool) (first lead number answer : ℕ) (outcome : Outcome) (m : Moment) (new : List WindowPage) (parts parts_new : List PartCounts) →
+    Turn (λ said x y p q. Told outcome x y p q) lead number answer m.pages new parts parts_new → IsSoOf may_give m number outcome → Reaches may_give first m new

@@ -1,4 +1,4 @@
-use Rattle.lending_laws.proofs.Batches.{each_is_history, each_note_goes, each_row_goes, each_row_order_goes, each_row_step_goes}
+use Rattle.lending_laws.proofs.Batches.{each_choice_goes, each_copy_goes, each_is_history, each_loan_goes, each_note_goes, each_release_goes, each_release_order_goes, each_row_goes, each_row_order_goes, each_row_step_goes}
 use Rattle.lending_laws.proofs.Notes.{each_is_detached, each_look_is_calls, each_note_is_a_call, each_step_tells}
 use Rattle.lending_laws.proofs.calls_law.Goals as goal
 
@@ -28,3 +28,18 @@ returns-clause-row_orders c = each_row_order_goes
 
 pub returns-clause-row_steps : goal.returns-clause-row_steps
 returns-clause-row_steps c = each_row_step_goes
+
+pub returns-clause-choices : goal.returns-clause-choices
+returns-clause-choices c = each_choice_goes
+
+pub returns-clause-copies : goal.returns-clause-copies
+returns-clause-copies c = each_copy_goes
+
+pub returns-clause-loans : goal.returns-clause-loans
+returns-clause-loans c = each_loan_goes
+
+pub returns-clause-release_orders : goal.returns-clause-release_orders
+returns-clause-release_orders c = each_release_order_goes
+
+pub returns-clause-releases : goal.returns-clause-releases
+returns-clause-releases c = each_release_goes
