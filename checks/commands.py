@@ -59,6 +59,7 @@ def of_estimates(subject: Subject, folder: pathlib.Path) -> None:
     estimate.command_line(subject, folder)
     estimate.progress(subject, folder)
     processes.estimates(subject, folder)
+    processes.lent_processes(subject)
 
 
 def of_digests(subject: Subject, folder: pathlib.Path) -> None:

@@ -11,9 +11,10 @@ out/host/libpageshare-window.so (`make host`). Guests are QEMU with Debian's ker
 of another user; each checks all that it reads. With INSTALL=1 in the environment missing packages are installed by apt-get, but for
 the kernel, which is only unpacked. What the computer lacks is left out, and so said.
 
-GUESTS=N takes another number of guests than 3, SECONDS=N another length of `fuzz`, `soak`, `breaker`, `storm`, `refusals`, `size`,
-`ways` and `losses`. SEED=N is another first seed of `ways` and `losses`, SEEDS=N another number of seeds than 8 for `breaker`, 16 for
-`refusals`, 2 for `losses` and 1 for `cuts`; with SANITIZE=1 `breaker` runs under a library with sanitizers.
+GUESTS=N takes another number of guests than 3, SECONDS=N another length of `fuzz`, `soak`, `breaker`, `reach`, `storm`, `refusals`, `size`,
+`ways` and `losses`. SEED=N is another first seed of `ways`, `reach` and `losses`, SEEDS=N another number of seeds than 8 for `breaker` and
+`reach`, 16 for `refusals`, 2 for `losses` and 1 for `cuts`; with SANITIZE=1 `breaker`, `reach` and `storm` run under a library
+with sanitizers.
 Everything runs on this computer, over sockets in a folder of its own, which is removed afterwards. The last line is `N passed, M failed`, of
 cases (status 0 where none failed, else 1). benches/host.py has the cases that measure.
 """
@@ -35,13 +36,14 @@ import guest_cases  # noqa: E402
 import parts_cases  # noqa: E402
 import pausing_cases  # noqa: E402
 import raw_cases  # noqa: E402
+import reach_cases  # noqa: E402
 import size_cases  # noqa: E402
 import system_cases  # noqa: E402
 import ways_cases  # noqa: E402
 from runner import cases_in, main  # noqa: E402
 
 CASES = cases_in([
-    client_cases, bounds_cases, file_cases, breaker_cases, parts_cases, raw_cases, device_cases, size_cases, guest_cases, system_cases,
+    client_cases, bounds_cases, file_cases, breaker_cases, reach_cases, parts_cases, raw_cases, device_cases, size_cases, guest_cases, system_cases,
     ways_cases, check_cases, pausing_cases, cut_cases,
 ])
 LONG = ("soak",)
@@ -51,7 +53,7 @@ IN_GATE = {
     "descriptors-sent": 240, "quotas": 120, "slow-punch": 60, "refused-punch": 60, "breaker": 240, "storm": 240, "parts": 300, "calls": 300, "forks": 300,
     "pins": 600, "lent-again": 300, "newcomer": 120, "locks": 300, "endings": 300, "devices": 120, "size": 600, "runs": 180, "paced": 60,
     "ranges": 60, "names": 60, "counts": 60, "refused": 60, "kvm": 300, "ends": 600, "postcopy": 240, "remote": 60, "cuts": 240, "losses": 240,
-    "waits": 180,
+    "waits": 180, "uncached": 120, "reach": 240,
     "closed": 60, "malloc": 120, "lines": 60, "read-late": 60, "flags": 120, "policies": 120, "no-memory": 120,
     "filter": 480, "filter-by-itself": 60, "scans": 180, "guarded": 120, "said-early": 60,
     "ways": 120,

@@ -30,7 +30,7 @@ NOT_OF_C = {"FAULT_ANSWER"}
 NUMBERS = {
     r"crates/page_lender/src/packed.rt number\w*": "PAGESHARE_WINDOW_", "crates/pageshare_window_c/src/order.rt number_of": "PAGESHARE_WINDOW_",
     "crates/pageshare_window_c/src/holds.rt step_number": "PAGESHARE_WINDOW_HOLD_",
-    "crates/pageshare_window_c/src/finds.rt step_number": "PAGESHARE_WINDOW_FIND_",
+    "crates/part_scans/src/seen.rt step_number": "PAGESHARE_WINDOW_FIND_",
     "crates/pageshare_window_c/src/part.rt part_number": "PAGESHARE_WINDOW_",
     "crates/lend_steps/src/copies.rt number": "PAGESHARE_WINDOW_CHECK_",
 }

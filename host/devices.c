@@ -11,6 +11,7 @@
 #include <sched.h>
 #include <scsi/sg.h>
 #include <stdatomic.h>
+#include <sys/socket.h>
 #include <sys/utsname.h>
 #include <sys/vfs.h>
 
@@ -100,7 +101,9 @@ struct seen {
     int info;              /* its folder fdinfo */
     bool is_worst;         /* one that writes unnoticed */
     bool has_direct;       /* a file by O_DIRECT, of a file system that is known to pin pages */
-    bool has_registered;   /* an io_uring with registered buffers, or with registered files, which may be by O_DIRECT */
+    bool has_uncached;     /* a file of a file system that may pin pages without O_DIRECT, too */
+    bool has_registered;   /* an io_uring with registered buffers, or files, which may be by O_DIRECT; or an AF_XDP socket */
+    dev_t cached;          /* a file system that doesn't; 0: none was asked yet */
     size_t rings_count;    /* of io_urings, which may read by O_DIRECT */
     int rings[RINGS_MOST]; /* the first of them */
 };
@@ -143,35 +146,99 @@ static bool is_direct(const struct seen *seen, const char *name) {
     return at && (strtoul(at + strlen("flags:"), NULL, 8) & O_DIRECT) != 0;
 }
 
-/* Whether a descriptor of this process is of no kind that matters: most are, and a look at their names takes long. */
-static bool is_harmless(const char *name) {
-    struct stat file;
-    int descriptor = atoi(name);
-    if (fstat(descriptor, &file) != 0 || S_ISSOCK(file.st_mode) || S_ISFIFO(file.st_mode)) return true;
-    return (S_ISREG(file.st_mode) || S_ISDIR(file.st_mode)) && (flags_of(descriptor) & O_DIRECT) == 0;
+/* ---- file systems ---- */
+
+static const unsigned long NO_TYPE = 0, UNTOLD = ~0ul;
+
+/* The type of the file system of a file; NO_TYPE: there is no such file any more; UNTOLD: the file system doesn't say. */
+static unsigned long type_of(int file) {
+    struct statfs system;
+    if (fstatfs(file, &system) == 0) return (unsigned long)system.f_type;
+    return errno == EBADF ? NO_TYPE : UNTOLD;
 }
 
-/*
- * Whether reads from a file by O_DIRECT are known to pin pages as UFFDIO_MOVE sees it: on disks and on these file systems, Linux 6.5. So
- * they are of a file that is closed by now.
- */
-static bool is_known_to_pin(int folder, const char *name) {
+static bool is_among(unsigned long type, const unsigned long *types, size_t count) {
+    for (size_t i = 0; i < count; i++)
+        if (type == types[i]) return true;
+    return false;
+}
+
+/* Reads by O_DIRECT of these are known to pin pages as UFFDIO_MOVE sees it (Linux 6.5); others go through the page cache. */
+static bool is_known_to_pin(unsigned long type) {
     static const unsigned long known[] = {0xef53 /* ext */, 0x58465342 /* xfs */, 0x9123683e /* btrfs */, 0xf2f52010 /* f2fs */,
                                           0x01021994 /* tmpfs, which copies */};
-    struct stat file;
-    struct statfs system;
-    int found = (int)syscall(SYS_openat, folder, name, O_PATH | O_CLOEXEC, 0);
-    if (found < 0) return errno == ENOENT;
-    bool is_there = fstat(found, &file) == 0 && fstatfs(found, &system) == 0, is_known = is_there && S_ISBLK(file.st_mode);
-    for (size_t i = 0; is_there && i < sizeof known / sizeof known[0]; i++)
-        is_known = is_known || (unsigned long)system.f_type == known[i];
-    syscall(SYS_close, found);
+    return is_among(type, known, sizeof known / sizeof known[0]);
+}
+
+/* These may read past the page cache without O_DIRECT, as their server or their mount says. It isn't known how they pin pages then. */
+static bool is_uncached(unsigned long type) {
+    static const unsigned long uncached[] = {0x65735546 /* FUSE */, 0x01021997 /* 9p */, 0xff534d42 /* SMB */, 0xfe534d42,
+                                             0x517b};
+    return type == UNTOLD || is_among(type, uncached, sizeof uncached / sizeof uncached[0]);
+}
+
+bool devices_pin_plainly(int file) {
+    struct stat facts;
+    return fstat(file, &facts) == 0 && S_ISREG(facts.st_mode) && !is_known_to_pin(type_of(file));
+}
+
+enum devices devices_of_file(int file) {
+    if (is_uncached(type_of(file))) return DEVICES_WRITE_ALL;
+    return (flags_of(file) & O_DIRECT) != 0 ? DEVICES_PIN_PAGES : DEVICES_NONE;
+}
+
+/* Notes a file that was opened without O_DIRECT. */
+static void note_plain(struct seen *seen, int file, dev_t device) {
+    if (device == seen->cached) return;
+    bool is_one = is_uncached(type_of(file));
+    seen->has_uncached = seen->has_uncached || is_one;
+    if (!is_one) seen->cached = device;
+}
+
+/* The same of one of another process. */
+static void note_plain_at(struct seen *seen, int folder, const char *name) {
+    struct stat facts;
+    int file = (int)syscall(SYS_openat, folder, name, O_PATH | O_CLOEXEC, 0);
+    if (file < 0) return;
+    if (fstat(file, &facts) == 0 && S_ISREG(facts.st_mode)) note_plain(seen, file, facts.st_dev);
+    syscall(SYS_close, file);
+}
+
+/* Whether reads of a file by O_DIRECT are known to pin pages: on disks and on some file systems. So they are of one that is closed by now. */
+static bool pins_as_known(int folder, const char *name) {
+    struct stat facts;
+    int file = (int)syscall(SYS_openat, folder, name, O_PATH | O_CLOEXEC, 0);
+    if (file < 0) return errno == ENOENT;
+    bool is_known = fstat(file, &facts) == 0 && (S_ISBLK(facts.st_mode) || is_known_to_pin(type_of(file)));
+    syscall(SYS_close, file);
     return is_known;
+}
+
+/* ---- one descriptor ---- */
+
+/* Whether a socket is one with which memory may be registered, to which a network card writes. */
+static bool is_xdp(int descriptor) {
+    int domain = 0;
+    socklen_t bytes = sizeof domain;
+    return getsockopt(descriptor, SOL_SOCKET, SO_DOMAIN, &domain, &bytes) == 0 && domain == AF_XDP;
+}
+
+/* Whether a descriptor of this process is of no kind whose name matters: most are, and a look at their names takes long. */
+static bool is_harmless(struct seen *seen, int descriptor) {
+    struct stat file;
+    if (fstat(descriptor, &file) != 0 || S_ISFIFO(file.st_mode)) return true;
+    if (S_ISSOCK(file.st_mode)) {
+        seen->has_registered = seen->has_registered || is_xdp(descriptor);
+        return true;
+    }
+    bool is_plain = (S_ISREG(file.st_mode) || S_ISDIR(file.st_mode)) && (flags_of(descriptor) & O_DIRECT) == 0;
+    if (is_plain && S_ISREG(file.st_mode)) note_plain(seen, descriptor, file.st_dev);
+    return is_plain;
 }
 
 static void add(struct seen *seen, int folder, const char *name) {
     char target[64];
-    if (seen->is_self && is_harmless(name)) return;
+    if (seen->is_self && is_harmless(seen, atoi(name))) return;
     ssize_t got = readlinkat(folder, name, target, sizeof target - 1);
     if (got <= 0) return;
     target[got] = 0;
@@ -181,8 +248,10 @@ static void add(struct seen *seen, int folder, const char *name) {
         seen->has_registered = seen->has_registered || has_registered(seen->info, name);
     } else if (*target == '/') {
         seen->is_worst = seen->is_worst || writes_unnoticed(target);
-        if (!is_direct(seen, name)) return;
-        bool is_known = is_known_to_pin(folder, name);
+        bool is_plain = !is_direct(seen, name);
+        if (is_plain && !seen->is_self) note_plain_at(seen, folder, name);
+        if (is_plain) return;
+        bool is_known = pins_as_known(folder, name);
         seen->has_direct = seen->has_direct || is_known;
         seen->is_worst = seen->is_worst || !is_known;
     }
@@ -248,7 +317,7 @@ struct kept {
     enum devices devices;
     struct seen seen;
     long count;    /* of descriptors; 0 if the system doesn't show it */
-    long reserved; /* requests of io_submit, where there is a file by O_DIRECT */
+    long reserved; /* requests of io_submit, where there is a file that they may read */
     unsigned closes;
 };
 static struct kept last;
@@ -317,12 +386,16 @@ static bool see(struct seen *seen, const char *process) {
     return can_see;
 }
 
+/* Whether there is a file of which requests of io_submit may pin pages. */
+static bool may_read(const struct seen *seen) { return seen->has_direct || seen->has_uncached; }
+
 /* `can_submit`: the process may have called io_submit. */
 static enum devices worst_of(const struct seen *seen, bool can_submit) {
     if (seen->is_worst) return DEVICES_WRITE_ALL;
     bool has_rings = seen->rings_count > 0 || (seen->is_self && atomic_load(&has_ring));
+    if (seen->has_uncached && (has_rings || can_submit)) return DEVICES_WRITE_ALL;
     if (seen->has_registered || (seen->has_direct && (has_rings || can_submit))) return DEVICES_PIN_PAGES;
-    return seen->has_direct ? DEVICES_READ : DEVICES_NONE;
+    return may_read(seen) ? DEVICES_READ : DEVICES_NONE;
 }
 
 enum devices devices_open(void) {
@@ -330,8 +403,8 @@ enum devices devices_open(void) {
                        .count = descriptors_count(),
                        .closes = atomic_load(&closes)};
     if (see(&now.seen, "self")) {
-        if (now.seen.has_direct && !atomic_load(&is_watched)) now.reserved = reserved_requests();
-        now.devices = worst_of(&now.seen, now.seen.has_direct && may_submit(now.reserved));
+        if (may_read(&now.seen) && !atomic_load(&is_watched)) now.reserved = reserved_requests();
+        now.devices = worst_of(&now.seen, may_read(&now.seen) && may_submit(now.reserved));
     }
     if (use_last()) {
         last = now;
@@ -345,14 +418,14 @@ bool devices_of_process(unsigned long long process, enum devices *devices) {
     struct seen seen;
     snprintf(name, sizeof name, "%llu", process);
     if (!see(&seen, name)) return false;
-    *devices = worst_of(&seen, seen.has_direct && has_requests_mapped(name));
+    *devices = worst_of(&seen, may_read(&seen) && has_requests_mapped(name));
     return true;
 }
 
 /* Whether no descriptor was opened or closed, and no context made, since this was seen. */
 static bool are_same(const struct kept *kept) {
     if (kept->count <= 0 || kept->count != descriptors_count() || kept->closes != atomic_load(&closes)) return false;
-    bool is_known = !kept->seen.has_direct || atomic_load(&is_watched) || atomic_load(&submits);
+    bool is_known = !may_read(&kept->seen) || atomic_load(&is_watched) || atomic_load(&submits);
     return is_known || kept->reserved == reserved_requests();
 }
 

@@ -1,6 +1,6 @@
 /*
- * What may write to a process's pages by their physical addresses: files opened with O_DIRECT, buffers registered with io_uring, and
- * devices that are given to a guest (VFIO, vDPA). No guard in the process's page tables holds that up.
+ * What may write to a process's pages by their physical addresses: files opened with O_DIRECT or of FUSE and the like, buffers registered with
+ * io_uring, and devices that are given to a guest (VFIO, vDPA). No guard in the process's page tables holds that up.
  */
 #ifndef HOST_DEVICES_H
 #define HOST_DEVICES_H
@@ -11,13 +11,17 @@
 
 enum devices {
     DEVICES_NONE,
-    DEVICES_READ,      /* files by O_DIRECT, into which calls of the C library read: these are seen, and so is their end */
+    DEVICES_READ,      /* files by O_DIRECT or the like, which calls of the C library read: these are seen, and so is their end */
     DEVICES_PIN_PAGES, /* some pages, at times that nobody knows: the kernel refuses to move these */
     DEVICES_WRITE_ALL  /* all of a guest's memory, at any time; or it isn't known that what they write to is pinned */
 };
 
 /* Whether what is opened by this path, with these flags of open(2), may be a device: then devices_open is called after it was opened. */
 bool devices_may_be(const char *path, int flags);
+/* Whether reads of a file that was opened without O_DIRECT may pin pages, too: it isn't known that its file system has them in a cache. */
+bool devices_pin_plainly(int file);
+/* What reads of a file may do that are made by others than the thread that asks for them, as by io_uring. */
+enum devices devices_of_file(int file);
 /* What an ioctl(2) asks for. `with` is what it is called with. */
 enum devices devices_of_request(unsigned long request, const void *with);
 /* Leaves descriptors of this process out of what is looked at: those that no call of the monitor uses. To be called before any look. */

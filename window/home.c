@@ -29,11 +29,21 @@ static void note_given_up(struct window *window, size_t first, size_t count, boo
     windows->counts.discarded += count;
 }
 
+/* Whether a userfaultfd of the caller's own watches one of these pages: the system lets no other one do that. With the lock. */
+static bool is_watched_by_caller(struct window *window, size_t first, size_t count) {
+    struct windows *windows = window->windows;
+    if (!windows->is_watched) return false;
+    int cause = faults_watch(&windows->faults, address_of(window, first), count, FAULTS_OF_WRITES);
+    if (cause == 0) let_waiters_go(window, first, count);
+    return cause == EBUSY;
+}
+
 /* Gives up pages in the window that are alike. Where they are in several mappings they are in one then. With the lock. */
 static struct window_result give_up(struct window *window, size_t first, size_t count) {
     /* (what is mapped anew the caller's own userfaultfd watches no more) */
     bool is_over_frame = is_over(&window->pages[first]), is_watched = window->windows->is_watched;
     bool is_anew = is_over_frame || (!is_watched && mappings_of(window, first, count) > 2);
+    if (is_over_frame && is_watched_by_caller(window, first, count)) return result_of(WINDOW_WATCHED, EBUSY);
     is_anew = is_anew && has_room_for_zeros(window, first, count);
     if (is_anew) is_anew = map_pages(window, first, count, ZEROS, PROT_READ | PROT_WRITE) == 0;
     bool are_cleared = is_over_frame && !is_anew;
@@ -48,6 +58,7 @@ static struct window_result give_up(struct window *window, size_t first, size_t 
 /* Gives up pages in one mapping that have left the window, over frames. What the caller said of them since holds on. With the lock. */
 static struct window_result give_up_left(struct window *window, size_t first, const struct mapping_facts *facts) {
     if (facts->is_locked) return result_of(WINDOW_LOCKED, EINVAL); /* (as the system refuses it) */
+    if (is_watched_by_caller(window, first, facts->pages)) return result_of(WINDOW_WATCHED, EBUSY);
     /* (what can't be written takes a mapping in any case: a guest can't make it be so) */
     bool may_clear = (facts->protection & PROT_WRITE) != 0;
     bool has_room = !may_clear || has_room_for_zeros(window, first, facts->pages);

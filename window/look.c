@@ -7,63 +7,128 @@ enum {
     AHEAD = 12 /* pages that are fetched while another one is glanced at */
 };
 
-/* What a look has found of a part. */
-struct findings {
-    struct found *zeros, *idle;                /* to these the pages are added that are zeros, and other idle ones */
-    size_t changes;                            /* pages that were idle, and have changed */
-    size_t young;                              /* pages that are the same since a look or two, or new */
-    bool is_sample;                            /* the part rests */
-    bool is_return;                            /* the look has been there before, and takes the young pages alone */
-    const uint8_t *next;                       /* the page to which the look comes next */
+/* A scan of a part. With the lock. */
+struct scan {
+    struct window *window;
+    size_t first, count; /* the part's pages */
+    const struct pageshare_window_look *look;
     struct pageshare_window_table_facts table; /* what is so of the window */
+    const uint8_t *memory;                     /* which memory each page has */
+    uint8_t steps[PART];                       /* what is done next with each, and what was found: the library writes it */
+    struct pageshare_window_find_outcome outcomes[PART];
+    uint16_t due[PART]; /* the places of those with which something is to be done, in order */
+    size_t due_count;
 };
 
-static uint16_t glance(const struct window *window, size_t number, uint64_t by) {
-    return (uint16_t)glance_at(by, address_of(window, number));
+static unsigned step_of(const struct scan *scan, size_t place) { return scan->steps[place] & PAGESHARE_WINDOW_SCAN_STEP; }
+
+static const uint8_t *page_at(const struct scan *scan, size_t place) { return address_of(scan->window, scan->first + place); }
+
+/* How many pages of a scan have such a bit. */
+static size_t count_bit(const struct scan *scan, unsigned bit) {
+    size_t count = 0;
+    for (size_t i = 0; i < scan->count; i++) count += (scan->steps[i] & bit) != 0 ? 1 : 0;
+    return count;
 }
 
-/* Asks once more, in another way, whether a page has memory of its own: nothing else is so grave. */
-static void find_copy(struct window *window, size_t number, struct pageshare_window_find_outcome *outcome) {
-    struct windows *windows = window->windows;
-    outcome->is_own = pagemap_is_own(&windows->pagemap, address_of(window, number));
-    if (!outcome->is_own) return;
-    windows->counts.copied++;
-    trace_copy(windows->trace, window->base + (uint32_t)number, address_of(window, number));
-}
-
-static void take_glance(struct window *window, size_t number, struct pageshare_window_find_outcome *outcome) {
-    const page_entry *page = &window->pages[number];
-    window->windows->counts.fresh += looks_of(page) == 0 ? 1 : 0;
-    outcome->glance = glance(window, number, pageshare_window_glanced_by(page, (uint32_t)number));
-}
-
-static void read_page(struct window *window, size_t number, const uint8_t *next, struct pageshare_window_find_outcome *outcome) {
-    outcome->fingerprint = fingerprint_and_fetch(window->windows->lender.salt, address_of(window, number), next);
-    outcome->glance = glance(window, number, outcome->fingerprint);
-    window->windows->counts.reads++;
-}
-
-/* Does what is to be done with a page, one step after another. Returns what was found: enum pageshare_window_find_step. */
-static unsigned find(struct window *window, size_t number, uint8_t memory, const struct findings *findings) {
-    struct pageshare_window_counts *counts = part_counts(window, number);
-    const struct pageshare_window_part *part = part_of(window, number);
-    const struct pageshare_window_look look = look_now(window->windows);
-    page_entry *page = &window->pages[number];
-    struct pageshare_window_facts facts;
-    find_facts(window, &findings->table, number, &facts);
-    bool is_again = is_asked_again(page), is_read = false;
-    uint8_t step =
-        pageshare_window_begin_find(page, counts, part, &look, &facts, (uint32_t)number, memory, number < window->ready);
-    while (step != PAGESHARE_WINDOW_FIND_OVER && step < PAGESHARE_WINDOW_FIND_IDLE) {
-        struct pageshare_window_find_outcome outcome = {.fingerprint = 0};
-        if (step == PAGESHARE_WINDOW_FIND_COPY) find_copy(window, number, &outcome);
-        if (step == PAGESHARE_WINDOW_FIND_GLANCE) take_glance(window, number, &outcome);
-        if (step == PAGESHARE_WINDOW_FIND_READ) read_page(window, number, findings->next, &outcome);
-        is_read = is_read || step == PAGESHARE_WINDOW_FIND_READ || step == PAGESHARE_WINDOW_FIND_COUNT;
-        step = pageshare_window_find_done(page, counts, part, &look, (uint32_t)number, step, &outcome);
+/* Finds the pages of a scan with which a step is to be done. Returns whether there are any. */
+static bool find_due(struct scan *scan) {
+    scan->due_count = 0;
+    for (size_t i = 0; i < scan->count; i++) {
+        const unsigned step = step_of(scan, i);
+        scan->due[scan->due_count] = (uint16_t)i;
+        scan->due_count += step >= PAGESHARE_WINDOW_FIND_COPY && step <= PAGESHARE_WINDOW_FIND_COUNT ? 1 : 0;
     }
-    window->windows->counts.again += is_again && (is_read || step != PAGESHARE_WINDOW_FIND_OVER) ? 1 : 0;
-    return step;
+    return scan->due_count > 0;
+}
+
+/* Finds those of them with this step. Returns how many there are. */
+static size_t find_with(const struct scan *scan, unsigned step, uint16_t *places) {
+    size_t count = 0;
+    for (size_t i = 0; i < scan->due_count; i++) {
+        places[count] = scan->due[i];
+        count += step_of(scan, scan->due[i]) == step ? 1 : 0;
+    }
+    return count;
+}
+
+/* Asks once more, in another way, whether pages have memory of their own: nothing else is so grave. */
+static void find_copies(struct scan *scan) {
+    struct windows *windows = scan->window->windows;
+    uint16_t places[PART];
+    const size_t count = find_with(scan, PAGESHARE_WINDOW_FIND_COPY, places);
+    for (size_t at = 0; at < count; at++) {
+        const bool is_own = pagemap_is_own(&windows->pagemap, page_at(scan, places[at]));
+        scan->outcomes[places[at]].is_own = is_own;
+        if (!is_own) continue;
+        windows->counts.copied++;
+        trace_copy(windows->trace, scan->window->base + (uint32_t)(scan->first + places[at]), page_at(scan, places[at]));
+    }
+}
+
+static uint16_t glance(const struct scan *scan, size_t place, uint64_t number) {
+    return (uint16_t)glance_at(number, page_at(scan, place));
+}
+
+/* Glances at pages, and fetches what glances at later ones need, so that they needn't wait. */
+static void take_glances(struct scan *scan) {
+    const struct window *window = scan->window;
+    uint16_t places[PART];
+    uint64_t numbers[PART];
+    const size_t count = find_with(scan, PAGESHARE_WINDOW_FIND_GLANCE, places);
+    pageshare_window_glance_numbers(window->pages, window->count, scan->first, places, count, numbers, count);
+    for (size_t at = 0; at < count; at++) {
+        if (at + AHEAD < count)
+            __builtin_prefetch(page_at(scan, places[at + AHEAD]) + glance_place(numbers[at + AHEAD]) * sizeof(uint64_t));
+        scan->outcomes[places[at]].glance = glance(scan, places[at], numbers[at]);
+        window->windows->counts.fresh += looks_of(&window->pages[scan->first + places[at]]) == 0 ? 1 : 0;
+    }
+}
+
+static void read_pages(struct scan *scan) {
+    struct windows *windows = scan->window->windows;
+    uint16_t places[PART];
+    const size_t count = find_with(scan, PAGESHARE_WINDOW_FIND_READ, places);
+    for (size_t at = 0; at < count; at++) {
+        const uint8_t *next = page_at(scan, places[at + 1 < count ? at + 1 : at]);
+        const uint64_t fingerprint = fingerprint_and_fetch(windows->lender.salt, page_at(scan, places[at]), next);
+        scan->outcomes[places[at]].fingerprint = fingerprint;
+        scan->outcomes[places[at]].glance = glance(scan, places[at], fingerprint);
+    }
+    windows->counts.reads += count;
+}
+
+/* Does what is to be done with the pages of a part, one step of all of them after another. */
+static void scan_pages(struct scan *scan) {
+    struct window *window = scan->window;
+    const struct pageshare_window_part *part = part_of(window, scan->first);
+    pageshare_window_begin_scan(TABLES(window), scan->look, part, &scan->table, PINS(window), scan->first,
+                                scan->memory, scan->count, scan->steps, scan->count);
+    while (find_due(scan)) {
+        find_copies(scan);
+        take_glances(scan);
+        read_pages(scan);
+        pageshare_window_scan_done(TABLES(window), scan->look, part, scan->first, scan->outcomes, scan->count, scan->steps,
+                                   scan->count);
+        if (count_bit(scan, PAGESHARE_WINDOW_SCAN_CHANGED) > 0)
+            pageshare_window_follow_changes(TABLES(window), scan->look, part, &scan->table, PINS(window),
+                                            scan->first, scan->memory, scan->count, scan->steps, scan->count);
+    }
+}
+
+static void add(struct found *found, const struct window *window, size_t number) {
+    if (found->count == FOUND_MOST) return; /* (a later look finds it again) */
+    found->pages[found->count] = (uint32_t)number;
+    found->fingerprints[found->count++] = kept_of(&window->pages[number]);
+}
+
+/* Adds what a scan found. */
+static void add_found(const struct scan *scan, struct look *look) {
+    for (size_t i = 0; i < scan->count; i++) {
+        const unsigned step = step_of(scan, i);
+        if (step == PAGESHARE_WINDOW_FIND_IDLE) add(&look->idle, scan->window, scan->first + i);
+        if (step == PAGESHARE_WINDOW_FIND_ZEROS) add(&look->zeros, scan->window, scan->first + i);
+    }
 }
 
 #ifdef WINDOW_TRACE
@@ -97,66 +162,6 @@ static void make_ready(struct window *window, size_t first, size_t count, size_t
     --*left;
 }
 
-static void add(struct found *found, size_t number, uint64_t fingerprint) {
-    if (found->count == FOUND_MOST) return; /* (a later look finds it again) */
-    found->pages[found->count] = (uint32_t)number;
-    found->fingerprints[found->count++] = fingerprint;
-}
-
-/* Looks at a page, and adds it to the findings if it is idle. */
-static void add_finding(struct window *window, size_t number, uint8_t memory, struct findings *findings) {
-    const page_entry *page = &window->pages[number];
-    unsigned before = looks_of(page), found = find(window, number, memory, findings);
-    findings->changes += before == STILL && looks_of(page) < STILL ? 1 : 0;
-    findings->young += memory != PAGE_NONE && is_young(page) ? 1 : 0;
-    if (found == PAGESHARE_WINDOW_FIND_IDLE) add(findings->idle, number, kept_of(page));
-    if (found == PAGESHARE_WINDOW_FIND_ZEROS) add(findings->zeros, number, kept_of(page));
-}
-
-/* Fetches what a glance at a page will need, so that it needn't wait. */
-static void fetch(const struct window *window, size_t number) {
-    const page_entry *page = &window->pages[number];
-    const struct pageshare_window_look look = look_now(window->windows);
-    if (!pageshare_window_is_to_fetch(page, part_of(window, number), &look, (uint32_t)number)) return;
-    __builtin_prefetch(address_of(window, number) + glance_place(kept_of(page)) * sizeof(uint64_t));
-}
-
-/* Looks at a page that this look would leave out. Returns whether it had changed. */
-static bool follow_to(struct window *window, size_t number, uint8_t memory, struct findings *findings) {
-    const page_entry *page = &window->pages[number];
-    const struct pageshare_window_look look = look_now(window->windows);
-    size_t before = findings->changes;
-    if (memory != PAGE_PRESENT || !pageshare_window_is_left_out(page, part_of(window, number), &look, (uint32_t)number))
-        return false;
-    add_finding(window, number, memory, findings);
-    return findings->changes > before;
-}
-
-/* Where a sampled page has changed those beside it are taken, too, as far as they have changed. None of them is idle any more. */
-static void follow(struct window *window, size_t first, size_t count, size_t i, const uint8_t *found, struct findings *findings) {
-    for (size_t next = i + 1; next < count && follow_to(window, first + next, found[next], findings); next++) {
-    }
-    for (size_t next = i; next > 0 && follow_to(window, first + next - 1, found[next - 1], findings); next--) {
-    }
-}
-
-/* Looks at those pages of a part that this look takes. */
-static void find_among(struct window *window, size_t first, size_t count, const uint8_t *found, struct findings *findings) {
-    const struct pageshare_window_part *part = part_of(window, first);
-    const struct pageshare_window_look look = look_now(window->windows);
-    uint16_t taken[PART];
-    size_t taken_count = pageshare_window_take_pages(window->pages + first, count, found, count, part, &look, (uint32_t)first,
-                                                     findings->is_return, part_counts(window, first)->past > 0, taken, PART);
-    findings->table = table_of(window);
-    for (size_t at = 0; at < taken_count && window->windows->stuck_count == 0; at++) {
-        size_t i = taken[at], before = findings->changes;
-        findings->next = address_of(window, first + taken[at + 1 < taken_count ? at + 1 : at]);
-        if (at + AHEAD < taken_count && found[taken[at + AHEAD]] == PAGE_PRESENT) fetch(window, first + taken[at + AHEAD]);
-        add_finding(window, first + i, found[i], findings);
-        if (findings->is_sample && findings->changes > before) follow(window, first, count, i, found, findings);
-    }
-}
-
 /* Without PAGEMAP_SCAN the kernel's page of zeros looks like memory: where it was put in place of what was given back, bytes tell. */
 static void leave_out_zeros(const struct window *window, size_t first, size_t count, uint8_t *found) {
     for (size_t i = 0; i < count; i++) {
@@ -166,29 +171,46 @@ static void leave_out_zeros(const struct window *window, size_t first, size_t co
     }
 }
 
-/* Looks at pages of a part. With the lock. */
-static void find_in_part(struct window *window, size_t first, size_t count, struct findings *findings) {
-    struct windows *windows = window->windows;
-    struct pageshare_window_part *part = part_of(window, first);
-    uint8_t found[PART];
-    bool over[PART] = {false}, is_huge = false;
-    size_t own = 0;
+/* Finds which memory pages of a part have, and whether the part is a huge page. Returns 0 or an errno. With the lock. */
+static int find_memory(const struct window *window, size_t first, size_t count, uint8_t *memory, bool *is_huge) {
+    const struct windows *windows = window->windows;
+    bool over[PART] = {false};
     for (size_t i = 0; i < count; i++) over[i] = is_over(&window->pages[first + i]);
     /* (what isn't moved to be held might be a file's that the monitor mapped unseen) */
-    const bool *may_be_files = windows->faults.moves ? over : NULL;
-    int cause = pagemap_find(&windows->pagemap, address_of(window, first), count, may_be_files, found, &is_huge);
+    int cause =
+        pagemap_find(&windows->pagemap, address_of(window, first), count, windows->faults.moves ? over : NULL, memory, is_huge);
+    if (cause == 0 && !windows->pagemap.scans) leave_out_zeros(window, first, count, memory);
+    return cause;
+}
+
+/* Looks at pages of a part. With the lock. */
+static void find_in_part(struct look *look, size_t first, size_t count, bool is_return) {
+    struct windows *windows = look->windows;
+    struct window *window = look->window;
+    struct pageshare_window_part *part = part_of(window, first);
+    uint8_t memory[PART];
+    bool is_huge = false;
+    size_t own = 0;
+    int cause = find_memory(window, first, count, memory, &is_huge);
     if (cause != 0) {
         note_failure(windows, WINDOW_NO_PAGEMAP, cause);
         return;
     }
-    if (!windows->pagemap.scans) leave_out_zeros(window, first, count, found);
-    for (size_t i = 0; i < count; i++) own += found[i] != PAGE_NONE ? 1 : 0;
-    if (!findings->is_return) note_huge(window, first, is_huge && windows->pagemap.scans && part->whole);
-    if (!findings->is_return && (part->whole || part->left == 0)) settle_part(window, first, own, is_huge);
-    findings->is_sample = part->rest > 0;
-    find_among(window, first, count, found, findings);
-    const struct pageshare_window_look look = look_now(windows);
-    if (!findings->is_return) pageshare_window_set_rest(part, &look, (uint32_t)findings->changes, (uint32_t)own);
+    for (size_t i = 0; i < count; i++) own += memory[i] != PAGE_NONE ? 1 : 0;
+    if (!is_return) note_huge(window, first, is_huge && windows->pagemap.scans && part->whole);
+    if (!is_return && (part->whole || part->left == 0)) settle_part(window, first, own, is_huge);
+    struct pageshare_window_look now = look_now(windows);
+    now.ready = window->ready;
+    now.is_return = is_return;
+    struct scan scan = {
+        .window = window, .first = first, .count = count, .look = &now, .table = table_of(window), .memory = memory};
+    look->outcome.rests = part->rest > 0;
+    scan_pages(&scan);
+    add_found(&scan, look);
+    windows->counts.again += count_bit(&scan, PAGESHARE_WINDOW_SCAN_AGAIN);
+    look->outcome.young = (uint32_t)count_bit(&scan, PAGESHARE_WINDOW_SCAN_YOUNG);
+    const uint32_t changes = (uint32_t)count_bit(&scan, PAGESHARE_WINDOW_SCAN_CHANGED);
+    if (!is_return) pageshare_window_set_rest(part, &now, changes, (uint32_t)own);
 #ifdef WINDOW_TRACE
     if (windows->trace != NULL) trace_part(window, first, count);
 #endif
@@ -199,18 +221,17 @@ static bool look_in(struct look *look, bool is_return) {
     struct windows *windows = look->windows;
     struct window *window = look->window;
     const size_t part = look->task.part, first = part == 0 ? 0 : part * PART - window->lead, count = rest_of_part(window, first);
-    struct findings findings = {.zeros = &look->zeros, .idle = &look->idle, .is_return = is_return};
     /* (the part may become whole) */
     if (part_of(window, first)->alone > 0) begin_turn(look);
     lock_for_look(windows);
     bool goes_on = !window->ended && windows->stuck_count == 0 && !windows->is_watched;
+    look->outcome.rests = false;
+    look->outcome.young = 0;
     if (goes_on) {
         make_ready(window, first, count, &look->unready);
-        find_in_part(window, first, count, &findings);
+        find_in_part(look, first, count, is_return);
     }
     unlock_set(windows);
-    look->outcome.rests = findings.is_sample;
-    look->outcome.young = (uint32_t)findings.young;
     return goes_on;
 }
 

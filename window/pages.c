@@ -46,24 +46,16 @@ struct pageshare_window_table_facts table_of(const struct window *window) {
                                                  .is_over = windows->is_over || windows->is_watched};
 }
 
-void find_facts(const struct window *window, const struct pageshare_window_table_facts *table, size_t number,
-                struct pageshare_window_facts *facts) {
-    static const struct pageshare_window_facts nothing;
-    pageshare_window_find_facts(table, pins_of(window), pins_in(window), &nothing, number, facts);
-}
-
-struct pageshare_window_facts facts_of(const struct window *window, size_t number) {
-    const struct pageshare_window_table_facts table = table_of(window);
-    struct pageshare_window_facts facts;
-    find_facts(window, &table, number, &facts);
-    return facts;
-}
-
 struct pageshare_window_facts facts_with(const struct window *window, size_t number, struct pageshare_window_facts why) {
     const struct pageshare_window_table_facts table = table_of(window);
     struct pageshare_window_facts facts;
-    pageshare_window_find_facts(&table, pins_of(window), pins_in(window), &why, number, &facts);
+    pageshare_window_find_facts(&table, PINS(window), &why, number, &facts);
     return facts;
+}
+
+struct pageshare_window_facts facts_of(const struct window *window, size_t number) {
+    static const struct pageshare_window_facts nothing;
+    return facts_with(window, number, nothing);
 }
 
 enum pageshare_window_order order_of(struct window *window, size_t number) {
@@ -78,7 +70,7 @@ void note_order(struct window *window, size_t number, bool is_done) {
 
 bool may_go_on(const struct window *window, size_t first, size_t count, struct pageshare_window_facts why) {
     const struct pageshare_window_table_facts table = table_of(window);
-    return pageshare_window_may_go_on(window->pages, window->count, &table, pins_of(window), pins_in(window), &why, first, count);
+    return pageshare_window_may_go_on(window->pages, window->count, &table, PINS(window), &why, first, count);
 }
 
 bool may_give_up(const struct window *window, size_t first, size_t count) {
@@ -87,13 +79,13 @@ bool may_give_up(const struct window *window, size_t first, size_t count) {
 
 bool are_movable(const struct window *window, size_t first, size_t count) {
     const struct pageshare_window_table_facts table = table_of(window);
-    return pageshare_window_are_movable(window->pages, window->count, &table, pins_of(window), pins_in(window), first, count);
+    return pageshare_window_are_movable(window->pages, window->count, &table, PINS(window), first, count);
 }
 
 struct pageshare_window_row_order next_of_row(struct window *window, size_t first, const uint8_t *row, size_t count) {
     const struct pageshare_window_table_facts table = table_of(window);
     struct pageshare_window_row_order order;
-    pageshare_window_next_of_row(TABLES(window), &table, pins_of(window), pins_in(window), first, row, count, &order);
+    pageshare_window_next_of_row(TABLES(window), &table, PINS(window), first, row, count, &order);
     return order;
 }
 

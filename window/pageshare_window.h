@@ -567,20 +567,32 @@ size_t pageshare_window_to_release(struct pageshare_window_page *pages, size_t p
 /* A look, and how often it takes what. */
 struct pageshare_window_look {
     uint64_t zeros;    /* the fingerprint of a page of zeros */
+    size_t ready;      /* the system leaves the memory of the window's pages before this one alone */
     uint32_t look;     /* its number */
     uint16_t turns;    /* a page that nobody else has is asked about again at one look in so many; 0 counts as 8 */
     uint8_t rest_most; /* idle pages that it leaves out at most for each one that it takes, where a part rests */
+    bool is_return;    /* it comes back to a part, for the pages that may be idle soon */
 };
 
 /* What is done next with a page at which a look has come. */
 enum pageshare_window_find_step {
     PAGESHARE_WINDOW_FIND_OVER = 0,   /* nothing, and nothing was found */
     PAGESHARE_WINDOW_FIND_COPY = 1,   /* the system is asked once more whether it has memory of its own */
-    PAGESHARE_WINDOW_FIND_GLANCE = 2, /* a glance is taken, where pageshare_window_glanced_by says */
+    PAGESHARE_WINDOW_FIND_GLANCE = 2, /* a glance is taken, where pageshare_window_glance_numbers says */
     PAGESHARE_WINDOW_FIND_READ = 3,   /* it is read: its fingerprint is taken, and a glance by that */
     PAGESHARE_WINDOW_FIND_COUNT = 4,  /* nothing: it is zeros in a whole part, and counts */
     PAGESHARE_WINDOW_FIND_IDLE = 5,   /* nothing: it is idle, and its fingerprint is kept */
     PAGESHARE_WINDOW_FIND_ZEROS = 6   /* nothing: it is idle, and zeros */
+};
+
+/* What a scan keeps of a page of its part, in a byte: enum pageshare_window_find_step, and these bits. The library alone writes it. */
+enum pageshare_window_scan_bit {
+    PAGESHARE_WINDOW_SCAN_STEP = 7,     /* bits of the step */
+    PAGESHARE_WINDOW_SCAN_TAKEN = 8,    /* the scan takes it */
+    PAGESHARE_WINDOW_SCAN_CHANGED = 16, /* it was idle, and has changed */
+    PAGESHARE_WINDOW_SCAN_AGAIN = 32,   /* it was asked about in vain most often, and is read, or its last fingerprint counts */
+    PAGESHARE_WINDOW_SCAN_MEMORY = 64,  /* it has memory of its own */
+    PAGESHARE_WINDOW_SCAN_YOUNG = 128   /* and that may be idle soon */
 };
 
 /* What came of a step. */
@@ -690,32 +702,31 @@ void pageshare_window_look_ended(struct pageshare_window_times *times, const str
 uint64_t pageshare_window_pause_ms(const struct pageshare_window_times *times, uint64_t took_ms);
 
 /*
- * Finds which pages a look takes, of those whose `found` isn't 0, or of all if `all` is true. The first page has the number `first` in its
- * window. `is_return`: the look comes back for the pages that may be idle soon. Writes their places to `taken`, which has as many entries as
- * there are pages, and returns how many there are.
+ * A scan of a part, whose first page is the page `first` of its window. begin_scan takes which memory each page has: 0 none of its own, 1 some, 2 some
+ * that is swapped out. It writes a byte of each to `row`: what is done next with those that the scan takes. scan_done takes what came of each step, and
+ * writes what is done next; an outcome of a page without a step counts for nothing. follow_changes takes pages beside those that have changed, too,
+ * where the part rests and the scan would leave them out. A scan is over once no page has a step left (COPY to COUNT). Bytes of a page are read only
+ * if its step says so. Each returns false, and changes nothing, if these pages aren't all there, if the table has more pages than its parts, or if
+ * what it takes isn't as long as `row`.
  */
-size_t pageshare_window_take_pages(const struct pageshare_window_page *pages, size_t count, const uint8_t *found,
-                                   size_t found_count, const struct pageshare_window_part *part,
-                                   const struct pageshare_window_look *look, uint32_t first, bool is_return, bool all,
-                                   uint16_t *taken, size_t taken_most);
-/*
- * A look at a page, whose number in its window is `number`. begin_find takes what is so of the page; which memory it has: 0 none of its own, 1
- * some, 2 some that is swapped out; and whether its memory is left alone by the system. find_done takes what came of the step that was done.
- * Both return what is done next: enum pageshare_window_find_step. Bytes of a page are read only if that says so.
- */
-uint8_t pageshare_window_begin_find(struct pageshare_window_page *page, struct pageshare_window_counts *counts,
-                                    const struct pageshare_window_part *part, const struct pageshare_window_look *look,
-                                    const struct pageshare_window_facts *facts, uint32_t number, uint8_t memory, bool is_ready);
-uint8_t pageshare_window_find_done(struct pageshare_window_page *page, struct pageshare_window_counts *counts,
-                                   const struct pageshare_window_part *part, const struct pageshare_window_look *look,
-                                   uint32_t number, uint8_t step, const struct pageshare_window_find_outcome *outcome);
-/* Whether it leaves a page out, where the part rests; and whether a glance at a page is so likely that its bytes are fetched before. */
-bool pageshare_window_is_left_out(const struct pageshare_window_page *page, const struct pageshare_window_part *part,
-                                  const struct pageshare_window_look *look, uint32_t number);
-bool pageshare_window_is_to_fetch(const struct pageshare_window_page *page, const struct pageshare_window_part *part,
-                                  const struct pageshare_window_look *look, uint32_t number);
-/* The number that says where a glance at a page looks. A glance is a number below 32,768. */
-uint64_t pageshare_window_glanced_by(const struct pageshare_window_page *page, uint32_t number);
+bool pageshare_window_begin_scan(struct pageshare_window_page *pages, size_t pages_count, struct pageshare_window_counts *parts,
+                                 size_t parts_count, size_t lead, const struct pageshare_window_look *look,
+                                 const struct pageshare_window_part *part, const struct pageshare_window_table_facts *table,
+                                 const uint16_t *pins, size_t pins_count, size_t first, const uint8_t *memory,
+                                 size_t memory_count, uint8_t *row, size_t row_count);
+bool pageshare_window_scan_done(struct pageshare_window_page *pages, size_t pages_count, struct pageshare_window_counts *parts,
+                                size_t parts_count, size_t lead, const struct pageshare_window_look *look,
+                                const struct pageshare_window_part *part, size_t first,
+                                const struct pageshare_window_find_outcome *outcomes, size_t outcomes_count, uint8_t *row,
+                                size_t row_count);
+bool pageshare_window_follow_changes(struct pageshare_window_page *pages, size_t pages_count,
+                                     struct pageshare_window_counts *parts, size_t parts_count, size_t lead,
+                                     const struct pageshare_window_look *look, const struct pageshare_window_part *part,
+                                     const struct pageshare_window_table_facts *table, const uint16_t *pins, size_t pins_count,
+                                     size_t first, const uint8_t *memory, size_t memory_count, uint8_t *row, size_t row_count);
+/* The numbers that say where glances look at the pages at these places, counted from `first` on. A glance is a number below 32,768. */
+void pageshare_window_glance_numbers(const struct pageshare_window_page *pages, size_t pages_count, size_t first,
+                                     const uint16_t *places, size_t places_count, uint64_t *numbers, size_t numbers_count);
 /* A page was asked about in vain; it can't be lent now; it is to be asked about at once; or it was to be held, and was, or wasn't. */
 void pageshare_window_asked(struct pageshare_window_page *page, struct pageshare_window_counts *part);
 void pageshare_window_asked_last(struct pageshare_window_page *page, struct pageshare_window_counts *part);

@@ -49,9 +49,6 @@ static inline uint64_t kept_of(const page_entry *page) { return (uint64_t)page->
 /* Whether a page is idle, and was asked about in vain so often that it is asked about again at some looks only. */
 static inline bool is_asked_again(const page_entry *page) { return looks_of(page) == STILL && asks_of(page) == ASKS_APART_MOST; }
 
-/* Whether it may be idle soon. One that changes always isn't young. */
-static inline bool is_young(const page_entry *page) { return looks_of(page) < STILL && asks_of(page) == 0; }
-
 /* Whether a page shows its frame, as far as is known. */
 static inline bool is_lent(const page_entry *page) {
     return belief_of(page) >= PAGESHARE_WINDOW_SHOWN && belief_of(page) <= PAGESHARE_WINDOW_HOMING;
@@ -235,14 +232,12 @@ size_t mappings_more(const struct window *window, size_t first, size_t count);
 
 /* ---- what the library decides of pages. All with the lock ---- */
 
-/* What is so of a window and its process; and of a page, by that. It stays so while the lock is held. */
+/* What is so of a window and its process. It stays so while the lock is held. */
 struct pageshare_window_table_facts table_of(const struct window *window);
-/* How many transfers are under way of each page, and of how many pages that is known. */
+/* How often each of a window's pages was pinned, and of how many that is known. */
 const uint16_t *pins_of(const struct window *window);
 size_t pins_in(const struct window *window);
 #define PINS(WINDOW) pins_of(WINDOW), pins_in(WINDOW)
-void find_facts(const struct window *window, const struct pageshare_window_table_facts *table, size_t page,
-                struct pageshare_window_facts *facts);
 /* What is so of a page; `why`: what is so besides, from now on. */
 struct pageshare_window_facts facts_of(const struct window *window, size_t page);
 struct pageshare_window_facts facts_with(const struct window *window, size_t page, struct pageshare_window_facts why);

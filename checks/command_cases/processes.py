@@ -25,13 +25,24 @@ for flags in [mmap.MAP_PRIVATE, mmap.MAP_SHARED]:
 print("filled", flush=True)
 sys.stdin.read()
 """
+# A process that maps so many frames of a file as those of the host, twice each, and says so.
+FRAMES = 5
+LENT = f"""
+import mmap, os, sys
+file = os.memfd_create("pageshare-frames")
+os.write(file, bytes(range(1, {FRAMES + 1})).ljust({FRAMES} * 4096, b"x"))
+shown = [mmap.mmap(file, {FRAMES} * 4096, flags=mmap.MAP_PRIVATE) for _ in range(2)]
+read = [it[:] for it in shown]
+print("filled", flush=True)
+sys.stdin.read()
+"""
 PAGES = [(n + 1).to_bytes(8, "little").ljust(PAGE, b"\0") for n in range(OWN_PAGES)]
 
 
 @contextlib.contextmanager
-def filled() -> Iterator[str]:
+def filled(code: str = FILLED) -> Iterator[str]:
     """The number of a process that has filled its pages and waits; it ends with the case."""
-    with subprocess.Popen([sys.executable, "-c", FILLED], stdin=subprocess.PIPE, stdout=subprocess.PIPE) as child:
+    with subprocess.Popen([sys.executable, "-c", code], stdin=subprocess.PIPE, stdout=subprocess.PIPE) as child:
         assert child.stdin and child.stdout
         child.stdout.readline()
         yield str(child.pid)
@@ -75,8 +86,9 @@ def estimates(subject: Subject, folder: pathlib.Path) -> None:
         table = subject.run(["estimate", "--all-memory", "--svg", str(picture), *words])
         own = json.loads(subject.run(["estimate", "--json", "--pid", one, "--pid", other]).stdout or b"{}")
     printed, names = json.loads(done.stdout or b"{}"), [f"process {one}", f"process {other}"]
-    shared_already = printed.pop("shared_already", None)
+    shared_already, lent_already = printed.pop("shared_already", None), printed.pop("lent_already", None)
     subject.tally.holds("estimate of processes, shared already", shared_already is not None and table.stdout.endswith(b" is shared already.\n"), table)
+    subject.tally.equal("estimate of processes, none lent", (lent_already, table.stdout[:7]), ([0, 0], b"Each nu"))
     subject.tally.holds("estimate of processes, private memory", OWN_PAGES <= own.get("total", {}).get("between", 0) < own["total"]["pages"], own)
     subject.tally.holds("estimate of processes, holes", own["total"]["pages"] < printed["total"]["pages"] < 1 << 17, (own, printed))
     images = [guest.pop("image") for guest in printed.get("guests", [])]
@@ -90,6 +102,16 @@ def estimates(subject: Subject, folder: pathlib.Path) -> None:
     is_drawn = picture.exists() and picture.read_text().count("<title>process ") == 2
     subject.tally.holds("estimate of processes, table and picture", is_printed and is_drawn, table)
     ended_processes(subject, folder, str(raw), other)
+
+
+def lent_processes(subject: Subject) -> None:
+    """Processes whose memory shows frames of the host: they are said first."""
+    with filled() as one, filled(LENT) as other:
+        done = subject.run(["estimate", "--json", "--pid", one, "--pid", other])
+        table = subject.run(["estimate", "--pid", one, "--pid", other])
+    subject.tally.equal("estimate of processes, lent", json.loads(done.stdout or b"{}").get("lent_already"), [0, 2 * FRAMES])
+    first = f"pageshare-host shares 0.0 MiB of process {other} already, which counts below, too.\nEach number in MiB.\n"
+    subject.tally.equal("estimate of processes, lent ones first", table.stdout.decode()[: len(first)], first)
 
 
 def ended_processes(subject: Subject, folder: pathlib.Path, raw: str, ended: str) -> None:

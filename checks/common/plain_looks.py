@@ -9,6 +9,9 @@ import dataclasses
 from common.plain_page import SHOWING, WITH_SLOT, Facts, Page
 
 OVER, FIND_COPY, GLANCE, READ, COUNT, IDLE, ZEROS = range(7)
+COUNTED = (READ, COUNT, IDLE, ZEROS)
+# What a scan keeps of a page, beside its step.
+TAKEN, CHANGED, AGAIN, MEMORY, YOUNG = 8, 16, 32, 64, 128
 PASS, MEET, KEEP, TO_READ = "pass", "meet", "keep", "read"
 STILL = 3
 # How often a question in vain counts at most, and how many looks apart the turns of a page are then, but for one that was asked so often.
@@ -53,9 +56,6 @@ class Part:
         """Whether it isn't left out: it isn't idle, is asked about often, has its turn, or is in the sample."""
         has_turn = (look + number // TOGETHER) % self.idle_apart() == 0
         return has_turn or not is_again(page) or self.is_in_sample(look, number)
-
-    def is_to_fetch(self, page: Page, look: int, number: int) -> bool:
-        return page.looks > 0 and not page.over and (page.looks < STILL or self.is_in_sample(look, number))
 
     def is_in_passing(self, page: Page, look: int, number: int) -> bool:
         turn = (look + number // TOGETHER) // self.looks_apart(page)
@@ -168,3 +168,65 @@ def read(page: Page, fingerprint: int, glance: int) -> None:
         page.looks = first
         note(page, fingerprint)
     page.seen = page.seen and page.looks > first
+
+
+def is_young(page: Page) -> bool:
+    """It may be idle soon, and doesn't change always."""
+    return page.looks < STILL and page.asks == 0
+
+
+@dataclasses.dataclass
+class Scan:
+    """A scan of pages in a row, of which the first has a number: what it keeps of each page."""
+
+    part: Part
+    look: int
+    first: int
+    ready: int
+    is_return: bool
+    facts: list[Facts]
+    pages: list[Page]
+    memory: list[int]
+
+    def take(self, place: int) -> int:
+        """It takes a page. Returns its byte."""
+        page, number, memory = self.pages[place], self.first + place, self.memory[place]
+        step = self.part.begin(page, self.facts[place], self.look, number, memory, number < self.ready)
+        has_memory = memory in (1, 2)
+        again = AGAIN if is_again(page) and step in COUNTED else 0
+        return step + TAKEN + again + (MEMORY if has_memory else 0) + (YOUNG if has_memory and is_young(page) else 0)
+
+    def begin(self, takes_all: bool) -> list[int]:
+        def is_taken(place: int) -> bool:
+            page = self.pages[place]
+            if not takes_all and self.memory[place] not in (1, 2):
+                return False
+            return is_young(page) if self.is_return else self.part.rest == 0 or self.part.takes(page, self.look, self.first + place)
+
+        return [self.take(place) if is_taken(place) else 0 for place in range(len(self.pages))]
+
+    def done(self, row: list[int], outcomes: list[tuple[int, int, bool]]) -> list[int]:
+        """What came of the steps."""
+
+        def after(place: int) -> int:
+            page, byte, step = self.pages[place], row[place], row[place] & 7
+            if step in (OVER, IDLE, ZEROS):
+                return byte
+            was_idle, was_again = page.looks >= STILL, is_again(page)
+            following = self.part.done(page, step, self.look, self.first + place, *outcomes[place])
+            byte = byte & (TAKEN | CHANGED | AGAIN | MEMORY) | following
+            byte |= CHANGED if was_idle and page.looks < STILL else 0
+            byte |= AGAIN if was_again and following in COUNTED else 0
+            return byte | (YOUNG if byte & MEMORY and is_young(page) else 0)
+
+        return [after(place) for place in range(len(row))]
+
+    def follow(self, row: list[int]) -> list[int]:
+        """Pages are taken that are beside changed ones, and were left out."""
+
+        def is_taken(place: int) -> bool:
+            beside = any(0 <= at < len(row) and row[at] & CHANGED for at in (place - 1, place + 1))
+            left_out = not self.part.takes(self.pages[place], self.look, self.first + place)
+            return not row[place] & TAKEN and beside and self.memory[place] == 1 and left_out
+
+        return [self.take(place) if is_taken(place) else row[place] for place in range(len(row))]

@@ -23,10 +23,10 @@ HUGE_FROM = ("64", "400", "200", "512")
 SANITIZE = ["-fsanitize=address,undefined", "-fno-sanitize-recover=all"]
 
 
-def compile_folder(name: str) -> pathlib.Path:
-    """Compiles the C program of a folder beside this file."""
+def compile_folder(name: str, more: Sequence[StrPath] = ()) -> pathlib.Path:
+    """Compiles the C program of a folder beside this file, with some more sources."""
     program = HERE.place.room / name
-    found = sorted((TOP / "checks/host" / name).glob("*.c"))
+    found = [*sorted((TOP / "checks/host" / name).glob("*.c")), *more]
     must(subprocess.run([CC, *FLAGS, "-o", program, *found]).returncode == 0, f"{name}/ doesn't compile")
     return program
 
@@ -139,13 +139,13 @@ STORMS = (("4", "leave"), ("4", "direct", "leave", "huge"), ("3", "direct", "dev
 
 
 def case_storm() -> None:
-    """Four busy monitors: writers, discards, forks, parts that leave, reads by O_DIRECT and io_uring, signals: SECONDS=N."""
+    """Four busy monitors: writers, discards, forks, parts that leave, reads by O_DIRECT and io_uring, signals: SECONDS=N, SANITIZE=1."""
     program, host, seconds = HERE.place.room / "storm", Host(memory="256M"), os.environ.get("SECONDS", "12")
     found = [TOP / "checks/host/storm.c", TOP / "checks/host/breaker/ring.c"]
     must(subprocess.run([CC, *FLAGS, "-o", program, *found]).returncode == 0, "storm.c doesn't compile")
-    ran = []
+    ran, first = [], sanitized() if os.environ.get("SANITIZE") == "1" else {}
     for number, words in enumerate(STORMS):
-        more = {"PAGESHARE_PERIOD_MS": "50", "PAGESHARE_CPU": "100", "PAGESHARE_COUNTS": str(HERE.place.room / f"storm{number}.json")}
+        more = first | {"PAGESHARE_PERIOD_MS": "50", "PAGESHARE_CPU": "100", "PAGESHARE_COUNTS": str(HERE.place.room / f"storm{number}.json")}
         more |= {"PAGESHARE_HASTY": "1", "PAGESHARE_HUGE": "400"} if "huge" in words else {}
         ran.append(subprocess.Popen([*AS_NOBODY, program, seconds, "32", *words], env=preloaded(host, more), text=True, stdout=subprocess.PIPE,
                                     stderr=subprocess.STDOUT))
@@ -156,7 +156,7 @@ def case_storm() -> None:
         counts = json.loads((HERE.place.room / f"storm{number}.json").read_text())
         parts = f"; {counts['splits']} parts split, {counts['made_whole']} whole again" if "huge" in words else ""
         print(f"  {' '.join(words[1:])}: {text.splitlines()[-1]}{parts}")
-    must(all(it.returncode == 0 for it in ran), f"statuses {[it.returncode for it in ran]}: " + "\n".join(it[-1000:] for it in said))
+    must(all(it.returncode == 0 for it in ran) and "Sanitizer" not in "".join(said), f"statuses {[it.returncode for it in ran]}: " + "\n".join(it[-1000:] for it in said))
     in_time(lends > 0, f"nothing was lent: {said}")
     all_released(host)
     host.stop()

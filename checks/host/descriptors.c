@@ -5,6 +5,7 @@
  *     ring          an io_uring                     buffers       one with a registered buffer
  *     submit        io_setup                        memory        a memfd
  *     files:PATH    one with a file by O_DIRECT that is registered, and has no descriptor any more
+ *     xdp           a socket with which memory may be registered that a network card writes to
  *     request:NAME  a request of ioctl(2)
  *
  * Several with commas between are open at once. What comes after such a file was seen, and what is seen then:
@@ -32,6 +33,7 @@
 #include <string.h>
 #include <sys/ioctl.h>
 #include <sys/mman.h>
+#include <sys/socket.h>
 #include <sys/syscall.h>
 #include <sys/wait.h>
 #include <unistd.h>
@@ -89,6 +91,7 @@ static int open_one(const char *word) {
     static uint8_t page[PAGE] __attribute__((aligned(PAGE)));
     if (strncmp(word, "file:", 5) == 0) return open(word + 5, O_RDONLY | O_CLOEXEC);
     if (strncmp(word, "direct:", 7) == 0) return open_direct(word + 7);
+    if (strcmp(word, "xdp") == 0) return socket(AF_XDP, SOCK_RAW | SOCK_CLOEXEC, 0);
     if (strcmp(word, "memory") == 0) return memfd_create("memory", MFD_CLOEXEC);
     if (strcmp(word, "submit") == 0) return syscall(SYS_io_setup, 4, &context) == 0 ? dup(2) : -1;
     struct ring *ring = &rings[count++ % OPEN_MOST];

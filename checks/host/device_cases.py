@@ -8,6 +8,7 @@ import tempfile
 from collections.abc import Mapping, Sequence
 
 from harness import StrPath
+from parts_cases import slow_files
 from places import CC, FLAGS, HERE, OUT, TOP, LeftOut, must
 
 # (stand-ins: files of these names, in a /dev of the case's own)
@@ -50,13 +51,14 @@ def case_devices() -> None:
     disk, memory = f"direct:{on_disk.name}", f"direct:{in_memory.name}"
     due = {f"file:{on_disk.name}": "none", "memory": "none", "ring": "none", "submit": "none", "buffers": "pin", disk: "read", memory: "read",
            f"{disk},ring": "pin", f"{disk},submit": "pin", f"{disk},buffers": "pin", f"file:{on_disk.name},ring": "none",
-           f"files:{on_disk.name}": "pin"}
+           f"files:{on_disk.name}": "pin", "xdp": "pin"}
     due |= {f"then-{what}:{on_disk.name}": "pin" for what in ("submit", "hidden", "files")}
     due |= {f"request:{name}": verdict for name, verdict in REQUESTS.items()}
     newer = tuple(int(it) for it in os.uname().release.split(".")[:2]) >= (6, 13)
     due["request:vmx"] = "pin" if newer else "write-all"
     compare(verdicts([program, *due]), due)
     compare(*on_overlay(program))
+    compare(*on_slow_files(program))
     compare(*by_names(program))
 
 
@@ -71,6 +73,13 @@ def on_overlay(program: StrPath) -> tuple[dict[str, str], dict[str, str]]:
     if subprocess.run(["unshare", "-m", "sh", "-c", mount], capture_output=True).returncode != 0:
         raise LeftOut("overlay, since it can't be mounted")
     return verdicts([program, *due], ["unshare", "-m", "sh", "-c", f'{mount} && exec "$@"', "sh"]), due
+
+
+def on_slow_files(program: StrPath) -> tuple[dict[str, str], dict[str, str]]:
+    """Files of FUSE: also without O_DIRECT they may pin pages."""
+    before, file = slow_files(0)
+    due = {f"file:{file}": "read", f"file:{file},ring": "write-all", f"file:{file},submit": "write-all", f"direct:{file}": "write-all"}
+    return verdicts([program, *due], [str(it) for it in before]), due
 
 
 def by_names(program: StrPath) -> tuple[dict[str, str], dict[str, str]]:

@@ -767,6 +767,54 @@ static void direct(void) {
     check(is_full_of(at + PAGES * PAGE, PAGE, 'd'), "what was read is there");
 }
 
+/* A file of a file system that reads past the page cache, though it wasn't opened with O_DIRECT (slow_files.c). */
+static int open_uncached(void) {
+    const char *path = getenv("SLOW_FILE");
+    int file = path ? open(path, O_RDONLY | O_CLOEXEC) : -1;
+    if (file < 0) left_out("there is no such file system");
+    return file;
+}
+
+enum { READ_FIRST = 128, READ_PAGES = 64 };
+
+static void *reads_uncached(void *at) {
+    const struct iovec parts[] = {{(uint8_t *)at + READ_FIRST * PAGE, PAGE},
+                                  {(uint8_t *)at + (READ_FIRST + 1) * PAGE, (READ_PAGES - 1) * PAGE}};
+    if (preadv(direct_file, parts, 2, 0) != READ_PAGES * PAGE) exit(2);
+    return NULL;
+}
+
+/* What such a read brings is there, though its pages were copies that leave meanwhile, or that a look would lend again. */
+static void uncached_by(bool do_leave) {
+    pthread_t thread;
+    if ((direct_file = open_uncached()) < 0) return;
+    uint8_t *at = lent(PAGES), *to = at + READ_FIRST * PAGE;
+    check(wait_for_count("devices", 1, SECONDS), "the file is seen");
+    fill(at, PAGES, 21);
+    if (pthread_create(&thread, NULL, reads_uncached, at) != 0) exit(2);
+    usleep(200000); /* (by now it reads) */
+    if (do_leave) mprotect(to, READ_PAGES * PAGE, PROT_READ | PROT_WRITE);
+    pthread_join(thread, NULL);
+    usleep(300000);
+    check(is_full_of(to, READ_PAGES * PAGE, 'D'), "what was read is there");
+    check(differing(at, 0, READ_FIRST, 21) == 0 && differing(at, READ_FIRST + READ_PAGES, PAGES, 21) == 0, "all else is there");
+    fill(at, READ_FIRST, 41);
+    check(wait_for_count("lent", READ_FIRST, SECONDS), "pages are lent again");
+}
+static void uncached_leave(void) { uncached_by(true); }
+static void uncached_look(void) { uncached_by(false); }
+
+/* With an io_uring nobody sees which pages such reads are about. */
+static void uncached_ring(void) {
+    struct ring ring;
+    uint8_t *at = lent(PAGES);
+    if (!ring_make(&ring)) return left_out("there is no io_uring");
+    if (open_uncached() < 0) return;
+    check(wait_for_count("devices", 3, SECONDS), "lending ends");
+    for (unsigned i = 0; i < SECONDS * 50 && library_count("lent") != 0; i++) usleep(20000);
+    check(library_count("lent") == 0 && differing(at, 0, PAGES, 1) == 0, "and all is there");
+}
+
 /* Sets O_DIRECT of the file of frames that the library has, behind its back. Returns whether it is there. */
 static bool set_own_flags(void) {
     char path[64], target[64] = "";
@@ -1006,6 +1054,9 @@ static const struct way {
     {"ended", ended},
     {"not-opened", not_opened},
     {"own-flags", own_flags},
+    {"uncached-leave", uncached_leave},
+    {"uncached-look", uncached_look},
+    {"uncached-ring", uncached_ring},
     {"pairs", pairs},
     {"newcomer", newcomer},
     {"read-late", read_late},

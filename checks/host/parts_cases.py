@@ -119,6 +119,19 @@ def case_lent_again() -> None:
     run_parts(("direct", "early-read"), STANDING)
 
 
+def slow_files(milliseconds: int) -> tuple[list[StrPath], pathlib.Path]:
+    """What runs a program beside a file system whose reads go past the page cache and take so long, and its file."""
+    folder, server = HERE.place.room / "slow", compile_c("slow_files")
+    folder.mkdir(exist_ok=True)
+    return ["unshare", "-m", server, folder, str(milliseconds)], folder / "file"
+
+
+def case_uncached() -> None:
+    """Files of a file system that reads past the page cache without O_DIRECT, as FUSE may: what was read is there; with io_uring lending ends."""
+    before, file = slow_files(1500)
+    run_parts(("uncached-leave", "uncached-look", "uncached-ring"), more={"SLOW_FILE": str(file)}, user=[*map(str, before), *AS_NOBODY])
+
+
 def case_read_late() -> None:
     """A device that reads a lent page is late: it reads what was there, though the frame is lent anew."""
     run_parts(("read-late",))

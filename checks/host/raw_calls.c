@@ -599,6 +599,28 @@ static void guarded_later(void) {
     check(mprotect(at + 11 * PAGE, PAGE, PROT_READ | PROT_WRITE) == 0, "mprotect");
 }
 
+/* Copies that a device may have pinned stay over frames: what is mapped in their place anew the monitor's userfaultfd wouldn't watch. */
+static void watched_copies(void) {
+    struct ring ring;
+    int faults = open_faults(0);
+    open_direct();
+    begin_hearing();
+    if (faults < 0 || !ring_make(&ring)) return left_out("no userfaultfd of its own, or no io_uring");
+    uint8_t *at = lent(PAGES), *page = at + 9 * PAGE;
+    struct uffdio_register asked = {.range = {(uintptr_t)at, PAGES * PAGE}, .mode = UFFDIO_REGISTER_MODE_MISSING};
+    check(wait_until_said(pinned), "pages may be pinned");
+    fill(at, PAGES, 7);
+    check(mprotect(page + PAGE, PAGE, PROT_READ | PROT_WRITE) == 0, "a page that leaves");
+    check(ioctl(faults, UFFDIO_REGISTER, &asked) == 0, "UFFDIO_REGISTER");
+    for (size_t i = 0; i < 2; i++)
+        check(madvise(page + i * PAGE, PAGE, MADV_DONTNEED) == -1 && errno == EBUSY,
+              "a copy can't be given up while it is watched");
+    check(differing(at, 0, PAGES, 7) == 0, "pages keep their content");
+    check(ioctl(faults, UFFDIO_UNREGISTER, &asked.range) == 0, "UFFDIO_UNREGISTER");
+    check(madvise(page, 2 * PAGE, MADV_DONTNEED) == 0 && page[17] == 0 && page[PAGE] == 0, "then it can");
+    check(differing(at, 11, PAGES, 7) == 0, "pages keep their content then");
+}
+
 static const struct way {
     const char *name;
     void (*run)(void);
@@ -624,6 +646,7 @@ static const struct way {
     {"missing-first", missing_first},
     {"protected-first", protected_first},
     {"guarded-later", guarded_later},
+    {"watched-copies", watched_copies},
     {"missing-early", missing_early},
     {"protected-early", protected_early},
 };

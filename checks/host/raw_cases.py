@@ -44,7 +44,7 @@ def begin(host: Host) -> None:
 
 def case_guarded() -> None:
     """Memory that the monitor guards by a userfaultfd before it offers it, or later past the C library, stays as it is while the guard lasts."""
-    run_parts(("missing-first", "protected-first", "guarded-later"), more={"PAGESHARE_FILTER": "0"}, program="raw_calls")
+    run_parts(("missing-first", "protected-first", "guarded-later", "watched-copies"), more={"PAGESHARE_FILTER": "0"}, program="raw_calls")
     for way in ("missing-early", "protected-early"):
         host = Host(memory="64M")
         host.kill()

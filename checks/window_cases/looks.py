@@ -1,27 +1,36 @@
 """Looks at pages and parts as chance has it: beside plain rules (common/plain_looks.py), and by what they are worth."""
 from __future__ import annotations
 
+import functools
 import random
 from typing import Any
 
 from common import plain_looks
 from common.compared import Compared
-from common.plain_looks import COUNT, GLANCE, IDLE, KEEP, OVER, READ, TO_READ, Part
-from common.plain_page import FACTS, WITH_FRAME, WITH_SLOT, Facts, Page
+from common.plain_looks import COUNT, GLANCE, IDLE, KEEP, OVER, READ, TAKEN, TO_READ, ZEROS, Part, Scan
+from common.plain_page import WITH_FRAME, WITH_SLOT, Facts, Page
 from common.window_library import Library, values_of
 from harness import Tally
 
 LOOKS = 20_000
 # How many of 256 looks at the page 100 read it, for how many its last fingerprint counts, and how many glance at it; with no glance that differs.
 # First: how often it was asked about in vain (-1: it is new), whether it is over a frame, what its part leaves out, and whether nothing changes
-# there. Of the sixteen turns of the page that was asked about most often one reads it. Where the part rests, those two of the others glance at it
-# that are in the sample, at looks 47 and 159.
+# there. Of the sixteen turns of the page that was asked about most often one reads it. Where the part rests, the 36 looks that have it in the sample
+# glance at it, and that one.
 WAYS = [
     ((-1, False, 0, False), (0, 0, 256)), ((-1, True, 0, False), (256, 0, 0)), ((2, False, 0, False), (64, 0, 256)),
-    ((3, False, 0, False), (1, 15, 256)), ((3, False, 6, False), (1, 15, 243)), ((3, True, 0, False), (16, 0, 0)), ((3, True, 0, True), (8, 8, 0)),
+    ((3, False, 0, False), (1, 15, 256)), ((3, False, 6, False), (1, 15, 37)), ((3, True, 0, False), (16, 0, 0)), ((3, True, 0, True), (8, 8, 0)),
 ]
 # How many of 64 looks read or keep a page that was asked about so often in vain, in a part that is whole or leaves out so many.
 TURNS = [((0, False, 0), 64), ((1, False, 0), 32), ((2, False, 0), 16), ((3, False, 0), 4), ((3, True, 0), 2), ((3, False, 31), 2)]
+# Pages of the table in which a page is looked at, and those of its first part that lie before it.
+TABLE, LEAD = 600, 100
+
+
+@functools.cache
+def table_of(library: Library) -> tuple[Any, Any]:
+    """The table in which each page is looked at, and the counts of its parts."""
+    return library.array("page", [()] * TABLE), library.array("counts", [()] * 2)
 
 
 class Looked:
@@ -33,22 +42,45 @@ class Looked:
         for (name, _), value in zip(self.page._fields_, page.bytes()):
             setattr(self.page, name, value)
 
-    def structs(self, look: int) -> tuple[Any, Any]:
-        """The part and the look."""
+    def structs(self, look: int, ready: int = 0) -> tuple[Any, Any]:
+        """The look and the part."""
         part = self.part
         of_part = (part.whole, 0, 0, part.rest, part.left, part.is_still, False, part.own)
-        return self.library.structs["part"](*of_part), self.library.structs["look"](part.zeros, look, part.turns, part.rest_most)
+        of_look = (part.zeros, ready, look, part.turns, part.rest_most, False)
+        return self.library.structs["look"](*of_look), self.library.structs["part"](*of_part)
+
+    def scan(self, name: str, look: int, number: int, ready: int, words: tuple[Any, ...], step: int) -> int:
+        """A call of a scan of this page alone, which lies at its number in a table. Returns its byte."""
+        library, number_of_part, row = self.library, (number + LEAD) // 512, self.library.array("uint8_t", [step])
+        pages, parts = table_of(library)
+        pages[number], parts[number_of_part] = self.page, self.counts
+        library.call(name, pages, TABLE, parts, 2, LEAD, *self.structs(look, ready), *words, row, 1)
+        self.page, self.counts = type(self.page).from_buffer_copy(pages[number]), type(self.counts).from_buffer_copy(parts[number_of_part])
+        return int(row[0])
 
     def begin(self, facts: Facts, look: int, number: int, memory: int, is_ready: bool) -> int:
-        given = self.library.make("facts", **{name: getattr(facts, name) for name in FACTS})
-        return int(self.library.call("begin_find", self.page, self.counts, *self.structs(look), given, number, memory, is_ready))
+        """What is done first; `taken` is whether the scan takes the page."""
+        library = self.library
+        table = library.make("table_facts", may_pin=facts.may_pin, locked=facts.locked)
+        words = (table, library.array("uint16_t", []), 0, number, library.array("uint8_t", [memory]), 1)
+        byte = self.scan("begin_scan", look, number, number + 1 if is_ready else number, words, 0)
+        self.taken = bool(byte & TAKEN)
+        return byte & 7
 
     def done(self, step: int, look: int, number: int, outcome: tuple[int, int, bool]) -> int:
-        given = self.library.structs["find_outcome"](*outcome)
-        return int(self.library.call("find_done", self.page, self.counts, *self.structs(look), number, step, given))
+        given = self.library.array("find_outcome", [outcome])
+        return self.scan("scan_done", look, number, 0, (number, given, 1), step) & 7
 
     def asks(self, name: str, look: int, number: int) -> bool:
-        return bool(self.library.call(name, self.page, *self.structs(look), number))
+        look_at, part = self.structs(look)
+        return bool(self.library.call(name, self.page, part, look_at, number))
+
+    def glanced_by(self, number: int) -> int:
+        library, pages = self.library, table_of(self.library)[0]
+        numbers = library.array("uint64_t", [0])
+        pages[number] = self.page
+        library.call("glance_numbers", pages, TABLE, number, library.array("uint16_t", [0]), 1, numbers, 1)
+        return int(numbers[0])
 
 
 def some_page(chance: random.Random) -> Page:
@@ -76,50 +108,107 @@ def by_rules(library: Library, seen: Compared, chance: random.Random) -> None:
     known, part = some_page(chance), some_part(chance)
     looked = Looked(library, known, part)
     before = known.counted()
-    look, number, facts = some_number(chance), some_number(chance), Facts(locked=chance.random() < 0.1, may_pin=chance.random() < 0.1)
-    for name, due in (("is_left_out", not part.takes(known, look, number)), ("is_to_fetch", part.is_to_fetch(known, look, number)),
-                      ("is_in_passing", part.is_in_passing(known, look, number))):
-        seen.equal(name, looked.asks(name, look, number), due)
-    seen.equal("glanced_by", library.call("glanced_by", looked.page, number), number if known.looks == 0 else plain_looks.fingerprint_of(known))
+    look, number, facts = some_number(chance), chance.randrange(TABLE), Facts(locked=chance.random() < 0.1, may_pin=chance.random() < 0.1)
+    seen.equal("is_in_passing", looked.asks("is_in_passing", look, number), part.is_in_passing(known, look, number))
+    seen.equal("glance_numbers", looked.glanced_by(number), number if known.looks == 0 else plain_looks.fingerprint_of(known))
+    if not part.takes(known, look, number):
+        part.rest = 0
     memory, is_ready = chance.randrange(3), chance.random() < 0.8
     step = looked.begin(facts, look, number, memory, is_ready)
-    seen.equal("begin_find", step, part.begin(known, facts, look, number, memory, is_ready))
+    seen.equal("begin_scan", step, part.begin(known, facts, look, number, memory, is_ready))
     for _ in range(4):
         glance = known.clue if chance.random() < 0.6 else chance.choice([0, 1, 65535])
         fingerprint = plain_looks.fingerprint_of(known) if chance.random() < 0.5 else chance.choice([0, 1, 1 << 32, 2**64 - 1])
         is_own = chance.random() < 0.5
         after = looked.done(step, look, number, (fingerprint, glance, is_own))
-        seen.equal(f"find_done of {step}", after, part.done(known, step, look, number, fingerprint, glance, is_own))
+        due = step if step in (IDLE, ZEROS) else part.done(known, step, look, number, fingerprint, glance, is_own)
+        seen.equal(f"scan_done of {step}", after, due)
         seen.equal(f"the page after {step}", values_of(looked.page), known.bytes())
         step = after
-    seen.equal("the last step", step, OVER)
+    seen.holds("the last step", step in (OVER, IDLE, ZEROS))
     counts = tuple(7 - was + now for was, now in zip(before, known.counted()))
     seen.equal("the counts", values_of(looked.counts), counts)
 
 
-def takes(library: Library, seen: Compared, chance: random.Random) -> None:
-    """Which pages a look takes of those that are there, or comes back for."""
-    known, part = [some_page(chance) for _ in range(chance.choice([0, 1, 8]))], some_part(chance)
-    found = [chance.choice([0, 1, 2]) for _ in range(chance.choice([len(known), 4]))]
-    most, look, first = chance.choice([8, 8, 2]), some_number(chance), some_number(chance)
-    is_return, takes_all = chance.random() < 0.3, chance.random() < 0.3
-    due = []
-    for place in range(min(len(known), len(found), most)):
-        page, number = known[place], min(first + place, 2**32 - 1)
-        taken = page.looks < 3 and page.asks == 0 if is_return else part.rest == 0 or part.takes(page, look, number)
-        due += [place] if (takes_all or found[place]) and taken else []
-    pages, places = library.array("page", [page.bytes() for page in known]), library.array("uint16_t", [0] * most)
-    structs = Looked(library, Page(), part).structs(look)
-    words = (pages, len(known), library.array("uint8_t", found), len(found), *structs, first, is_return, takes_all, places, most)
-    count = library.call("take_pages", *words)
-    seen.equal("take_pages", list(values_of(places))[:count], due)
+class Scanned:
+    """A scan of pages in a row of a table, beside its rules."""
+
+    def __init__(self, library: Library, seen: Compared, chance: random.Random) -> None:
+        self.library, self.seen, self.chance = library, seen, chance
+        count, first, part = chance.choice([0, 1, 8, 20]), chance.randrange(20), some_part(chance)
+        known = [some_page(chance) for _ in range(count)]
+        self.lead, self.all_past = chance.choice([0, 500, 511]), chance.random() < 0.2
+        pins = [chance.choice([0, 0, 1]) for _ in range(chance.choice([0, first + count]))]
+        locked = chance.random() < 0.05
+        facts = [Facts(locked=locked, pinned=bool(pins and pins[first + place])) for place in range(count)]
+        ready, memory = chance.choice([0, first + count, first + count, first + 3]), [chance.choice([0, 1, 1, 1, 2, 3]) for _ in range(count)]
+        self.scan = Scan(part, some_number(chance), first, ready, chance.random() < 0.2, facts, known, memory)
+        self.before = [page.counted() for page in known]
+        self.pages = library.array("page", [()] * first + [page.bytes() for page in known] + [(9, 9, 9, 0, 0)])
+        self.parts = library.array("counts", [(100,) * 5] * 2)
+        for counts in self.parts:
+            counts.past = 100 if self.all_past else 0
+        self.row, self.facts = library.array("uint8_t", [9] * count), library.make("table_facts", locked=locked)
+        self.pins = (library.array("uint16_t", pins), len(pins))
+        look, self.part = Looked(library, Page(), part).structs(self.scan.look, ready)
+        look.is_return = self.scan.is_return
+        self.look = look
+
+    def call(self, name: str, *words: Any) -> bool:
+        tables = (self.pages, len(self.pages), self.parts, 2, self.lead, self.look, self.part)
+        return bool(self.library.call(name, *tables, *words, self.row, len(self.scan.pages)))
+
+    def taking(self, name: str, wrong: int = 0) -> bool:
+        """A call that takes pages. `wrong`: so many kinds of memory more than pages."""
+        memory = self.library.array("uint8_t", self.scan.memory)
+        return self.call(name, self.facts, *self.pins, self.scan.first, memory, len(self.scan.memory) + wrong)
+
+    def agrees(self, name: str, row: list[int]) -> None:
+        self.seen.equal(f"the bytes after {name}", list(values_of(self.row))[: len(row)], row)
+        pages = list(values_of(self.pages))
+        self.seen.equal(f"the pages after {name}", pages[self.scan.first : -1], [page.bytes() for page in self.scan.pages])
+        self.seen.equal(f"the page behind them after {name}", pages[-1], (9, 9, 9, 0, 0))
+
+    def run(self) -> None:
+        scan, chance = self.scan, self.chance
+        self.seen.equal("begin_scan with too much memory", self.taking("begin_scan", 1), False)
+        self.seen.equal("begin_scan", self.taking("begin_scan"), True)
+        row = scan.begin(self.all_past)
+        self.agrees("begin_scan", row)
+        for _ in range(3):
+            outcomes = [(plain_looks.fingerprint_of(page) if chance.random() < 0.7 else 5, page.clue if chance.random() < 0.6 else 1, chance.random() < 0.5)
+                        for page in scan.pages]
+            given = self.library.array("find_outcome", outcomes)
+            self.seen.equal("scan_done", self.call("scan_done", scan.first, given, len(outcomes)), True)
+            row = scan.done(row, outcomes)
+            self.agrees("scan_done", row)
+            self.seen.equal("follow_changes", self.taking("follow_changes"), True)
+            row = scan.follow(row)
+            self.agrees("follow_changes", row)
+        self.seen.equal("scan_done of too many", self.call("scan_done", scan.first, given, len(outcomes) + 1), False)
+        self.agrees("what changes nothing", row)
+        self.counts()
+
+    def counts(self) -> None:
+        due = [[100, 100, 100, 100 if self.all_past else 0, 100] for _ in range(2)]
+        for place, (page, before) in enumerate(zip(self.scan.pages, self.before)):
+            of_part = due[(self.scan.first + place + self.lead) // 512]
+            for which, (was, now) in enumerate(zip(before, page.counted())):
+                of_part[which] = max(0, of_part[which] - was) + now
+        if self.all_past:
+            self.seen.equal("the counts", [list(counts) for counts in values_of(self.parts)], due)
+
+
+def scans(library: Library, seen: Compared, chance: random.Random) -> None:
+    """A scan of pages of any bytes, with whatever it finds, to its end."""
+    Scanned(library, seen, chance).run()
 
 
 def rests(library: Library, seen: Compared, chance: random.Random) -> None:
     """What becomes of a part's rest."""
     part = some_part(chance)
     looked = Looked(library, Page(), part)
-    struct, look = looked.structs(0)
+    look, struct = looked.structs(0)
     for _ in range(6):
         own = chance.choice([0, 16, 500, 512])
         changes = chance.choice([0, 0, 1, own // 16, own // 16 + 1])
@@ -129,7 +218,7 @@ def rests(library: Library, seen: Compared, chance: random.Random) -> None:
         else:
             library.call("set_rest", struct, look, changes, own)
             part.set_rest(changes, own)
-        seen.equal("a rest", values_of(struct), values_of(looked.structs(0)[0]))
+        seen.equal("a rest", values_of(struct), values_of(looked.structs(0)[1]))
 
 
 def is_idle_by_reads(library: Library, seen: Compared, over: bool) -> None:
@@ -169,7 +258,7 @@ def stays(library: Library, seen: Compared) -> None:
         was_idle = looked.page.looks >> 4 & 3 == 3
         before = looked.page.looks >> 4 & 3
         step, outcome = looked.begin(Facts(), look, 100, 1, True), (content, content % 1000, False)
-        while step not in (OVER, IDLE, COUNT):
+        while step not in (OVER, IDLE, COUNT, ZEROS):
             step = looked.done(step, look, 100, outcome)
         is_idle = looked.page.looks >> 4 & 3 == 3
         is_met = before != 1 and looked.page.looks >> 4 & 3 == 1
@@ -213,10 +302,13 @@ def samples(library: Library, seen: Compared) -> None:
     part = Part(rest=4)
     for number in range(64):
         again, young = Looked(library, Page(looks=3, asks=3), part), Looked(library, Page(looks=3, asks=2), part)
-        left_out = sum(again.asks("is_left_out", look, number) for look in range(80))
-        fetched = sum(again.asks("is_to_fetch", look, number) for look in range(80))
-        seen.equal(f"samples of {number}", (fetched, left_out), (16, 60))
-        seen.equal(f"a page that is asked about, {number}", any(young.asks("is_left_out", look, number) for look in range(80)), False)
+        left_out = left_young = 0
+        for look in range(80):
+            again.begin(Facts(), look, number, 1, True)
+            young.begin(Facts(), look, number, 1, True)
+            left_out, left_young = left_out + (not again.taken), left_young + (not young.taken)
+        seen.equal(f"samples of {number}", left_out, 60)
+        seen.equal(f"a page that is asked about, {number}", left_young, 0)
     passing = Looked(library, Page(looks=3, asks=1), Part(whole=True))
     seen.equal("in passing", sum(passing.asks("is_in_passing", look, 100) for look in range(256)), 192)
 
@@ -227,7 +319,7 @@ def run(tally: Tally, library: Library) -> None:
     for _ in range(LOOKS // 2):
         by_rules(library, seen, chance)
     for _ in range(LOOKS // 8):
-        takes(library, seen, chance)
+        scans(library, seen, chance)
         rests(library, seen, chance)
     seen.close()
     seen = Compared(tally, "what looks are worth")

@@ -1,11 +1,12 @@
 #define _GNU_SOURCE
 /*
  * aio_read and the like, interposed in a virtual machine monitor. Threads of the C library make such requests later, by calls that this
- * library doesn't see. So where one has a file by O_DIRECT, devices may pin pages from then on, as with an io_uring. And io_setup of
- * libaio, after which the same is so.
+ * library doesn't see. So where one has a file by O_DIRECT or the like, devices may pin pages from then on, as with an io_uring. And io_setup
+ * of libaio, after which the same is so.
  */
 #include "buffers.h"
 #include "calls.h"
+#include "devices.h"
 #include "filter.h"
 #include "sharing.h"
 #include "trouble.h"
@@ -16,13 +17,15 @@
 
 /* Requests are about to be made; each may be NULL. Returns false, with errno, if lending would have to end for them and can't. */
 static bool prepare(const struct aiocb *const *requests, int count) {
-    bool pins = false;
+    enum devices worst = DEVICES_NONE;
     if (!buffers_may_meet()) return true;
-    for (int i = 0; i < count && !pins; i++) {
+    for (int i = 0; i < count; i++) {
         const struct aiocb *it = requests[i];
-        pins = it && sharing_meets((const void *)(uintptr_t)it->aio_buf, it->aio_nbytes) && buffers_are_pinned_by(it->aio_fildes);
+        bool meets = it && sharing_meets((const void *)(uintptr_t)it->aio_buf, it->aio_nbytes);
+        const enum devices devices = meets ? devices_of_file(it->aio_fildes) : DEVICES_NONE;
+        worst = devices > worst ? devices : worst;
     }
-    return !pins || sharing_devices(DEVICES_PIN_PAGES);
+    return worst == DEVICES_NONE || sharing_devices(worst);
 }
 
 /* The C library's own function. NULL, with errno, if there is none: older ones have it in a library of its own. */

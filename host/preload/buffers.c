@@ -1,5 +1,6 @@
 #define _GNU_SOURCE
 #include "buffers.h"
+#include "devices.h"
 #include "ranges.h"
 #include "sharing.h"
 #include "trouble.h"
@@ -30,6 +31,7 @@ bool buffers_meet(const struct iovec *buffers, size_t count) {
 
 bool buffers_are_pinned_by(int file) {
     int before = errno, flags = (int)syscall(SYS_fcntl, file, F_GETFL);
+    bool are = flags >= 0 && ((flags & O_DIRECT) != 0 || devices_pin_plainly(file));
     errno = before;
-    return flags >= 0 && (flags & O_DIRECT) != 0;
+    return are;
 }

@@ -18,7 +18,7 @@ bool buffers_read(void *to, const void *from, size_t bytes);
 bool buffers_copy(struct iovec to[BUFFERS_MOST], const struct iovec *from, size_t count);
 /* Whether one of the buffers meets a window. */
 bool buffers_meet(const struct iovec *buffers, size_t count);
-/* Whether a file is open with O_DIRECT, so that a call of it may pin pages. errno stays as it is. */
+/* Whether a call of a file may pin pages: it is open with O_DIRECT, or its file system may do that without. errno stays as it is. */
 bool buffers_are_pinned_by(int file);
 
 #endif

@@ -10,6 +10,7 @@
  * - that let devices write to memory: open with O_DIRECT, VFIO;
  * - that close descriptors of which the monitor doesn't know.
  */
+#include "buffers.h"
 #include "calls.h"
 #include "filter.h"
 #include "sharing.h"
@@ -213,7 +214,8 @@ PUBLIC int ioctl(int descriptor, unsigned long request, ...) {
 
 /* Looks what a descriptor that was opened may do. It is closed again if lending would have to end for it, and can't. */
 static int opened(int descriptor, bool may_pin) {
-    if (descriptor < 0 || !may_pin || sharing_devices(devices_open())) return descriptor;
+    may_pin = descriptor >= 0 && (may_pin || (buffers_may_meet() && devices_of_file(descriptor) != DEVICES_NONE));
+    if (!may_pin || sharing_devices(devices_open())) return descriptor;
     int cause = errno;
     syscall(SYS_close, descriptor);
     errno = cause;

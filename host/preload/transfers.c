@@ -1,7 +1,8 @@
 #define _GNU_SOURCE
 /*
  * The functions of the C library that read and write files, interposed in a virtual machine monitor. A call on a file that was opened with
- * O_DIRECT pins the pages of its buffers until it ends; of those the windows hear. All other calls go on as they are.
+ * O_DIRECT pins the pages of its buffers until it ends, and so may one on a file of FUSE and the like; of those the windows hear. All other
+ * calls go on as they are.
  */
 #include "buffers.h"
 #include "sharing.h"
@@ -47,7 +48,7 @@ __attribute__((noinline)) static void begin_copied(struct sharing_transfers *tra
         sharing_transfers_begin(transfers, copies, count);
 }
 
-/* Counts a call, if it is one by O_DIRECT on memory of a window, and one that the system takes. */
+/* Counts a call, if it may pin memory of a window, and is one that the system takes. */
 static struct sharing_transfers begin_vector(int file, const struct iovec *buffers, int count) {
     struct sharing_transfers transfers = {.is_early = false};
     if (count <= 0 || count > BUFFERS_MOST || !buffers_may_meet() || !buffers_are_pinned_by(file)) return transfers;

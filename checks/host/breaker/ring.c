@@ -19,9 +19,12 @@ bool ring_make(struct ring *ring) {
     struct io_uring_params params = {0};
     *ring = (struct ring){.fd = (int)syscall(SYS_io_uring_setup, ENTRIES, &params)};
     if (ring->fd < 0) return false;
-    ring->queue = map(ring, params.sq_off.array + params.sq_entries * sizeof(uint32_t), IORING_OFF_SQ_RING);
-    ring->completions = map(ring, params.cq_off.cqes + params.cq_entries * sizeof(struct io_uring_cqe), IORING_OFF_CQ_RING);
-    ring->entries = map(ring, params.sq_entries * sizeof(struct io_uring_sqe), IORING_OFF_SQES);
+    ring->queue_bytes = params.sq_off.array + params.sq_entries * sizeof(uint32_t);
+    ring->completions_bytes = params.cq_off.cqes + params.cq_entries * sizeof(struct io_uring_cqe);
+    ring->entries_bytes = params.sq_entries * sizeof(struct io_uring_sqe);
+    ring->queue = map(ring, ring->queue_bytes, IORING_OFF_SQ_RING);
+    ring->completions = map(ring, ring->completions_bytes, IORING_OFF_CQ_RING);
+    ring->entries = map(ring, ring->entries_bytes, IORING_OFF_SQES);
     ring->tail_at = params.sq_off.tail;
     ring->mask_at = params.sq_off.ring_mask;
     ring->array_at = params.sq_off.array;
@@ -30,6 +33,17 @@ bool ring_make(struct ring *ring) {
     ring->completion_mask_at = params.cq_off.ring_mask;
     ring->results_at = params.cq_off.cqes;
     return ring->queue != MAP_FAILED && ring->completions != MAP_FAILED && ring->entries != MAP_FAILED;
+}
+
+void ring_end(struct ring *ring) {
+    munmap(ring->queue, ring->queue_bytes);
+    munmap(ring->completions, ring->completions_bytes);
+    munmap(ring->entries, ring->entries_bytes);
+    close(ring->fd);
+}
+
+bool ring_keep(struct ring *ring, int file) {
+    return syscall(SYS_io_uring_register, ring->fd, IORING_REGISTER_FILES, &file, 1) >= 0;
 }
 
 bool ring_pin(struct ring *ring, void *at, size_t bytes) {
@@ -41,21 +55,32 @@ bool ring_unpin(struct ring *ring) { return syscall(SYS_io_uring_register, ring-
 
 static uint32_t *word_at(void *part, unsigned at) { return (uint32_t *)(void *)((uint8_t *)part + at); }
 
-bool ring_begin_read(struct ring *ring, int file, void *at, size_t bytes, off_t from) {
+static bool begin(struct ring *ring, const struct io_uring_sqe *asked) {
     uint32_t *tail = word_at(ring->queue, ring->tail_at), place = *tail & *word_at(ring->queue, ring->mask_at);
-    struct io_uring_sqe *entry = (struct io_uring_sqe *)ring->entries + place;
-    memset(entry, 0, sizeof *entry);
-    entry->opcode = IORING_OP_READ_FIXED;
-    entry->fd = file;
-    entry->addr = (uintptr_t)at;
-    entry->len = (uint32_t)bytes;
-    entry->off = (uint64_t)from;
+    ((struct io_uring_sqe *)ring->entries)[place] = *asked;
     word_at(ring->queue, ring->array_at)[place] = place;
     __atomic_store_n(tail, *tail + 1, __ATOMIC_RELEASE);
     long submitted;
     do submitted = syscall(SYS_io_uring_enter, ring->fd, 1, 0, 0, NULL, 0);
     while (submitted < 0 && errno == EINTR);
     return submitted == 1;
+}
+
+static struct io_uring_sqe read_of(int file, void *at, size_t bytes, off_t from) {
+    return (struct io_uring_sqe){.fd = file, .addr = (uintptr_t)at, .len = (uint32_t)bytes, .off = (uint64_t)from};
+}
+
+bool ring_begin_read(struct ring *ring, int file, void *at, size_t bytes, off_t from) {
+    struct io_uring_sqe entry = read_of(file, at, bytes, from);
+    entry.opcode = IORING_OP_READ_FIXED;
+    return begin(ring, &entry);
+}
+
+bool ring_begin_plain_read(struct ring *ring, int file, void *at, size_t bytes, off_t from) {
+    struct io_uring_sqe entry = read_of(file < 0 ? 0 : file, at, bytes, from);
+    entry.opcode = IORING_OP_READ;
+    if (file < 0) entry.flags = (uint8_t)IOSQE_FIXED_FILE;
+    return begin(ring, &entry);
 }
 
 ssize_t ring_end_read(struct ring *ring) {

@@ -134,7 +134,8 @@ sentence whose parts add up, such as
     425 of 512 MiB could be reclaimed (83.0 %):
     355 zeros, 23 between guests, 47 within guests
 
-With processes a last line says how much is shared already.
+First come the processes that pageshare-host shares already. With processes a
+last line says how much is shared in all.
 
 Only guests with equal salts share. docs/IMAGES.md explains each number. The
 exit status is 0 on success, 1 if an image, a process, the picture, the output

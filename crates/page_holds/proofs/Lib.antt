@@ -4,4 +4,4 @@ pub mod Left
 mod RowCourses
 mod RowEnds
 mod RowRuns
-mod RowsKept
+pub mod RowsKept

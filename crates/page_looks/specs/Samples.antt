@@ -17,10 +17,6 @@ is_sampled part p look number turn = turn || not (is_again p) || is_in_sample pa
 abbrev pub is_left_out : LookConfig → Part → PageLooks → ℕ → ℕ → Bool
 is_left_out config part p look number = not (is_sampled part p look number (is_turn_of_idle config part look number))
 
--- the page was looked at, has memory of its own, and isn't one of those at which no look glances just now
-abbrev pub is_to_fetch : Part → PageLooks → Bool → ℕ → ℕ → Bool
-is_to_fetch part p over look number = (nat_lt 0 p.looks && not over) && (not (is_idle p) || is_in_sample part look number)
-
 -- Only an idle page is left out, and no turn of it is.
 abbrev pub LeftOutHasNoTurn : Type 0
 LeftOutHasNoTurn =

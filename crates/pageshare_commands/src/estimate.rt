@@ -1,11 +1,13 @@
 //! The command `estimate`: it shows what sharing equal pages of guests would reclaim, from images of their memory or while they
 //! run.
+mod already;
 mod counted;
 mod images;
 mod live;
 mod merged;
 
 use crate::command_fault::{Cause, CommandFault, Subject};
+use crate::estimate::already::Already;
 use crate::estimate::counted::Counted;
 use crate::estimate::images::{Images, check_images, open_images};
 use crate::estimate::live::count_live;
@@ -16,7 +18,7 @@ use command_terms::{EstimateWords, ImageCause, line_where};
 use page_census::{CensusFault, census};
 use page_digest::FoldHash;
 use report_picture::picture_text;
-use report_text::{Estimate, Report, guest_lines, in_units, scale_for};
+use report_text::{Estimate, Report, guest_lines};
 use std::alloc::{AllocError, Global};
 use std::fs::{self, File, Files};
 use std::io::{Eprint, Write};
@@ -126,39 +128,30 @@ fn output_of(
     counted: &Counted,
     report: &Report<'_>,
 ) -> Result<String, AllocError> {
-    let mut text = output_text(alloc, words.json, words.in_pages, report)?;
-    if let Some(pages) = counted.shared_already {
-        if words.json {
-            push_member(&mut text, pages)?;
-        } else {
-            push_shared(&mut text, pages)?;
-        }
+    let output = output_text(alloc, words.json, words.in_pages, report)?;
+    match &counted.already {
+        Some(already) => with_already(alloc, words, already, output),
+        None => Ok(output),
+    }
+}
+
+/// Adds what is shared already: to the object at its end, to the table before and behind it.
+fn with_already(
+    alloc: Global,
+    words: &EstimateWords<'_>,
+    already: &Already,
+    output: String,
+) -> Result<String, AllocError> {
+    let mut text = String::new(alloc);
+    if words.json {
+        text.push_str(&output)?;
+        already.push_members(&mut text)?;
+    } else {
+        already.push_lent(&mut text, &words.processes)?;
+        text.push_str(&output)?;
+        already.push_shared(&mut text)?;
     }
     Ok(text)
-}
-
-/// Appends the line that says how much is shared already.
-fn push_shared(text: &mut String, pages: u64) -> Result<(), AllocError> {
-    let scale = scale_for(pages);
-    let amount = in_units(scale, pages);
-    if scale == 10 {
-        let (whole, tenth) = (amount / 10, amount % 10);
-        writeln!(
-            text,
-            "{whole}.{tenth} MiB of this memory is shared already."
-        )
-    } else {
-        writeln!(text, "{amount} MiB of this memory is shared already.")
-    }
-}
-
-/// Appends a member to an object and its line feed, with how many pages are shared already.
-fn push_member(text: &mut String, pages: u64) -> Result<(), AllocError> {
-    if text.ends_with("}\n") {
-        text.pop();
-        text.pop();
-    }
-    writeln!(text, ",\"shared_already\":{pages}}}")
 }
 
 /// Returns the salt of each guest.

@@ -1,5 +1,4 @@
 pub mod Budgets
-pub mod Finds
 pub mod Holds
 pub mod Looks
 pub mod Pages

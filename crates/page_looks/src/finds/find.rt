@@ -15,8 +15,8 @@ use window_pages::{
 };
 
 impl Memory {
-    // Returns whether the page has memory of its own, in use or swapped out.
-    fn has_memory(self) -> bool
+    /// Returns whether the page has memory of its own, in use or swapped out.
+    pub fn has_memory(self) -> bool
         ensures { result ≡ has_memory self }
     {
         match self {
@@ -26,8 +26,8 @@ impl Memory {
         }
     }
 
-    // Returns whether that memory is in use.
-    fn is_present(self) -> bool
+    /// Returns whether that memory is in use.
+    pub fn is_present(self) -> bool
         ensures { result ≡ is_present self }
     {
         match self {

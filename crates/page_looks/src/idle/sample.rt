@@ -1,6 +1,6 @@
 //! Which pages of a part that rests a look takes.
 ghost use Rattle.std.specs.Prelude.{◌≡◌, ◌+◌, ◌%◌, nat_eq};
-ghost use Rattle.page_looks.specs.Samples.{is_in_sample, is_sampled, is_left_out, is_to_fetch};
+ghost use Rattle.page_looks.specs.Samples.{is_in_sample, is_sampled, is_left_out};
 
 use crate::idle::{LookConfig, PageLooks};
 use crate::parts::Part;
@@ -43,13 +43,5 @@ impl PageLooks {
     {
         let is_turn = part.is_turn_of_idle(config, look, number);
         !self.is_sampled(part, look, number, is_turn)
-    }
-
-    /// Returns whether a glance at the page is so likely that what it reads is fetched before. `is_over`: its memory lies over a frame.
-    pub fn is_to_fetch(&self, part: &Part, is_over: bool, look: u32, number: u32) -> bool
-        ensures { result ≡ is_to_fetch part.now self.now is_over look number }
-    {
-        let can_glance = self.looks > 0 && !is_over;
-        can_glance && (!self.is_idle() || part.is_in_sample(look, number))
     }
 }

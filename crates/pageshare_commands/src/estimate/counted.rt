@@ -1,4 +1,5 @@
 //! What was counted of the guests.
+use crate::estimate::already::Already;
 use page_census::{CensusNumbers, CopiesClass, GuestNumbers, TotalNumbers};
 use std::alloc::Global;
 
@@ -8,8 +9,8 @@ pub struct Counted {
     pub guests: Vec<GuestNumbers>,
     pub total: TotalNumbers,
     pub copies: Vec<CopiesClass>,
-    /// How many pages of the processes aren't one process's alone; `None` if no process was read.
-    pub shared_already: Option<u64>,
+    /// What of the processes is shared already; `None` if no process was read.
+    pub already: Option<Already>,
 }
 
 impl From<CensusNumbers<Global>> for Counted {
@@ -18,7 +19,7 @@ impl From<CensusNumbers<Global>> for Counted {
             guests: numbers.guests,
             total: numbers.total,
             copies: numbers.copies,
-            shared_already: None,
+            already: None,
         }
     }
 }

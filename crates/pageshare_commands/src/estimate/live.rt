@@ -1,5 +1,6 @@
 //! An estimate of guests of which some run: each page is read once, and digested.
 use crate::command_fault::{Cause, CommandFault};
+use crate::estimate::already::Already;
 use crate::estimate::counted::Counted;
 use crate::estimate::images::{Images, check_images, open_images};
 use crate::estimate::merged::counted;
@@ -45,7 +46,7 @@ pub fn count_live<'a, R: Threads + Sync + Files<File = File> + Eprint + Clock>(
     reading.end();
     let digests = digests?;
     check_images(rt, words, &images)?;
-    merge_all(alloc, &digests, shared_of(&memories)).map_err(|refused| CommandFault::of_estimate(
+    merge_with(alloc, &digests, &memories).map_err(|refused| CommandFault::of_estimate(
         words,
         Cause::from(refused),
     ))
@@ -60,13 +61,15 @@ fn pages_of(images: &Images, memories: &[LiveProcess]) -> u64 {
     pages
 }
 
-/// Returns how many pages of the processes aren't one process's alone.
-fn shared_of(memories: &[LiveProcess]) -> u64 {
-    let mut pages: u64 = 0;
+/// Returns what of the processes was shared when they were opened.
+fn already_of(alloc: Global, memories: &[LiveProcess]) -> Result<Already, AllocError> {
+    let mut shared: u64 = 0;
+    let mut lent = Vec::new(alloc);
     for memory in memories {
-        pages = pages.saturating_add(memory.shared);
+        shared = shared.saturating_add(memory.shared);
+        lent.push(memory.lent)?;
     }
-    pages
+    Ok(Already { shared, lent })
 }
 
 /// Opens the memory of each process, or returns the first fault.
@@ -190,8 +193,17 @@ fn within_of(lines: &[DigestLine]) -> u64 {
     pages
 }
 
+/// Merges the digests, and says what of the processes is shared already.
+fn merge_with(
+    alloc: Global,
+    digests: &Digests,
+    memories: &[LiveProcess],
+) -> Result<Counted, AllocError> {
+    merge_all(alloc, digests, already_of(alloc, memories)?)
+}
+
 /// Merges the digests, and counts. They are in memory, and in the form that they are read in, so only memory can be refused.
-fn merge_all(alloc: Global, digests: &Digests, shared_already: u64) -> Result<Counted, AllocError> {
+fn merge_all(alloc: Global, digests: &Digests, already: Already) -> Result<Counted, AllocError> {
     let mut readers = Vec::new(alloc);
     for text in &digests.texts {
         push_reader(alloc, text, &mut readers)?;
@@ -200,7 +212,7 @@ fn merge_all(alloc: Global, digests: &Digests, shared_already: u64) -> Result<Co
         return Err(AllocError);
     }
     match merge(alloc, &mut readers, Pairs::Omitted) {
-        Ok(merged) => counted(alloc, &merged, &digests.within, shared_already),
+        Ok(merged) => counted(alloc, &merged, &digests.within, already),
         Err(_fault) => Err(AllocError),
     }
 }

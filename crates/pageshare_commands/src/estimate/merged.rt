@@ -1,16 +1,17 @@
 //! The numbers of guests whose digests were merged, as those of a census.
+use crate::estimate::already::Already;
 use crate::estimate::counted::Counted;
 use fleet_census::{Amount, FleetClass, FleetGuest, FleetNumbers, FleetTotal};
 use page_census::{CopiesClass, GuestNumbers, TotalNumbers};
 use std::alloc::{AllocError, Global};
 
 /// Returns the numbers of a merge of whole digests. `within` has for each guest the pages whose content another of its own pages has,
-/// and `shared_already` is how many pages of processes aren't one process's alone, which a merge doesn't count.
+/// and `already` is what of the processes is shared already, which a merge doesn't count.
 pub fn counted(
     alloc: Global,
     merged: &FleetNumbers<Global>,
     within: &[u64],
-    shared_already: u64,
+    already: Already,
 ) -> Result<Counted, AllocError> {
     let mut guests = Vec::new(alloc);
     for (guest, own) in merged.guests.iter().zip(within) {
@@ -24,7 +25,7 @@ pub fn counted(
         guests,
         total: total_of(&merged.total),
         copies,
-        shared_already: Some(shared_already),
+        already: Some(already),
     })
 }
 

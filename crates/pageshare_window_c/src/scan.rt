@@ -1,0 +1,103 @@
+//! A scan of a part of a window, all its pages at once.
+ghost use Rattle.std.specs.Prelude.{◌≡◌, length};
+ghost use Rattle.part_scans.specs.Scans.{AreNumbers, BeginsAt, FollowsAt, GoesOnAt, RowGoes, has_past};
+ghost use Rattle.window_tables.specs.Tables.{part_at};
+ghost use Rattle.pageshare_window_c.specs.Looks.{scan_of};
+
+use crate::WindowLook;
+use crate::looks::config_of;
+use page_looks::finds::FindOutcome;
+use page_looks::parts::Part;
+use part_scans::{Scan, begin, done, find_numbers, follow};
+use window_pages::{PartCounts, WindowPage};
+use window_tables::TableFacts;
+
+// Returns the scan of a part.
+fn scan_of(look: &WindowLook, part: &Part) -> Scan
+    ensures { result ≡ scan_of look.now part.now }
+{
+    Scan {
+        config: config_of(look),
+        part: *part,
+        look: look.look,
+        zeros: look.zeros,
+        is_return: look.is_return,
+        ready: look.ready,
+    }
+}
+
+/// Begins a scan of pages of a part, of which the first is the page `first` of the table. `memory` has which memory the system has for each: 0 none
+/// of its own, 1 some, 2 some that is swapped out. Writes a byte of each page to `row`: what is done next with it in its lowest three bits (0 nothing;
+/// 1 the system is asked once more whether the page has memory of its own; 2 the scan glances at it; 3 it is read; 4 it counts; 5 nothing, and it is
+/// idle; 6 nothing, and it is idle and zeros); 8 if the scan takes it; 16 if it was idle and has changed; 32 if it was asked about in vain most
+/// often, and is read, or its last fingerprint counts; 64 if it has memory of its own; 128 if that may be idle soon. Returns false, and changes
+/// nothing, if the pages aren't all there, if the table has more pages than its parts, or if there are more or fewer bytes than pages.
+#[unsafe(no_mangle)]
+pub extern "C" fn pageshare_window_begin_scan(
+    pages: &mut [WindowPage],
+    parts: &mut [PartCounts],
+    lead: usize,
+    look: &WindowLook,
+    part: &Part,
+    table: &TableFacts,
+    pins: &[u16],
+    first: usize,
+    memory: &[u8],
+    row: &mut [u8],
+) -> bool
+    ensures { RowGoes (BeginsAt (scan_of look.now part.now) table.now pins.now first (has_past (part_at lead first) parts.old) memory.now) lead first (length memory.now) result pages.old pages.new parts.old parts.new row.old row.new }
+{
+    let scan = scan_of(look, part);
+    begin(pages, parts, lead, &scan, table, pins, first, memory, row)
+}
+
+/// Takes what came of the step of each page that has one. Returns false, and changes nothing, where a scan couldn't begin.
+#[unsafe(no_mangle)]
+pub extern "C" fn pageshare_window_scan_done(
+    pages: &mut [WindowPage],
+    parts: &mut [PartCounts],
+    lead: usize,
+    look: &WindowLook,
+    part: &Part,
+    first: usize,
+    outcomes: &[FindOutcome],
+    row: &mut [u8],
+) -> bool
+    ensures { RowGoes (GoesOnAt (scan_of look.now part.now) first outcomes.now) lead first (length outcomes.now) result pages.old pages.new parts.old parts.new row.old row.new }
+{
+    let scan = scan_of(look, part);
+    done(pages, parts, lead, &scan, first, outcomes, row)
+}
+
+/// Takes pages beside those that have changed, where the scan would leave them out. Returns false, and changes nothing, where a scan couldn't begin.
+#[unsafe(no_mangle)]
+pub extern "C" fn pageshare_window_follow_changes(
+    pages: &mut [WindowPage],
+    parts: &mut [PartCounts],
+    lead: usize,
+    look: &WindowLook,
+    part: &Part,
+    table: &TableFacts,
+    pins: &[u16],
+    first: usize,
+    memory: &[u8],
+    row: &mut [u8],
+) -> bool
+    ensures { RowGoes (FollowsAt (scan_of look.now part.now) table.now pins.now first memory.now row.old) lead first (length memory.now) result pages.old pages.new parts.old parts.new row.old row.new }
+{
+    let scan = scan_of(look, part);
+    follow(pages, parts, lead, &scan, table, pins, first, memory, row)
+}
+
+/// Finds where glances look at the pages at these places, counted from the page `first` on, as far as they are there.
+#[unsafe(no_mangle)]
+pub extern "C" fn pageshare_window_glance_numbers(
+    pages: &[WindowPage],
+    first: usize,
+    places: &[u16],
+    numbers: &mut [u64],
+)
+    ensures { AreNumbers first pages.now places.now numbers.old numbers.new }
+{
+    find_numbers(pages, first, places, numbers);
+}
