@@ -1,5 +1,5 @@
 -- Calls for many pages at once are calls of a history, one page after another.
-use Rattle.std.proofs.Common.{◌≡◌, ◌∙◌, ℕ, zero, suc, ◌+◌, ◌-◌, ◌<◌, ◌≤◌, ◌⊎◌, inl, inr, Bool, true, false, ◌&&◌, cond, List, [], ◌∷◌, ◌++◌, length, Some, None, refl, ap, sym, subst, arith}
+use Rattle.std.proofs.Common.{◌≡◌, ◌∙◌, ℕ, zero, suc, ◌+◌, ◌-◌, ◌<◌, ◌≤◌, ◌⊎◌, inl, inr, Bool, true, false, ◌&&◌, ◌||◌, cond, List, [], ◌∷◌, ◌++◌, length, Some, None, refl, ap, sym, subst, arith}
 use Rattle.std.specs.Prelude.{Option, nat_eq, nat_le, nat_lt, slice_get, slice_index_or, slice_set}
 use Rattle.std.proofs.Math.Seq.{set-append_seam}
 use Rattle.std.proofs.lemmas.Bool.{cases_lt, eqb-false, eqb-true, leb-true}
@@ -18,6 +18,15 @@ use Rattle.lend_steps.specs.Releases.{OrderedTo, asks, at_once, is_hold, passes,
 use Rattle.lend_steps.specs.declared.copies.CopyOutcome.{CopyOutcome}
 use Rattle.lend_steps.specs.declared.loans.LoanReply.{LoanReply}
 use Rattle.lend_steps.specs.declared.loans.LoanReply.TheVariants.{Unheard, NoFrame, NoSlot, Given as Loan}
+use Rattle.page_looks.specs.Steps.{NotesMemory, has_again, has_memory}
+use Rattle.page_looks.specs.declared.finds.step.FindOutcome.{FindOutcome}
+use Rattle.page_looks.specs.declared.finds.step.Memory.{Memory}
+use Rattle.part_scans.specs.Scans.{BeginsAt, FollowsAt, GoesOn, GoesOnAt, IsTaken, follows, is_beside, memory_at, no_outcome, sight_at, takes as takes_page}
+use Rattle.part_scans.specs.Seen.{has_step, seen_in}
+use Rattle.part_scans.specs.declared.scan.Scan.{Scan}
+use Rattle.window_events.specs.Windows.{is_bare}
+use Rattle.window_events.specs.declared.page.Page.{Page}
+use Rattle.window_pages.specs.Changed.{given_back}
 use Rattle.page_holds.specs.Bytes.{step_by}
 use Rattle.page_holds.specs.Steps.{Took, asks_for, is_taken, is_to_hold, outcome_for, outcome_of, said}
 use Rattle.page_holds.specs.declared.place.HoldStep.{HoldStep}
@@ -43,8 +52,8 @@ use Rattle.window_tables.specs.Changes.{Changed, IsBehind, NowBegins, RangeChang
 use Rattle.window_tables.specs.Tables.{can_note}
 use Rattle.window_tables.specs.declared.changes.Change.{Change}
 use Rattle.lending_laws.proofs.Kept.{IsKept, history_kept}
-use Rattle.lending_laws.proofs.Notes.{each_note_is_a_call, known_stays}
-use Rattle.lending_laws.specs.Batches.{AreTruly, CopyIsSo, EachChoiceGoes, EachCopyGoes, EachIsHistory, EachLoanGoes, EachNoteGoes, EachReleaseGoes, EachReleaseOrderGoes, EachRowGoes, EachRowOrderGoes, EachRowStepGoes, Goes, IsSo, IsSoOf, LoanIsSo, Reaches, row_outcome}
+use Rattle.lending_laws.proofs.Notes.{each_look_is_calls, each_note_is_a_call, given_back_keeps, given_back_lies, given_back_orders, known_stays}
+use Rattle.lending_laws.specs.Batches.{AreTruly, CopyIsSo, EachChoiceGoes, EachCopyGoes, EachFollowGoes, EachIsHistory, EachLoanGoes, EachNoteGoes, EachReleaseGoes, EachReleaseOrderGoes, EachRowGoes, EachRowOrderGoes, EachRowStepGoes, EachScanGoes, EachScanStepGoes, Goes, IsSo, IsSoOf, LoanIsSo, Reaches, row_outcome}
 use Rattle.lending_laws.specs.Notes.{ChangesByTwo, IsTruly}
 use Rattle.lending_laws.specs.Batches as goes
 use Rattle.lending_laws.specs.Histories.{Calls, CallsAt, CarriedOut, Given, GivesWhatItMay, History, IsTold, Moment, Nothing, OneIs, Pending, Reads, calls, is_told, notes, pending_after, slots_after}
@@ -576,3 +585,58 @@ pub each_release_order_goes : EachReleaseOrderGoes
 each_release_order_goes g first lead place room count count_new facts pins m new parts parts_new places places_new (passes p n same counts said) = none_reaches g first m new same
 each_release_order_goes g first lead place room count count_new facts pins m new parts parts_new places places_new (asks is l p c n said) =
     turn_reaches g first place m c.after new (ordered_to_turn g first place m c.before c.after facts c.becomes.order c.part c.part_after c.is_there c.becomes.ordered) c.changed
+
+-- ---- scans
+
+-- a page that has memory again is noted so
+memory_turn : (g : (ℕ → Bool) → ℕ → Bool) (first i : ℕ) (m : Moment) (x y : WindowPage) (memory : Memory) (part after : PartCounts) → NotesMemory memory x y part after → CanTurn g first m i x y
+memory_turn g first i m x y memory part after n = pick (has_again memory (known_of x)) refl where
+  not_over : (b : Bool) → b ≡ true → b ≡ false → ⊥
+  not_over b e f = cc
+  call : (w : Mappings) (pending : Pending) → known_of y ≡ given_back false (known_of x) → Calls (first + i) w x pending y pending
+  call w pending e = notes x y pending (record {
+    belief = ap (λ k. k.belief) e ∙ given_back_keeps (known_of x);
+    ordered = ap (λ k. k.ordered) e ∙ given_back_orders (known_of x);
+    place = λ page o f l. absurd (not_over (known_of y).over (ap (λ k. k.over) e ∙ given_back_lies (known_of x) ∙ o) f);
+  })
+  pick : (b : Bool) → has_again memory (known_of x) ≡ b → CanTurn g first m i x y
+  pick true e = λ k w o p at. one_call g first i k x y (k.orders i) at (call k.world (k.orders i) (n.noted e).known)
+  pick false e = stays_turn g first i m x y (n.page e)
+
+taken_turn : (g : (ℕ → Bool) → ℕ → Bool) (first i : ℕ) (m : Moment) (x y : WindowPage) (scan : Scan) (facts : WindowFacts) (memory : Memory) (place : ℕ) (is_so : Bool) (other byte : ℕ) (part after : PartCounts) →
+    IsTaken scan facts memory place is_so other byte x y part after → CanTurn g first m i x y
+taken_turn g first i m x y scan facts memory place is_so other byte part after t = pick is_so refl where
+  pick : (b : Bool) → is_so ≡ b → CanTurn g first m i x y
+  pick true e = memory_turn g first i m x y memory part after (t.page e)
+  pick false e = stays_turn g first i m x y (t.same e).page
+
+pub each_scan_goes : EachScanGoes
+each_scan_goes g first lead from n scan table pins memory row row_new all m new parts parts_new b =
+    row_goes g first from 0 (length row) m new row row_new (BeginsAt scan table pins from all memory) (b.pages refl) (omega arith)
+    (λ j c x y l e t. taken_turn g first (from + (0 + j)) m x y scan (facts_there table pins (from + j)) (memory_at memory j) (from + j) (takes_page scan (all || has_memory (memory_at memory j)) (from + j) x) 0 c
+        t.part t.part_after t.becomes.taken)
+
+pub each_follow_goes : EachFollowGoes
+each_follow_goes g first lead from n scan table pins memory before row row_new m new parts parts_new b =
+    row_goes g first from 0 (length row) m new row row_new (FollowsAt scan table pins from memory before) (b.pages refl) (omega arith)
+    (λ j c x y l e t. taken_turn g first (from + (0 + j)) m x y scan (facts_there table pins (from + j)) (memory_at memory j) (from + j)
+        (follows scan (memory_at memory j) (seen_in (slice_index_or row (0 + j) 0)).taken (is_beside before j) (from + j) x) (slice_index_or row (0 + j) 0) c t.part t.part_after t.becomes.taken)
+
+step_turn : (g : (ℕ → Bool) → ℕ → Bool) (first i : ℕ) (m : Moment) (x y : WindowPage) (scan : Scan) (outcome : FindOutcome) (place before byte : ℕ) (part after : PartCounts) (page : Page) →
+    GoesOn scan outcome place before byte x y part after → slice_get m.world.pages (first + i) ≡ Some page → (outcome.is_own ≡ true → is_bare page.view ≡ false) → CanTurn g first m i x y
+step_turn g first i m x y scan outcome place before byte part after page b e t = pick (has_step (seen_in before).step) refl where
+  pick : (h : Bool) → has_step (seen_in before).step ≡ h → CanTurn g first m i x y
+  pick true h = two_turn g first i m x y
+      (λ pending. each_look_is_calls (seen_in before).step (sight_at scan place) outcome (b.went h).next x y part after (first + i) m.world pending page (b.went h).came e t)
+  pick false h = stays_turn g first i m x y (b.same h).page
+
+pub each_scan_step_goes : EachScanStepGoes
+each_scan_step_goes g first count lead from n scan outcomes row row_new m new parts parts_new h b so =
+    let kept : IsKept first count m = history_kept g first count m h in
+    row_goes g first from 0 (length row) m new row row_new (GoesOnAt scan from outcomes) (b.pages refl) (omega arith)
+    (λ j c x y l e t.
+        let its : Reads m.world (first + (from + (0 + j))) (m.stored (first + (from + (0 + j)))) = kept.reads (from + (0 + j)) (omega (arith, slice_get_within m.pages (from + (0 + j)) x e, kept.many)) in
+        step_turn g first (from + (0 + j)) m x y scan (slice_index_or outcomes j no_outcome) (from + j) (slice_index_or row (0 + j) 0) c t.part t.part_after its.page t.becomes its.there
+        (λ own. so j own its.page (subst (λ v. slice_get m.world.pages (first + (from + v)) ≡ Some its.page) (zero_less j) its.there))) where
+  zero_less : (j : ℕ) → 0 + j ≡ j
+  zero_less j = omega arith

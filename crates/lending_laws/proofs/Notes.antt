@@ -28,19 +28,19 @@ not_both : (b : Bool) → b ≡ true → b ≡ false → ⊥
 not_both b e f = cc
 
 -- where only what lies at the place is noted
-given_back_keeps : (page : KnownPage) → (given_back false page).belief ≡ page.belief
+pub given_back_keeps : (page : KnownPage) → (given_back false page).belief ≡ page.belief
 given_back_keeps page = pick page.over where
   pick : (b : Bool) → (cond b page (record page { same = false })).belief ≡ page.belief
   pick true = refl
   pick false = refl
 
-given_back_orders : (page : KnownPage) → (given_back false page).ordered ≡ page.ordered
+pub given_back_orders : (page : KnownPage) → (given_back false page).ordered ≡ page.ordered
 given_back_orders page = pick page.over where
   pick : (b : Bool) → (cond b page (record page { same = false })).ordered ≡ page.ordered
   pick true = refl
   pick false = refl
 
-given_back_lies : (page : KnownPage) → (given_back false page).over ≡ page.over
+pub given_back_lies : (page : KnownPage) → (given_back false page).over ≡ page.over
 given_back_lies page = pick page.over where
   pick : (b : Bool) → (cond b page (record page { same = false })).over ≡ page.over
   pick true = refl

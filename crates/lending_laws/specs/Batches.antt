@@ -26,7 +26,10 @@ use Rattle.window_tables.specs.Tables.{Notes}
 use Rattle.window_tables.specs.declared.changes.Change.{Change}
 use Rattle.window_tables.specs.declared.facts.TableFacts.{TableFacts}
 use Rattle.lending_laws.specs.Histories.{CallsAt, CarriedOut, GivesWhatItMay, History, IsTold, IsToldAt, Moment}
-use Rattle.lending_laws.specs.Notes.{IsTruly}
+use Rattle.lending_laws.specs.Notes.{IsTruly, ShowsNone}
+use Rattle.page_looks.specs.declared.finds.step.FindOutcome.{FindOutcome}
+use Rattle.part_scans.specs.Scans.{BeginsAt, FollowsAt, GoesOnAt, RowGoes, no_outcome}
+use Rattle.part_scans.specs.declared.scan.Scan.{Scan}
 
 -- A window goes from one moment to another by calls, and by outcomes that are told. Nothing else happens meanwhile.
 pub data Goes (may_give : (ℕ → Bool) → ℕ → Bool) (first : ℕ) (old : Moment) : Moment → Type 0 where
@@ -142,3 +145,27 @@ abbrev pub EachReleaseGoes : Type 0
 EachReleaseGoes =
     (may_give : (ℕ → Bool) → ℕ → Bool) (first lead number answer : ℕ) (outcome : Outcome) (m : Moment) (new : List WindowPage) (parts parts_new : List PartCounts) →
     Turn (λ said x y p q. Told outcome x y p q) lead number answer m.pages new parts parts_new → IsSoOf may_give m number outcome → Reaches may_give first m new
+
+-- ---- scans
+
+-- where the system said that a page has memory of its own, it shows no frame itself
+abbrev pub CopiesAreSo : ℕ → ℕ → Moment → List FindOutcome → Type 0
+CopiesAreSo first from m outcomes = (n : ℕ) → (slice_index_or outcomes n no_outcome).is_own ≡ true → ShowsNone (first + (from + n)) m.world
+
+-- A scan of pages of a part begins.
+abbrev pub EachScanGoes : Type 0
+EachScanGoes =
+    (may_give : (ℕ → Bool) → ℕ → Bool) (first lead from n : ℕ) (scan : Scan) (table : TableFacts) (pins memory row row_new : List ℕ) (all : Bool) (m : Moment) (new : List WindowPage) (parts parts_new : List PartCounts) →
+    RowGoes (BeginsAt scan table pins from all memory) lead from n true m.pages new parts parts_new row row_new → Reaches may_give first m new
+
+-- What came of a step of each of its pages is taken.
+abbrev pub EachScanStepGoes : Type 0
+EachScanStepGoes =
+    (may_give : (ℕ → Bool) → ℕ → Bool) (first count lead from n : ℕ) (scan : Scan) (outcomes : List FindOutcome) (row row_new : List ℕ) (m : Moment) (new : List WindowPage) (parts parts_new : List PartCounts) → History may_give first count m →
+    RowGoes (GoesOnAt scan from outcomes) lead from n true m.pages new parts parts_new row row_new → CopiesAreSo first from m outcomes → Reaches may_give first m new
+
+-- It follows changes to pages beside those that changed.
+abbrev pub EachFollowGoes : Type 0
+EachFollowGoes =
+    (may_give : (ℕ → Bool) → ℕ → Bool) (first lead from n : ℕ) (scan : Scan) (table : TableFacts) (pins memory before row row_new : List ℕ) (m : Moment) (new : List WindowPage) (parts parts_new : List PartCounts) →
+    RowGoes (FollowsAt scan table pins from memory before) lead from n true m.pages new parts parts_new row row_new → Reaches may_give first m new

@@ -1,4 +1,4 @@
-use Rattle.lending_laws.proofs.Batches.{each_choice_goes, each_copy_goes, each_is_history, each_loan_goes, each_note_goes, each_release_goes, each_release_order_goes, each_row_goes, each_row_order_goes, each_row_step_goes}
+use Rattle.lending_laws.proofs.Batches.{each_choice_goes, each_copy_goes, each_follow_goes, each_is_history, each_loan_goes, each_note_goes, each_release_goes, each_release_order_goes, each_row_goes, each_row_order_goes, each_row_step_goes, each_scan_goes, each_scan_step_goes}
 use Rattle.lending_laws.proofs.Notes.{each_is_detached, each_look_is_calls, each_note_is_a_call, each_step_tells}
 use Rattle.lending_laws.proofs.calls_law.Goals as goal
 
@@ -43,3 +43,12 @@ returns-clause-release_orders c = each_release_order_goes
 
 pub returns-clause-releases : goal.returns-clause-releases
 returns-clause-releases c = each_release_goes
+
+pub returns-clause-scans : goal.returns-clause-scans
+returns-clause-scans c = each_scan_goes
+
+pub returns-clause-scan_steps : goal.returns-clause-scan_steps
+returns-clause-scan_steps c = each_scan_step_goes
+
+pub returns-clause-follows : goal.returns-clause-follows
+returns-clause-follows c = each_follow_goes
