@@ -23,6 +23,7 @@ import re
 import sys
 from collections.abc import Mapping, Sequence
 
+from common import most
 from common.random_texts import journal, script
 from harness import LATE, PROGRAM, Done, Tally, leave, run
 
@@ -41,8 +42,8 @@ VERDICTS = (
 VERDICT = re.compile(rf"[0-9]+ ({VERDICTS})")
 REPORT = re.compile(f"report {COUNTS}")
 
-LIMITS = [0, 1, 2, 64, 65, 4032, 4033, 4095, 4096, 65535, 65536, 65537, 1048576, 1048577, 16777216, 16777217]
-LIMITS += [2**32 - 1, 2**32, 2**64 - 1, 2**64]
+LIMITS = [0, 1, 2, 64, 65, 4032, 4033, 4095, 4096, most.RING - 1, most.RING, most.RING + 1, most.PAGES, most.PAGES + 1]
+LIMITS += [most.ENTRIES, most.ENTRIES + 1, 2**32 - 1, 2**32, 2**64 - 1, 2**64]
 
 
 def changed_bytes(rng: random.Random, text: bytes) -> bytes:

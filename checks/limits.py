@@ -6,7 +6,7 @@
 
 Code, clauses and their comments cite a limit's constant. Its number, as 65,536, 65536 or 65_536, is spelled in documents, in the
 header for C, and in what a user sees when the limit is exceeded. LIMITS has each constant with its file, the words that such a text
-counts in, and the other files that spell it. A case fails
+counts in, and the at most three other files that spell it; checks read MODEL's table (common/most.py). A case fails
 
 - if a listed file doesn't spell the number that the constant has;
 - if a string of a crate or of the library for Rust has another number before a word of a limit, such as "1 to 32,768 items" or
@@ -29,16 +29,15 @@ from harness import TOP, Tally
 LIMITS = """
 page_model/src/limits.rt MAX_ACCESS_BYTES bytes: lib/include/pageshare.h lib/rust/src/machine.rs docs/MODEL.md
 page_model/src/limits.rt MAX_GUESTS guests: lib/include/pageshare.h docs/MODEL.md
-page_model/src/limits.rt MAX_PAGES together slots: lib/include/pageshare.h docs/MODEL.md checks/common/faults.py checks/fuzz.py
-page_model/src/limits.rt MAX_FRAMES frames: lib/include/pageshare.h docs/MODEL.md host/daemon/domain.c checks/fuzz.py
+page_model/src/limits.rt MAX_PAGES together slots: lib/include/pageshare.h docs/MODEL.md
+page_model/src/limits.rt MAX_FRAMES frames: lib/include/pageshare.h docs/MODEL.md host/daemon/domain.c
 page_model/src/limits.rt MAX_RING_CAPACITY items requests: docs/MODEL.md page_model/edits/one_watch_less.edit
-    merge_machine/edits/always_blocked.edit checks/common/random_texts.py checks/fuzz.py
-page_model/src/limits.rt MAX_ENTRIES entries requests: docs/MODEL.md checks/common/random_texts.py checks/fuzz.py
+    merge_machine/edits/always_blocked.edit
+page_model/src/limits.rt MAX_ENTRIES entries requests: docs/MODEL.md
 page_model/src/limits.rt MAX_WORKERS: docs/MODEL.md
 page_model/src/limits.rt MAX_WATCHES: docs/MODEL.md watched_machine/src/watch.rt
-page_model/src/limits.rt MAX_TEXT_BYTES bytes: docs/MODEL.md checks/command_cases/texts.py
-guest_digests/src/sample.rt MAX_SAMPLE: command_words/src/digest_words.rt digest_text/src/fields.rt guest_digests/src/laws.rt
-    docs/FORMATS.md checks/fleet.py
+page_model/src/limits.rt MAX_TEXT_BYTES bytes: docs/MODEL.md
+guest_digests/src/sample.rt MAX_SAMPLE: command_words/src/digest_words.rt digest_text/src/fields.rt docs/FORMATS.md
 digest_text/src/name.rt MAX_NAME_BYTES of: command_words/src/digest_words.rt docs/FORMATS.md
 fleet_census/src/merging.rt MAX_DIGESTS digests: command_words/src/help.rt fleet_census/edits/limit_of_65535.edit docs/USING.md
 command_terms/src/estimates.rt MOST_WORKERS: command_words/src/help.rt

@@ -72,7 +72,7 @@ GUARDED = "return cause == 0 ? pagemap_are_guarded(&windows->pagemap, at, PART) 
 REFUSED = "else pageshare_window_refused("
 LEAVES = "(struct pageshare_window_facts){.leaves = true}"
 WATCHED = "is_begun ? PAGESHARE_WINDOW_TAKEN_WATCHED : PAGESHARE_WINDOW_NOT_TAKEN"
-ALONE = "return !joins_before && (behind == window->count"
+ORDERED_HOME = "pageshare_window_order_home(TABLES(window), &table, pins_of(window), pins_in(window), why, first, count);"
 NOT_PUT = "hold->stuck_cause = cause;\n            return (struct came){.done = done, .refused = 1};"
 NOT_MAPPED = "note_failure(windows, WINDOW_NO_MAPPING, cause);\n        return (struct came){.refused = todo->count};"
 NOT_ENDED = "hold->stuck_cause = cause;\n    return (struct came){.refused = todo->count};"
@@ -99,8 +99,8 @@ BODIES = {
     "says a memory policy of frames": Body("advice.c", "== POLICY_DEFAULT || is_file ||", "== POLICY_DEFAULT ||", ["pages"]),
     "lends after the end": Body("pages.c", ".ends = window->ends,", ".ends = false,", ["leaves"]),
     "says of no page that it leaves": Body("home.c", LEAVES, "(struct pageshare_window_facts){.leaves = false}", ["leaves"]),
-    "forgets why pages go home": Body("home.c", "facts = facts_with(window, page, why);", "facts = facts_of(window, page);", ["leaves"]),
-    "moves copies that a device may have": Body("home.c", "&facts, own[i]);", "&facts, false);", ["pages"]),
+    "forgets why pages go home": Body("pages.c", ORDERED_HOME, ORDERED_HOME.replace("why", "&(struct pageshare_window_facts){.called = false}"), ["leaves"]),
+    "moves copies that a device may have": Body("home.c", "if (cause == 0) find_staying(", "home->stays[0] = false;\n    if (cause == 0) find_staying(", ["pages"]),
     "forgets transfers": Body("transfers.c", "&& pageshare_window_pin(window->pins, window->count, first, count);", ";", ["leaves"]),
     "forgets transfers that have no place": Body("pages.c", ".elsewhere = windows->transfers_elsewhere,", ".elsewhere = 0,", ["leaves"]),
     "begins transfers of no byte": Body("transfers.c", "begin, begin + buffers[i].iov_len, &begun)", "begin, begin, &begun)", ["leaves"]),
@@ -109,9 +109,9 @@ BODIES = {
     "notes no page that has left": Body("home.c", "pageshare_window_leave(", LEFT_OUT, ["leaves"]),
     "notes no lender that is gone": Body("windows.c", "pageshare_window_detach(", LEFT_OUT, ["leaves"]),
     "notes no zeros": Body("pages.c", "pageshare_window_give_back(", LEFT_OUT, ["parts"]),
-    "notes zeros as frames": Body("pages.c", "if (frame == ZEROS) pageshare", "if (frame == ZEROS && is_moved) pageshare", ["pages"]),
-    "takes no mappings away that frames replace": Body("pages.c", "    *mappings -= mappings_of(window, first, count);\n", "", ["pages"]),
-    "counts no mappings of a part that changes": Body("parts.c", "    counts->mappings += mappings_of(window, first, PART);\n", "", ["parts"]),
+    "notes zeros as frames": Body("pages.c", "if (is_file) pageshare", "if (is_file || is_said) pageshare", ["pages"]),
+    "counts no mappings of frames": Body("pages.c", "count, frame, mappings);", "count, frame, &(size_t){0});", ["pages"]),
+    "counts no mappings of a part that changes": Body("parts.c", "is_whole, &counts->mappings);", "is_whole, &(size_t){0});", ["parts"]),
     "counts a refused order as done": Body("pages.c", REFUSED, "else pageshare_window_done(", ["pages"]),
     "counts all pages in the first part": Body("set.h", "return &window->counts[(page + window->lead) / PART];",
                                                "return &window->counts[page * 0];", ["parts"]),
@@ -125,8 +125,8 @@ BODIES = {
     "keeps memory of what stays": Body("home.c", "if (cause != 0 || home->stays[i]) unmap_apart(", "if (home->stays[i]) unmap_apart(", ["refusals"]),
     "forgets what can't be unmapped": Body("tasks.c", "    unmap_again();\n", "", ["guards"]),
     "keeps the memory of what can't be unmapped": Body("kernel.c", "madvise(at, bytes, MADV_DONTNEED); /*", "/*", ["guards"]),
-    "gives up without a mapping left": Body("home.c", "is_anew = is_anew && has_room_for_zeros(window, first, count);", "", ["pages"]),
-    "puts zeros without a mapping left": Body("pages.c", "after > before ? after - before : 0);", "0 * (after + before));", ["pages"]),
+    "gives up without a mapping left": Body("home.c", "windows->mappings_most, windows->counts.mappings);", "windows->mappings_most, 0);", ["pages"]),
+    "puts zeros without a mapping left": Body("pages.c", "windows->mappings_most, windows->counts.mappings);", "windows->mappings_most, 0);", ["pages"]),
     "takes reserved memory for another": Body("advice.c", ".is_reserved = has(flags, \" ac\")", ".is_reserved = false && has(flags, \" ac\")", ["pages"]),
     "leaves holes in place of zeros": Body("lend.c", "if (!hold->missing[i] ||", "if (true ||", ["pages"]),
     "shows what was given up": Body("lend.c", "is_done && !hold->given_up[i];", "is_done;", ["pages"]),
@@ -143,10 +143,8 @@ BODIES = {
     "takes memory for unlocked that isn't known": Body("tasks.c", "int refused = locked_kib(&kib);", "int refused = 0 * locked_kib(&kib);", ["pages"]),
     "leaves the scratch area half made": Body("tasks.c", "lacks_scratch ? make_scratch(windows) : 0;", "lacks_scratch ? 0 : 0;", ["guards"]),
     "takes a window for one mapping": Body("window.c", "window->seams = facts.mappings - 1;", "window->seams = 0 * facts.mappings;", ["pages"]),
-    "joins zeros that lie apart": Body("pages.c", ALONE, ALONE.replace("!joins_before", "is_over(&window->pages[first]) && !joins_before"), ["pages"]),
-    "joins zeros of which too little was said": Body("pages.c", "is_alone || !is_said", "is_alone || (!is_said && false)", ["guards"]),
+    "joins zeros of which too little was said": Body("pages.c", "count, is_said, mappings);", "count, true, mappings);", ["guards"]),
     "joins zeros that were written": Body("pages.c", "|| memchr(written, true, count) == NULL", "|| count > 0", ["guards"]),
-    "joins mappings that lie apart": Body("pages.c", "frame, is_alone || !is_said);", "frame, !is_said);", ["pages"]),
     "forgets what is stuck": Body("lend.c", "!= 0) add_stuck(window,", "!= 0 && false) add_stuck(window,", ["guards"]),
     "goes on with nothing that is stuck": Body("lend.c", "pageshare_window_row_again(stuck.byte);", "stuck.byte;", ["guards"]),
     "counts what stays stuck as let go": Body("lend.c", NOT_ENDED, NOT_ENDED.replace(".refused", ".done"), ["guards"]),

@@ -5,8 +5,7 @@
     tools/map.py --check   says whether it is current, and whether src/checks.rt is one text in all crates of tests
 
 A layer is a comment line of crates.txt, up to a bracket. The first line of each crate's README is '# NAME: WHAT IT DOES'. A line
-'Proved in a line: WHAT.' says what is proved of the crate; a layer in which one crate has that line needs it of each. Its
-index of decisions has each crate whose README has a section 'Why it is so', with the bold words that its paragraphs begin with.
+'Proved in a line: WHAT.' says what is proved of the crate; a layer in which one crate has that line needs it of each.
 Prints what is missing, and with --check last 'N passed, M failed' (status 0 where M is 0, else 1).
 """
 from __future__ import annotations
@@ -30,21 +29,9 @@ A crate uses only the public contracts of the crates that its line in `crates.tx
 which are the layers from the bottom up. [ARCHITECTURE.md](../docs/ARCHITECTURE.md) shows how data flows through them.
 
 The right column says in a line what is proved: each clause of the crate's contracts, for all inputs, under the premises that these \
-name. A crate's README has its laws, what is only tested, and what is neither. [PROMISE.md](../docs/PROMISE.md) has the promise of \
-the whole, and [GLOSSARY.md](../docs/GLOSSARY.md) the words.
+name. A crate's README has its laws, what is only tested, what is neither, and its decisions (*Why it is so*). \
+[PROMISE.md](../docs/PROMISE.md) has the promise of the whole, and [GLOSSARY.md](../docs/GLOSSARY.md) the words.
 """
-INDEX = """\
-
-## Decisions
-
-What the paragraphs of the section *Why it is so* in a crate's README begin with. [DECISIONS.md](../docs/DECISIONS.md) has those \
-for several crates.
-
-| crate | decided there |
-|---|---|
-"""
-# The bold words that a paragraph begins with.
-LEAD = re.compile(r"\n\n\*\*(.+?)\*\*")
 FORM = "# NAME: WHAT IT DOES"
 PROVED = "Proved in a line: "
 
@@ -92,21 +79,7 @@ def drawn() -> tuple[str, int, list[str]]:
         of_layer, lacks = table([(name, *lines_of(name)) for name in names])
         text += f"\n## {heading}\n\n{of_layer}"
         crates, lacking = crates + len(names), lacking + lacks
-    return text + indexed(), crates, lacking
-
-
-def decided(name: str) -> list[str]:
-    """What a crate's README gives reasons for."""
-    file = TOP / f"crates/{name}/README.md"
-    text = file.read_text() if file.is_file() else ""
-    section = text.partition("\n## Why it is so\n")[2].partition("\n## ")[0]
-    return [it.rstrip(".,") for it in LEAD.findall(f"\n{section}")]
-
-
-def indexed() -> str:
-    """The index of decisions."""
-    crates = [name for _, names in layers() for name in names]
-    return INDEX + "".join(f"| [{it}]({it}/README.md) | {'. '.join(decided(it))} |\n" for it in crates if decided(it))
+    return text, crates, lacking
 
 
 def differing() -> list[str]:

@@ -40,14 +40,14 @@ static bool is_watched_by_caller(struct window *window, size_t first, size_t cou
 
 /* Gives up pages in the window that are alike. Where they are in several mappings they are in one then. With the lock. */
 static struct window_result give_up(struct window *window, size_t first, size_t count) {
+    const struct windows *windows = window->windows;
     /* (what is mapped anew the caller's own userfaultfd watches no more) */
-    bool is_over_frame = is_over(&window->pages[first]), is_watched = window->windows->is_watched;
-    bool is_anew = is_over_frame || (!is_watched && mappings_of(window, first, count) > 2);
-    if (is_over_frame && is_watched_by_caller(window, first, count)) return result_of(WINDOW_WATCHED, EBUSY);
-    is_anew = is_anew && has_room_for_zeros(window, first, count);
-    if (is_anew) is_anew = map_pages(window, first, count, ZEROS, PROT_READ | PROT_WRITE) == 0;
-    bool are_cleared = is_over_frame && !is_anew;
-    if (!is_anew && !is_over_frame && madvise(address_of(window, first), bytes_of(count), MADV_DONTNEED) < 0)
+    if (is_over(&window->pages[first]) && is_watched_by_caller(window, first, count)) return result_of(WINDOW_WATCHED, EBUSY);
+    unsigned by = pageshare_window_given_up_by(window->pages, window->count, PARTS(window), window->lead, first, count,
+                                               windows->is_watched, windows->mappings_most, windows->counts.mappings);
+    bool is_anew = (by & PAGESHARE_WINDOW_BY_ZEROS) != 0 && map_pages(window, first, count, ZEROS, PROT_READ | PROT_WRITE) == 0;
+    bool are_cleared = (by & PAGESHARE_WINDOW_BY_CLEARING) != 0 && !is_anew;
+    if (!is_anew && !are_cleared && madvise(address_of(window, first), bytes_of(count), MADV_DONTNEED) < 0)
         return result_of(WINDOW_NO_MAPPING, errno);
     if (is_anew) note_apart(window, first, count);
     if (are_cleared) clear(window, first, count);
@@ -135,29 +135,10 @@ size_t window_run(struct window *window, size_t first, size_t most, bool *is_its
 struct home {
     struct window *window;
     size_t first, count;
-    struct pageshare_window_facts why; /* what is so of them from now on, beside what is so already */
-    uint8_t *at;                       /* the memory elsewhere */
-    bool stays[HOME_MOST];             /* a device may have pinned its copy */
+    const struct pageshare_window_facts *why; /* what is so of them from now on, beside what is so already */
+    uint8_t *at;                              /* the memory elsewhere */
+    bool stays[HOME_MOST];                    /* a device may have pinned its copy */
 };
-
-/* Orders that pages that show their frames get memory of their own. */
-static void order_home(struct window *window, size_t first, size_t count, struct pageshare_window_facts why) {
-    for (size_t page = first; page < first + count; page++) {
-        const struct pageshare_window_facts facts = facts_with(window, page, why);
-        if (is_lent(&window->pages[page])) pageshare_window_next(&window->pages[page], part_counts(window, page), &facts);
-    }
-}
-
-/* Whether a page was ordered to get memory of its own. */
-static bool is_homing(const struct window *window, size_t page) {
-    unsigned belief = belief_of(&window->pages[page]);
-    return belief == PAGESHARE_WINDOW_HOMING || belief == PAGESHARE_WINDOW_HOMING_IN_PLACE;
-}
-
-/* What came of that. */
-static void note_homing(struct window *window, size_t page, bool is_done) {
-    if (is_homing(window, page)) note_order(window, page, is_done);
-}
 
 /* Takes memory for pages, and guards them. Returns 0 or an errno; if it isn't 0, nobody waits, but for pages that are stuck then. */
 static int begin_home(struct home *home) {
@@ -182,15 +163,11 @@ static int begin_home(struct home *home) {
  * Finds which pages have to stay. They are guarded, so a copy that isn't pinned by now won't be: a device that pins a page to write to
  * it waits as other writers do. Where nobody pins pages all can go; else only those that show their frame, and may get other memory.
  */
-static int find_staying(struct home *home) {
+static int find_which_stay(struct home *home) {
     struct windows *windows = home->window->windows;
-    bool own[HOME_MOST];
     find_pins(windows);
-    int cause = pagemap_find_copies(&windows->pagemap, address_of(home->window, home->first), home->count, own);
-    for (size_t i = 0; i < home->count && cause == 0; i++) {
-        const struct pageshare_window_facts facts = facts_with(home->window, home->first + i, home->why);
-        home->stays[i] = pageshare_window_stays(&home->window->pages[home->first + i], &facts, own[i]);
-    }
+    int cause = pagemap_find_copies(&windows->pagemap, address_of(home->window, home->first), home->count, home->stays);
+    if (cause == 0) find_staying(home->window, home->first, home->stays, home->count, home->why);
     return cause;
 }
 
@@ -203,11 +180,9 @@ static int bring(struct home *home, size_t from, size_t count) {
             copy_page(copies + bytes_of(i), to + bytes_of(i));
     if (mremap(copies, bytes_of(count), bytes_of(count), MREMAP_MAYMOVE | MREMAP_FIXED, to) == MAP_FAILED) return errno;
     note_moved(window, home->first + from, count);
-    for (size_t i = from; i < from + count; i++) {
-        note_homing(window, home->first + i, true);
-        forget_content(window, home->first + i);
+    pageshare_window_moved_home(TABLES(window), home->first + from, count);
+    for (size_t i = from; i < from + count; i++)
         trace_copy(window->windows->trace, window->base + (uint32_t)(home->first + i), to + bytes_of(i - from));
-    }
     window->windows->counts.taken_home += count;
     return 0;
 }
@@ -216,7 +191,7 @@ static int bring(struct home *home, size_t from, size_t count) {
 static int bring_guarded(struct home *home) {
     struct window *window = home->window;
     int cause = faults_protect(&window->windows->faults, address_of(window, home->first), home->count);
-    if (cause == 0) cause = find_staying(home);
+    if (cause == 0) cause = find_which_stay(home);
     for (size_t i = 0, end = 0; i < home->count; i = end) {
         for (end = i + 1; end < home->count && home->stays[end] == home->stays[i]; end++) {
         }
@@ -242,17 +217,21 @@ static int bring_home(struct home *home) {
 
 /* Gives pages over frames, at most PART, a copy of their own, where they are. Returns 0 or an errno. */
 static int copy_in_place(struct window *window, size_t first, size_t count) {
-    order_home(window, first, count, (struct pageshare_window_facts){.pinned = true});
-    int cause = madvise(address_of(window, first), bytes_of(count), MADV_POPULATE_WRITE) < 0 ? errno : 0;
-    for (size_t page = first; page < first + count; page++) {
-        bool is_copied = cause == 0 && (is_homing(window, page) || shows_past(&window->pages[page]));
-        note_homing(window, page, cause == 0);
-        if (!is_copied) continue;
-        stop_showing_past(window, page);
-        trace_copy(window->windows->trace, window->base + (uint32_t)page, address_of(window, page));
+    bool comes[PART];
+    order_home(window, first, count, &(struct pageshare_window_facts){.pinned = true});
+    pageshare_window_find_coming(window->pages, window->count, first, comes, count);
+    if (madvise(address_of(window, first), bytes_of(count), MADV_POPULATE_WRITE) < 0) {
+        int cause = errno;
+        pageshare_window_refused_home(TABLES(window), first, count);
+        return cause;
+    }
+    pageshare_window_copied_home(TABLES(window), first, count);
+    for (size_t i = 0; i < count; i++) {
+        if (!comes[i]) continue;
+        trace_copy(window->windows->trace, window->base + (uint32_t)(first + i), address_of(window, first + i));
         window->windows->counts.taken_home++;
     }
-    return cause;
+    return 0;
 }
 
 /* Whether a page is in the window and lies over a frame. */
@@ -290,10 +269,10 @@ struct window_result take_home_for(struct window *window, size_t first, size_t c
     for (size_t done = 0, run = 0; done < count; done += run) {
         run = least(alike(window, first + done, count - done), HOME_MOST);
         if (!is_in_frames(window, first + done)) continue;
-        struct home home = {.window = window, .first = first + done, .count = run, .why = why};
-        order_home(window, home.first, run, why);
+        struct home home = {.window = window, .first = first + done, .count = run, .why = &why};
+        order_home(window, home.first, run, &why);
         int cause = bring_home(&home);
-        for (size_t i = 0; i < run; i++) note_homing(window, home.first + i, false);
+        pageshare_window_refused_home(TABLES(window), home.first, run);
         if (windows->stuck_count > 0) return result_of(WINDOW_STUCK, cause);
         struct window_result result = settle_home(window, first + done, run);
         if (result.status != WINDOW_OK) return result;
@@ -358,9 +337,7 @@ struct window_result window_leave(struct window *window, size_t first, size_t co
 
 void window_forget(struct window *window, size_t first, size_t count) {
     struct windows *windows = window->windows;
-    windows->counts.mappings -= mappings_of(window, first, count);
     for (size_t page = first; page < first + count; page++)
         if (is_here(window, page)) trace_discard(windows->trace, window->base + (uint32_t)page);
-    pageshare_window_unmap(TABLES(window), first, count);
-    windows->counts.mappings += mappings_of(window, first, count);
+    pageshare_window_unmap(TABLES(window), PARTS(window), first, count, &windows->counts.mappings);
 }

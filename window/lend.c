@@ -634,14 +634,15 @@ static void note_loan(struct windows *windows, uint32_t frame, uint8_t answer) {
 }
 
 /*
- * Whether a host gives frames from the last one to the first, by the loans of a batch: as it does once those of a process that has ended are
- * free. Then a batch's last page is lent first, so that pages in a row get frames in a row all the same. `otherwise`: where no two tell.
+ * Whether a host gives frames from the last one to the first, by the new frames of a batch: as it does once those of a process that has ended
+ * are free. Then a batch's last page is lent first, so that pages in a row get frames in a row all the same. `otherwise`: where no two tell.
  */
 static bool do_fall(const struct window_loan *loans, size_t count, bool otherwise) {
     size_t rising = 0, falling = 0;
     for (size_t i = 1; i < count; i++) {
-        rising += loans[i].frame == loans[i - 1].frame + 1 ? 1 : 0;
-        falling += loans[i].frame + 1 == loans[i - 1].frame ? 1 : 0;
+        const bool are_new = loans[i].is_new && loans[i - 1].is_new;
+        rising += are_new && loans[i].frame == loans[i - 1].frame + 1 ? 1 : 0;
+        falling += are_new && loans[i].frame + 1 == loans[i - 1].frame ? 1 : 0;
     }
     return rising == falling ? otherwise : falling > rising;
 }

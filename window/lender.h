@@ -31,6 +31,7 @@
  */
 struct window_loan {
     uint32_t frame;
+    bool is_new; /* no other slot has the frame */
     uint64_t slot;
 };
 

@@ -46,16 +46,23 @@ struct pageshare_window_table_facts table_of(const struct window *window) {
                                                  .is_over = windows->is_over || windows->is_watched};
 }
 
-struct pageshare_window_facts facts_with(const struct window *window, size_t number, struct pageshare_window_facts why) {
+void order_home(struct window *window, size_t first, size_t count, const struct pageshare_window_facts *why) {
     const struct pageshare_window_table_facts table = table_of(window);
-    struct pageshare_window_facts facts;
-    pageshare_window_find_facts(&table, PINS(window), &why, number, &facts);
-    return facts;
+    pageshare_window_order_home(TABLES(window), &table, PINS(window), why, first, count);
+}
+
+void find_staying(const struct window *window, size_t first, bool *copies, size_t count,
+                  const struct pageshare_window_facts *why) {
+    const struct pageshare_window_table_facts table = table_of(window);
+    pageshare_window_find_staying(window->pages, window->count, &table, PINS(window), why, first, copies, count);
 }
 
 struct pageshare_window_facts facts_of(const struct window *window, size_t number) {
     static const struct pageshare_window_facts nothing;
-    return facts_with(window, number, nothing);
+    const struct pageshare_window_table_facts table = table_of(window);
+    struct pageshare_window_facts facts;
+    pageshare_window_find_facts(&table, PINS(window), &nothing, number, &facts);
+    return facts;
 }
 
 enum pageshare_window_order order_of(struct window *window, size_t number) {
@@ -97,10 +104,6 @@ void note_zero(struct window *window, size_t number, bool is_zero) {
     pageshare_window_give_back(&window->pages[number], part_counts(window, number), is_zero);
 }
 
-void stop_showing_past(struct window *window, size_t number) {
-    pageshare_window_stop_past(&window->pages[number], part_counts(window, number));
-}
-
 void forget_content(struct window *window, size_t number) {
     pageshare_window_forget(&window->pages[number], part_counts(window, number));
 }
@@ -117,26 +120,17 @@ size_t alike(const struct window *window, size_t first, size_t most) {
 }
 
 size_t mappings_of(const struct window *window, size_t first, size_t count) {
-    return pageshare_window_mappings_at(window->pages, window->count, window->parts, parts_in(window), window->lead, first,
-                                        count);
+    return pageshare_window_mappings_at(window->pages, window->count, PARTS(window), window->lead, first, count);
 }
 
 size_t mappings_more(const struct window *window, size_t first, size_t count) {
-    return pageshare_window_mappings_more(window->pages, window->count, window->parts, parts_in(window), window->lead, first,
-                                          count);
+    return pageshare_window_mappings_more(window->pages, window->count, PARTS(window), window->lead, first, count);
 }
 
-/* Notes what lies at the place of pages in a row since now: frames, or memory of their own. */
-static void note_memory(struct window *window, size_t first, size_t count, uint32_t frame, bool is_moved) {
-    size_t *mappings = &window->windows->counts.mappings;
-    *mappings -= mappings_of(window, first, count);
-    if (frame == ZEROS) pageshare_window_uncover(TABLES(window), first, count, is_moved);
-    else pageshare_window_cover(TABLES(window), first, count, frame);
-    *mappings += mappings_of(window, first, count);
+void note_moved(struct window *window, size_t first, size_t count) {
+    pageshare_window_uncover(TABLES(window), PARTS(window), first, count, true, &window->windows->counts.mappings);
     note_cleared(window, first, count, false);
 }
-
-void note_moved(struct window *window, size_t first, size_t count) { note_memory(window, first, count, ZEROS, true); }
 
 /* Whether what is put in the place of pages can be a copy of a mapping that is there already, with all that was said of it. */
 static const uint8_t *source_of(const struct window *window, uint32_t frame, int protection) {
@@ -146,36 +140,10 @@ static const uint8_t *source_of(const struct window *window, uint32_t frame, int
     return windows->frames_are_given ? windows->frames_at + bytes_of(frame) : NULL;
 }
 
-/*
- * Whether the system may join zeros with what is beside them: memory of the window's own, of which was said what is said of
- * them.
- */
-static bool may_join(const struct window *window, size_t page, bool is_whole) {
-    return !is_over(&window->pages[page]) && !is_out(&window->pages[page]) && part_of(window, page)->whole == is_whole;
-}
-
-/*
- * Whether zeros that are put in the place of pages will be a mapping by themselves: nothing is beside them with which the
- * system could join them. Once they are written it joins them with nothing any more.
- */
-static bool are_alone(const struct window *window, size_t first, size_t behind) {
-    const bool is_whole = part_of(window, first)->whole;
-    bool joins_before = first > 0 && may_join(window, first - 1, is_whole);
-    return !joins_before && (behind == window->count || !may_join(window, behind, is_whole));
-}
-
-/* Whether the system joins zeros with a page beside them, so that no mapping begins between them. */
-static bool joins(const struct window *window, size_t page, bool is_whole) {
-    return may_join(window, page, is_whole) && !is_moved(&window->pages[page]);
-}
-
 bool has_room_for_zeros(const struct window *window, size_t first, size_t count) {
     const struct windows *windows = window->windows;
-    const bool is_whole = part_of(window, first)->whole;
-    const size_t behind = first + count, before = mappings_of(window, first, count);
-    size_t after = first > 0 && joins(window, first - 1, is_whole) ? 0 : 1;
-    if (behind < window->count && !joins(window, behind, is_whole)) after++;
-    return pageshare_window_has_mappings(windows->mappings_most, windows->counts.mappings, after > before ? after - before : 0);
+    return pageshare_window_has_room_for_zeros(window->pages, window->count, PARTS(window), window->lead, first, count,
+                                               windows->mappings_most, windows->counts.mappings);
 }
 
 enum { BITS = 8 /* of `cleared` in a byte */ };
@@ -201,7 +169,7 @@ void note_apart(struct window *window, size_t first, size_t count) {
 
 int map_pages(struct window *window, size_t first, size_t count, uint32_t frame, int protection) {
     bool is_file = frame != ZEROS, has_left = is_out(&window->pages[first]);
-    bool is_alone = !is_file && are_alone(window, first, first + count);
+    size_t *mappings = &window->windows->counts.mappings;
     const uint8_t *source = source_of(window, frame, protection);
     void *at = address_of(window, first);
     int cause = source != NULL ? mapping_copy(at, source, count) : ENOENT;
@@ -213,7 +181,9 @@ int map_pages(struct window *window, size_t first, size_t count, uint32_t frame,
     if (cause != 0) return cause;
     /* (what the system refuses to say of zeros keeps it from joining them with what is beside them) */
     bool is_said = has_left || (is_file && are_copies) || say_again(window, first, count, is_file, are_copies);
-    note_memory(window, first, count, frame, is_alone || !is_said);
+    if (is_file) pageshare_window_cover(TABLES(window), PARTS(window), first, count, frame, mappings);
+    else pageshare_window_put_zeros(TABLES(window), PARTS(window), first, count, is_said, mappings);
+    note_cleared(window, first, count, false);
     return 0;
 }
 

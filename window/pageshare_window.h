@@ -304,8 +304,6 @@ bool pageshare_window_stays(const struct pageshare_window_page *page, const stru
 
 /* A page was given back as zeros and has no memory; or it has memory. Nothing is noted of a page over a frame. */
 void pageshare_window_give_back(struct pageshare_window_page *page, struct pageshare_window_counts *part, bool is_zeros);
-/* It shows no frame of a lender that is gone. */
-void pageshare_window_stop_past(struct pageshare_window_page *page, struct pageshare_window_counts *part);
 
 /* What looks have found of a page counts no more. */
 void pageshare_window_forget(struct pageshare_window_page *page, struct pageshare_window_counts *part);
@@ -321,6 +319,18 @@ size_t pageshare_window_alike(const struct pageshare_window_page *pages, size_t 
 size_t pageshare_window_here(const struct pageshare_window_page *pages, size_t count);
 
 /* ---- tables of a window's pages ---- */
+
+/* A part. The library alone writes the members, but for `is_huge`, and `whole` of a new window: the caller writes them. */
+struct pageshare_window_part {
+    bool whole;    /* it is left to the system's huge pages: nothing of it is lent */
+    uint8_t pause; /* looks at it until it may change again */
+    uint8_t alone; /* looks in a row that found next to nothing shared in it */
+    uint8_t rest;  /* idle pages that a look leaves out for each one that it takes, since next to nothing changes there */
+    uint8_t left;  /* looks until they may be more */
+    bool is_still; /* nothing at all had changed there at the last look */
+    bool is_huge;  /* it is whole, and was a huge page at the last look */
+    uint32_t own;  /* pages that had memory of their own at the last look */
+};
 
 /* What is so of a window and its process, as far as it keeps the window's pages from being lent. */
 struct pageshare_window_table_facts {
@@ -353,28 +363,65 @@ bool pageshare_window_are_movable(const struct pageshare_window_page *pages, siz
                                   const struct pageshare_window_table_facts *table, const uint16_t *pins, size_t pins_count,
                                   size_t first, size_t count);
 /*
- * What becomes of `count` pages from `first` on. `parts` has the counts of each part of 512 pages, and `lead` pages of the first part lie before
- * the table. Each returns false, and notes nothing, if the pages aren't all there, or if the table has more pages than its parts.
+ * What becomes of `count` pages from `first` on. `counts` has those of each part of 512 pages, of which `parts` are; `lead` pages of the first part lie
+ * before the table. Each returns false, and notes nothing, if the pages aren't all there, or if the table has more pages than its parts have counts.
+ *
+ * Where other memory may come to their places, `*mappings` changes by what begins at them then, or at the page behind them, less what began there.
  *
  * Frames in a row were mapped at their places, of which the first has this number; or memory of their own was put there, moved all at once, or
- * mapped. The page behind them begins what was moved, if it was moved.
+ * mapped; or zeros were mapped there, of which the system let be said what is said of the window (`is_said`), or not. The page behind them begins what
+ * was moved, if it was moved.
  */
-bool pageshare_window_cover(struct pageshare_window_page *pages, size_t pages_count, struct pageshare_window_counts *parts,
-                            size_t parts_count, size_t lead, size_t first, size_t count, uint32_t frame);
-bool pageshare_window_uncover(struct pageshare_window_page *pages, size_t pages_count, struct pageshare_window_counts *parts,
-                              size_t parts_count, size_t lead, size_t first, size_t count, bool moved);
+bool pageshare_window_cover(struct pageshare_window_page *pages, size_t pages_count, struct pageshare_window_counts *counts,
+                            size_t counts_count, size_t lead, const struct pageshare_window_part *parts, size_t parts_count,
+                            size_t first, size_t count, uint32_t frame, size_t *mappings);
+bool pageshare_window_uncover(struct pageshare_window_page *pages, size_t pages_count, struct pageshare_window_counts *counts,
+                              size_t counts_count, size_t lead, const struct pageshare_window_part *parts, size_t parts_count,
+                              size_t first, size_t count, bool moved, size_t *mappings);
+bool pageshare_window_put_zeros(struct pageshare_window_page *pages, size_t pages_count, struct pageshare_window_counts *counts,
+                                size_t counts_count, size_t lead, const struct pageshare_window_part *parts, size_t parts_count,
+                                size_t first, size_t count, bool is_said, size_t *mappings);
+/* They were unmapped, or something else was mapped in their place. They have left their window. */
+bool pageshare_window_unmap(struct pageshare_window_page *pages, size_t pages_count, struct pageshare_window_counts *counts,
+                            size_t counts_count, size_t lead, const struct pageshare_window_part *parts, size_t parts_count,
+                            size_t first, size_t count, size_t *mappings);
+/* Their lender is gone, and no slot of theirs counts any more. What they show stays. */
+bool pageshare_window_detach(struct pageshare_window_page *pages, size_t pages_count, struct pageshare_window_counts *counts,
+                             size_t counts_count, size_t lead, const struct pageshare_window_part *parts, size_t parts_count,
+                             size_t first, size_t count, size_t *mappings);
 /* Their content was given up. */
 bool pageshare_window_give_up(struct pageshare_window_page *pages, size_t pages_count, struct pageshare_window_counts *parts,
                               size_t parts_count, size_t lead, size_t first, size_t count);
-/* They were unmapped, or something else was mapped in their place. They have left their window. */
-bool pageshare_window_unmap(struct pageshare_window_page *pages, size_t pages_count, struct pageshare_window_counts *parts,
-                            size_t parts_count, size_t lead, size_t first, size_t count);
 /* They have left their window, with what they contain. */
 bool pageshare_window_leave(struct pageshare_window_page *pages, size_t pages_count, struct pageshare_window_counts *parts,
                             size_t parts_count, size_t lead, size_t first, size_t count);
-/* Their lender is gone, and no slot of theirs counts any more. What they show stays. */
-bool pageshare_window_detach(struct pageshare_window_page *pages, size_t pages_count, struct pageshare_window_counts *parts,
-                             size_t parts_count, size_t lead, size_t first, size_t count);
+/*
+ * `count` pages from `first` on get memory of their own in place of frames. Each returns false, and changes nothing, if they aren't all there, or,
+ * but for the two that find something, if the table has more pages than its parts.
+ *
+ *   order_home: those that show their frames get the order to. `why` is so of them besides.
+ *   find_staying: which of them stay where they are while writes to them wait: they are to get their copy there, or have one that a device may
+ *     hold. `copies` says before whether each has memory of its own, and then whether it stays.
+ *   moved_home: it was moved there. If a page was to get it, that was done. What looks have found of it counts no more.
+ *   find_coming, copied_home: they get a copy where they are. That brings those home that are found; `found` says of each whether it is one. None
+ *     shows a frame of a lender that is gone any more.
+ *   refused_home: those that were to get memory of their own get none.
+ */
+bool pageshare_window_order_home(struct pageshare_window_page *pages, size_t pages_count, struct pageshare_window_counts *parts,
+                                 size_t parts_count, size_t lead, const struct pageshare_window_table_facts *table,
+                                 const uint16_t *pins, size_t pins_count, const struct pageshare_window_facts *why, size_t first,
+                                 size_t count);
+bool pageshare_window_find_staying(const struct pageshare_window_page *pages, size_t pages_count,
+                                   const struct pageshare_window_table_facts *table, const uint16_t *pins, size_t pins_count,
+                                   const struct pageshare_window_facts *why, size_t first, bool *copies, size_t count);
+bool pageshare_window_moved_home(struct pageshare_window_page *pages, size_t pages_count, struct pageshare_window_counts *parts,
+                                 size_t parts_count, size_t lead, size_t first, size_t count);
+bool pageshare_window_find_coming(const struct pageshare_window_page *pages, size_t pages_count, size_t first, bool *found,
+                                  size_t count);
+bool pageshare_window_copied_home(struct pageshare_window_page *pages, size_t pages_count, struct pageshare_window_counts *parts,
+                                  size_t parts_count, size_t lead, size_t first, size_t count);
+bool pageshare_window_refused_home(struct pageshare_window_page *pages, size_t pages_count, struct pageshare_window_counts *parts,
+                                   size_t parts_count, size_t lead, size_t first, size_t count);
 
 /* What came of an attempt to hold a page. */
 enum pageshare_window_taking {
@@ -441,18 +488,6 @@ enum pageshare_window_part_order {
     PAGESHARE_WINDOW_MAKE_WHOLE = 2 /* copy it to a huge page, and put that in its place */
 };
 
-/* A part. The library alone writes the members, but for `whole` and `is_huge`: the caller writes them when they have changed. */
-struct pageshare_window_part {
-    bool whole;    /* it is left to the system's huge pages: nothing of it is lent */
-    uint8_t pause; /* looks at it until it may change again */
-    uint8_t alone; /* looks in a row that found next to nothing shared in it */
-    uint8_t rest;  /* idle pages that a look leaves out for each one that it takes, since next to nothing changes there */
-    uint8_t left;  /* looks until they may be more */
-    bool is_still; /* nothing at all had changed there at the last look */
-    bool is_huge;  /* it is whole, and was a huge page at the last look */
-    uint32_t own;  /* pages that had memory of their own at the last look */
-};
-
 /* When parts are split, and when they are made whole. */
 struct pageshare_window_part_config {
     uint32_t huge_from;  /* pages that could be shared for which a huge page is split */
@@ -498,6 +533,34 @@ size_t pageshare_window_mappings_more(const struct pageshare_window_page *pages,
                                       const struct pageshare_window_part *parts, size_t parts_count, size_t lead, size_t first,
                                       size_t count);
 size_t pageshare_window_mappings_new(const struct pageshare_window_part *parts, size_t parts_count, size_t lead, size_t count);
+
+/*
+ * Whether windows may take what zeros in place of `count` pages from `first` on need, where they have taken `taken` mappings of `most`. False if the
+ * pages aren't all there.
+ */
+bool pageshare_window_has_room_for_zeros(const struct pageshare_window_page *pages, size_t pages_count,
+                                         const struct pageshare_window_part *parts, size_t parts_count, size_t lead, size_t first,
+                                         size_t count, uint64_t most, uint64_t taken);
+
+/* How alike pages are given up whose memory isn't given back at their places. */
+enum {
+    PAGESHARE_WINDOW_BY_ZEROS = 1,   /* zeros are mapped there, */
+    PAGESHARE_WINDOW_BY_CLEARING = 2 /* and what can't be so is cleared */
+};
+/*
+ * Returns how `count` alike pages from `first` on are given up. With 0, or where only zeros could be mapped and the system refuses it, their memory is
+ * given back. `is_watched`: others watch the memory, and would miss what is mapped there.
+ */
+uint8_t pageshare_window_given_up_by(const struct pageshare_window_page *pages, size_t pages_count,
+                                     const struct pageshare_window_part *parts, size_t parts_count, size_t lead, size_t first,
+                                     size_t count, bool is_watched, uint64_t most, uint64_t taken);
+/*
+ * The part whose first page is this one is whole from now on, or split. `*mappings` changes by what begins at its pages then, or at the one behind
+ * them, less what began there. Returns false, and changes nothing, if this isn't the first page of a part whose pages are all there.
+ */
+bool pageshare_window_set_whole(const struct pageshare_window_page *pages, size_t pages_count,
+                                struct pageshare_window_part *parts, size_t parts_count, size_t lead, size_t first, bool is_whole,
+                                size_t *mappings);
 
 /* ---- lists of a window's pages, of which one is taken after another ---- */
 
@@ -727,6 +790,8 @@ bool pageshare_window_follow_changes(struct pageshare_window_page *pages, size_t
 /* The numbers that say where glances look at the pages at these places, counted from `first` on. A glance is a number below 32,768. */
 void pageshare_window_glance_numbers(const struct pageshare_window_page *pages, size_t pages_count, size_t first,
                                      const uint16_t *places, size_t places_count, uint64_t *numbers, size_t numbers_count);
+/* How many pages from the first on have copies of their own over frames, and were asked about in vain most often; or, if `are` is false, haven't. */
+size_t pageshare_window_left_over(const struct pageshare_window_page *pages, size_t count, bool are);
 /* A page was asked about in vain; it can't be lent now; it is to be asked about at once; or it was to be held, and was, or wasn't. */
 void pageshare_window_asked(struct pageshare_window_page *page, struct pageshare_window_counts *part);
 void pageshare_window_asked_last(struct pageshare_window_page *page, struct pageshare_window_counts *part);

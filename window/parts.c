@@ -72,10 +72,8 @@ int window_say_huge(struct window *window, size_t first, size_t count, bool may)
 
 static void set_whole(struct window *window, size_t first, bool is_whole) {
     struct windows_counts *counts = &window->windows->counts;
-    counts->mappings -= mappings_of(window, first, PART);
-    part_of(window, first)->whole = is_whole;
+    pageshare_window_set_whole(window->pages, window->count, PARTS(window), window->lead, first, is_whole, &counts->mappings);
     note_huge(window, first, is_whole);
-    counts->mappings += mappings_of(window, first, PART);
     counts->parts_whole += is_whole ? 1 : (size_t)-1;
     if (window->keeps_huge) counts->parts_split -= is_whole ? 1 : (size_t)-1;
     counts->made_whole += is_whole ? 1 : 0;

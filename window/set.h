@@ -166,6 +166,7 @@ static inline struct pageshare_window_counts *part_counts(const struct window *w
 static inline size_t parts_in(const struct window *window) { return (window->count + window->lead + PART - 1) / PART; }
 /* What the library gets of a window's tables. */
 #define TABLES(WINDOW) (WINDOW)->pages, (WINDOW)->count, (WINDOW)->counts, parts_in(WINDOW), (WINDOW)->lead
+#define PARTS(WINDOW) (WINDOW)->parts, parts_in(WINDOW)
 /* How many pages there are from `first` on to the end of its part. */
 static inline size_t rest_of_part(const struct window *window, size_t first) {
     size_t most = PART - (first + window->lead) % PART, left = window->count - first;
@@ -238,11 +239,15 @@ struct pageshare_window_table_facts table_of(const struct window *window);
 const uint16_t *pins_of(const struct window *window);
 size_t pins_in(const struct window *window);
 #define PINS(WINDOW) pins_of(WINDOW), pins_in(WINDOW)
-/* What is so of a page; `why`: what is so besides, from now on. */
+/* What is so of a page. */
 struct pageshare_window_facts facts_of(const struct window *window, size_t page);
-struct pageshare_window_facts facts_with(const struct window *window, size_t page, struct pageshare_window_facts why);
 /* Gives the next order of a page. */
 enum pageshare_window_order order_of(struct window *window, size_t page);
+/* Orders that pages that show their frames get memory of their own. `why`: what is so of them besides, from now on. */
+void order_home(struct window *window, size_t first, size_t count, const struct pageshare_window_facts *why);
+/* Which of these pages stay where they are; `copies` says before whether each has memory of its own, as the system says. */
+void find_staying(const struct window *window, size_t first, bool *copies, size_t count,
+                  const struct pageshare_window_facts *why);
 /* What came of the order of a page that is open. */
 void note_order(struct window *window, size_t page, bool is_done);
 /* Whether a call of the monitor may go on by each of these pages, of which `why` is so from then on, beside what is so already. */
@@ -257,8 +262,6 @@ struct pageshare_window_row_order next_of_row(struct window *window, size_t firs
 void hear_written(struct window *window, size_t page);
 /* Pages were given back as zeros, or have memory again. */
 void note_zero(struct window *window, size_t page, bool is_zero);
-/* A page shows no frame of a lender that is gone. */
-void stop_showing_past(struct window *window, size_t page);
 /* What is known of a page's content counts no more. */
 void forget_content(struct window *window, size_t page);
 /* Whether a page of a whole part could be shared. */

@@ -243,29 +243,20 @@ static bool end(struct look *look) {
 
 /* ---- copies over frames ---- */
 
-/* Whether a page has a copy of its own over a frame, and nobody else had what it is for some time. */
-static bool is_left_over(const struct window *window, size_t number) {
-    const page_entry *page = &window->pages[number];
-    bool is_copy = is_over(page) && !is_out(page) && !shows_past(page) && belief_of(page) == PAGESHARE_WINDOW_PRIVATE;
-    return is_copy && is_asked_again(page);
-}
-
-/* Finds such pages in a row in a part, at most HOME_MOST. Returns how many; 0: there are few in each row. With the lock. */
+/*
+ * Finds pages in a row in a part that have copies of their own over frames, and that nobody else had for some time, at most HOME_MOST. Returns how
+ * many; 0: there are few in each row. With the lock.
+ */
 static size_t find_left_over(const struct window *window, size_t part, size_t *at) {
     enum { ROW_LEAST = 8 };
     const size_t first = part == 0 ? 0 : part * PART - window->lead, end = first + rest_of_part(window, first);
-    size_t count = 0;
-    for (*at = first; *at + count < end && count < HOME_MOST;) {
-        if (is_left_over(window, *at + count)) {
-            count++;
-        } else if (count >= ROW_LEAST) {
-            break;
-        } else {
-            *at += count + 1;
-            count = 0;
-        }
+    for (*at = first; *at < end;) {
+        *at += pageshare_window_left_over(window->pages + *at, end - *at, false);
+        const size_t count = least(pageshare_window_left_over(window->pages + *at, end - *at, true), HOME_MOST);
+        if (count >= ROW_LEAST) return count;
+        *at += count;
     }
-    return count >= ROW_LEAST ? count : 0;
+    return 0;
 }
 
 /*

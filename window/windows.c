@@ -192,10 +192,9 @@ static void detach_part(struct window *window, size_t first) {
     struct windows *windows = window->windows;
     const size_t count = rest_of_part(window, first);
     lock_for_look(windows);
-    const bool is_counted = !window->ended; /* (the mappings of a window that has ended aren't) */
-    windows->counts.mappings -= is_counted ? mappings_of(window, first, count) : 0;
-    pageshare_window_detach(TABLES(window), first, count);
-    windows->counts.mappings += is_counted ? mappings_of(window, first, count) : 0;
+    /* (the mappings of a window that has ended aren't counted) */
+    size_t others = 0, *mappings = window->ended ? &others : &windows->counts.mappings;
+    pageshare_window_detach(TABLES(window), PARTS(window), first, count, mappings);
     struct pageshare_window_part *part = part_of(window, first);
     *part = (struct pageshare_window_part){.whole = part->whole, .is_huge = part->is_huge};
     unlock_set(windows);

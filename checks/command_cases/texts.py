@@ -12,11 +12,10 @@ import resource
 from collections.abc import Sequence
 
 from command_cases.subject import EXAMPLES, LITTLE, MISSING, ROWS, Subject, is_clean, read
-from common import faults
+from common import faults, most
 from common.script_runs import Differs, by_guest, look, requests_of
 from harness import Due
 
-MOST_BYTES = 67_108_864
 # A script of several guests is run so many times, since threads meet differently each time.
 RUNS = 50
 # Each word list that reads a text of its kind.
@@ -134,13 +133,13 @@ def ends_and_limits(subject: Subject, folder: pathlib.Path) -> None:
     for words in [*OF_JOURNALS, *OF_SCRIPTS]:
         name = " ".join(words)
         text = read("close-alone.journal" if words in OF_JOURNALS else "scan.script")
-        subject.fails(f"{name}, too long", words, "fault long\n", b"a" * (MOST_BYTES + 1))
-        subject.expect(f"{name}, as long as may be", words, 1, "fault truncated line 1\n", "", b"a" * MOST_BYTES)
+        subject.fails(f"{name}, too long", words, "fault long\n", b"a" * (most.TEXT_BYTES + 1))
+        subject.expect(f"{name}, as long as may be", words, 1, "fault truncated line 1\n", "", b"a" * most.TEXT_BYTES)
         subject.fails(f"{name}, no such file", [*words, str(folder / "none")], "fault read\n")
         subject.fails(f"{name}, a folder", [*words, str(folder)], "fault read\n")
         subject.full_device(f"{name}, a full device", words, "fault write\n", text)
         subject.full_device(f"{name}, a fault to a full device", words, "fault write\n")
-        subject.fails(f"{name}, little memory", words, "fault memory\n", b"a" * MOST_BYTES, limits=LITTLE)
+        subject.fails(f"{name}, little memory", words, "fault memory\n", b"a" * most.TEXT_BYTES, limits=LITTLE)
 
 
 def no_thread(subject: Subject) -> None:
@@ -157,9 +156,13 @@ def terminals(subject: Subject, folder: pathlib.Path) -> None:
     none = str(folder / "none")
     cut_off = 'line 1 is cut off: expected "pageshare script 1" or "pageshare script 2", and a line feed behind it\n'
     rings = faults.ONE_GUEST.replace("ring", "rings")
+    journal, end = "pageshare journal 1\nframes 1\npages 1\n", '"end NUMBER" with the number of request lines'
     for words, text, due in [
         (["replay"], read("close-alone.journal"), (0, "")),
         (["replay"], "pageshare journal 1\npages 1\n", (1, 'line 2: expected "frames NUMBER"\n')),
+        (["replay"], "pageshare journal 1\nframes 1\npage 1\n", (1, 'line 3: expected "pages NUMBER .."\n')),
+        (["replay"], journal + "1 close\n", (1, 'line 4: expected a guest of the "pages" line, counted from 0\n')),
+        (["replay"], journal + "0 close\nend 2\n", (1, f"the number of request lines is wrong: expected {end}\n")),
         (["run"], "", (1, cut_off)),
         (["serial"], rings, (1, 'line 4: expected "ring NUMBER"; in version 2 "salts NUMBER .."\n')),
         (["replay", none], "", (1, f"fault read\n{none}: {MISSING}\n")),

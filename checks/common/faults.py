@@ -1,6 +1,8 @@
 """Texts at fault, each with the fault that its one line names, for the cases of the commands that read them."""
 from __future__ import annotations
 
+from common import most
+
 # Where a journal's requests begin: one frame, and a guest with one page.
 ONE_PAGE = "pageshare journal 1\nframes 1\npages 1\n"
 # Where a script's requests begin: a guest with one page, and a journal of five entries.
@@ -25,11 +27,11 @@ HEADS_OF_JOURNALS = [
     (ONE_GUEST + SCAN, "line 1: header"),
     ("pageshare journal 1\nend 0\n", "line 2: form"),
     ("pageshare journal 1\nframes 0\n", "line 2: frames"),
-    ("pageshare journal 1\nframes 1048577\n", "line 2: frames"),
+    (f"pageshare journal 1\nframes {most.FRAMES + 1}\n", "line 2: frames"),
     ("pageshare journal 1\nframes 1\npages\n", "line 3: form"),
     ("pageshare journal 1\nframes 1\npages 0\n", "line 3: pages"),
     ("pageshare journal 1\nframes 1\npages 1 0\n", "line 3: pages"),
-    ("pageshare journal 1\nframes 1\npages 1048576 1\n", "line 3: pages"),
+    (f"pageshare journal 1\nframes 1\npages {most.PAGES} 1\n", "line 3: pages"),
     ("pageshare journal 1\nframes 1\npages" + " 1" * 65 + "\n", "line 3: guests"),
     (MANY_GUESTS + " 1\n", "line 3: guests"),
     (MANY_GUESTS + " 01\n", "line 3: form"),
@@ -85,8 +87,8 @@ HEADS_OF_SCRIPTS = [
     ("pageshare script 3\n", "line 1: header"),
     (TWO_CLOSES.replace("script 1", "script 3"), "line 1: header"),
     (TWO_CLOSES.replace("frames 1", "frames 0"), "line 2: frames"),
-    ("pageshare script 1\nframes 1048577\n", "line 2: frames"),
-    (ONE_GUEST.replace("frames 2", "frames 1048577") + SCAN, "line 2: frames"),
+    (f"pageshare script 1\nframes {most.FRAMES + 1}\n", "line 2: frames"),
+    (ONE_GUEST.replace("frames 2", f"frames {most.FRAMES + 1}") + SCAN, "line 2: frames"),
     ("pageshare script 1\nframes 1\npages" + " 1" * 65 + "\n", "line 3: guests"),
     ("pageshare script 1\nframes 1\npages 1 0\n", "line 3: pages"),
     (TWO_CLOSES.replace("pages 1 1", "pages 1 0"), "line 3: pages"),
@@ -97,9 +99,9 @@ HEADS_OF_SCRIPTS = [
     ("pageshare script 1\nframes 2\npages 1\njournal 5\n", "line 4: form"),
     ("pageshare script 1\nframes 1\npages 1\nring 0\n", "line 4: ring"),
     ("pageshare script 1\nframes 2\npages 1\nring 0\n", "line 4: ring"),
-    ("pageshare script 1\nframes 2\npages 1\nring 65537\n", "line 4: ring"),
+    (f"pageshare script 1\nframes 2\npages 1\nring {most.RING + 1}\n", "line 4: ring"),
     (TWO_CLOSES.replace("ring 1", "ring 0"), "line 4: ring"),
-    (ONE_GUEST.replace("ring 1", "ring 65537") + SCAN, "line 4: ring"),
+    (ONE_GUEST.replace("ring 1", f"ring {most.RING + 1}") + SCAN, "line 4: ring"),
     ("pageshare script 1\nframes 1\npages 1\nring 1\njournal 0\n", "line 5: journal"),
     (ONE_GUEST.replace("journal 5", "journal 0") + SCAN, "line 5: journal"),
     (ONE_GUEST.replace("journal 5", "journal 16777217") + SCAN, "line 5: journal"),

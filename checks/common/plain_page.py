@@ -35,7 +35,9 @@ IF_UNKNOWN = {HOMING_IN_PLACE: SHOWN, HOMING: SHOWN} | either({READY: LETTING_GO
 # Once nothing may be lent of it any more; and once its content was given up.
 IF_BARRED = {CHOSEN: PRIVATE, COPIED: PRIVATE} | DROPPED
 IF_GIVEN_UP = {CHOSEN: PRIVATE, SHOWN: LEAVING, HOMING_IN_PLACE: LEAVING, HOMING: LEAVING} | DROPPED
-SHOWING = {SHOWN, HOMING_IN_PLACE, HOMING}
+# It is to get memory of its own; it shows its frame.
+HOMES = {HOMING_IN_PLACE, HOMING}
+SHOWING = {SHOWN} | HOMES
 WITH_FRAME = {READY, HELD, EQUAL, LETTING_GO} | SHOWING
 WITH_SLOT = WITH_FRAME | {LEAVING}
 # Writes to the page may wait.
@@ -220,6 +222,31 @@ class Page:
         if self.shows_past():
             self.same = False
             self.forget()
+
+    def comes_home(self) -> bool:
+        """A copy in its place brings it home."""
+        return self.belief in HOMES or self.shows_past()
+
+    def order_home(self, facts: Facts) -> None:
+        """It gets its order, if it shows its frame."""
+        if self.belief in SHOWING:
+            self.next(facts)
+
+    def take_home(self, outcome: str) -> None:
+        """What came of its order to get memory of its own."""
+        if self.belief in HOMES:
+            self.take(outcome)
+
+    def moved_home(self) -> None:
+        self.take_home(DONE)
+        self.forget()
+
+    def copied_home(self) -> None:
+        self.take_home(DONE)
+        self.stop_past()
+
+    def refused_home(self) -> None:
+        self.take_home(REFUSED)
 
     def give_up(self) -> None:
         """Its content was given up."""

@@ -4,6 +4,8 @@ from __future__ import annotations
 import random
 from collections.abc import Iterable, Sequence
 
+from common.most import ENTRIES, RING
+
 
 def content(rng: random.Random) -> tuple[int, bytes]:
     """The place and bytes of a store: mostly of few kinds, so that pages come to be equal."""
@@ -67,7 +69,7 @@ def script(rng: random.Random, most: int = 300) -> tuple[str, int]:
         line, count = scan(rng, pages) if rng.random() < 0.1 else (request(rng, pages), 1)
         lines.append(line)
         total += count
-    ring = rng.choice([1, 1, 2, 3, 8, 64, 65536 if len(pages) < 6 else 64])
-    room = total if rng.random() < 0.5 else min(16777216, total + rng.randrange(1000))
+    ring = rng.choice([1, 1, 2, 3, 8, 64, RING if len(pages) < 6 else 64])
+    room = total if rng.random() < 0.5 else min(ENTRIES, total + rng.randrange(1000))
     head = header("script", rng.random() < 0.3, frames, pages, salts)
     return text_of([*head, f"ring {ring}", f"journal {room}"], lines), total

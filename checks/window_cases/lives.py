@@ -72,7 +72,10 @@ class Life:
 
     def note(self, name: str, place: int, *words: Any) -> None:
         """A call for pages in a row, of which there is one here."""
-        self.seen.holds(name, self.library.call(name, self.pages, PAGES, self.counts, 1, 0, place, 1, *words))
+        kept = name in ("cover", "uncover", "detach")
+        given = [self.library.array("part", [()]), 1] if kept else []
+        taken = [self.library.make("size_t")] if kept else []
+        self.seen.holds(name, self.library.call(name, self.pages, PAGES, self.counts, 1, 0, *given, place, 1, *words, *taken))
 
     def must(self, event: Event) -> None:
         self.seen.holds(f"{event} is possible", self.windows.apply(event))

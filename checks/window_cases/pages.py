@@ -3,6 +3,7 @@ from __future__ import annotations
 
 import collections
 import random
+from collections.abc import Callable
 from typing import Any
 
 from common.compared import Compared
@@ -47,6 +48,17 @@ class Table:
         """A call for pages in a row."""
         self.seen.holds(name, self.library.call(name, self.pages, PAGES, self.parts, 2, LEAD, first, count, *words))
 
+    def call_kept(self, name: str, first: int, count: int, *words: Any) -> None:
+        """A call for pages in a row, by which a number of mappings changes as that of all of them does."""
+        parts, _ = self.some_parts()
+        others = self.chance.randrange(3)
+        before = self.library.call("mappings_at", self.pages, PAGES, parts, 2, LEAD, 0, PAGES)
+        mappings = self.library.make("size_t")
+        mappings.value = others + before
+        called = self.library.call(name, self.pages, PAGES, self.parts, 2, LEAD, parts, 2, first, count, *words, mappings)
+        after = self.library.call("mappings_at", self.pages, PAGES, parts, 2, LEAD, 0, PAGES)
+        self.seen.equal(name, (called, mappings.value), (True, others + after))
+
     # ---- calls for one page ----
 
     def choose(self, at: int) -> None:
@@ -79,17 +91,14 @@ class Table:
 
     def note(self, at: int) -> None:
         """Notes something of the page's content, or takes its order back."""
-        is_so, which, known = self.chance.random() < 0.5, self.chance.randrange(5), self.known[at]
+        is_so, which, known = self.chance.random() < 0.5, self.chance.randrange(4), self.known[at]
         if which == 0:
             self.call("give_back", at, is_so)
             known.give_back(is_so)
         elif which == 1:
-            self.call("stop_past", at)
-            known.stop_past()
-        elif which == 2:
             self.call("see", at, is_so)
             known.seen = is_so
-        elif which == 3:
+        elif which == 2:
             self.call("forget", at)
             known.forget()
         else:
@@ -114,12 +123,12 @@ class Table:
         known = self.known[first : first + count]
         if self.chance.random() < 0.5:
             frame = self.chance.choice([self.chance.randrange(2**32 - PAGES), 32768 * self.chance.randrange(4) - 2 & 0xFFFFFF])
-            self.call_many("cover", first, count, frame)
+            self.call_kept("cover", first, count, frame)
             for behind, page in enumerate(known):
                 page.cover(frame + behind)
         else:
             moved = self.chance.random() < 0.5
-            self.call_many("uncover", first, count, moved)
+            self.call_kept("uncover", first, count, moved)
             for behind, page in enumerate(known):
                 page.uncover(moved, moved and behind == 0)
         if count and first + count < PAGES:
@@ -127,26 +136,61 @@ class Table:
 
     def end(self, first: int, count: int) -> None:
         """The content of pages, their places or their lender is gone."""
-        which = self.chance.choice(["unmap", "leave", *["detach"] * 6, "give_up", "give_up"])
-        self.call_many(which, first, count)
+        which = self.chance.choice(["unmap", "leave", *["detach"] * 12, "give_up", "give_up"])
+        (self.call_kept if which in ("unmap", "detach") else self.call_many)(which, first, count)
         for page in self.known[first : first + count]:
             getattr(page, which)()
 
-    def ask(self, first: int, count: int) -> None:
-        """What changes nothing: of each page by its own facts, and of pages in a row."""
+    def some_table(self) -> tuple[list[Any], Callable[[int, Facts], Facts]]:
+        """What is so of the window and its pins, for the library; and what is so of a page by that."""
         chance, library = self.chance, self.library
         pins = [chance.choice([0, 0, 0, 1]) for _ in range(chance.choice([0, 0, PAGES]))]
         bits = [chance.random() < 0.05 for _ in range(5)]
         table = library.make("table_facts", elsewhere=chance.choice([0, 0, 0, 1]))
         table.may_pin, table.inherited, table.locked, table.ends, table.is_over = bits
-        why = some_facts(chance)
 
         def facts_of(page: int, why: Facts) -> Facts:
             pinned = why.pinned or (page < len(pins) and pins[page] > 0)
             return Facts(why.called, pinned, why.may_pin or bits[0] or table.elsewhere > 0, why.inherited or bits[1], why.locked or bits[2],
                          why.leaves, why.ended or bits[3] or bits[4])
 
-        given = [table, library.array("uint16_t", pins), len(pins)]
+        return [table, library.array("uint16_t", pins), len(pins)], facts_of
+
+    def home(self, first: int, count: int) -> None:
+        """Pages get memory of their own, or are to."""
+        known, which = self.known[first : first + count], self.chance.randrange(4)
+        if which == 0:
+            given, facts_of = self.some_table()
+            why = some_facts(self.chance)
+            words = (self.pages, PAGES, self.parts, 2, LEAD, *given, self.facts(why), first, count)
+            self.seen.holds("order_home", self.library.call("order_home", *words))
+            for place, page in enumerate(known):
+                page.order_home(facts_of(first + place, why))
+        else:
+            name = ("moved_home", "copied_home", "refused_home")[which - 1]
+            self.call_many(name, first, count)
+            for page in known:
+                getattr(page, name)()
+
+    def ask_home(self, first: int, count: int) -> None:
+        """Which pages stay where they are, and which come home where they are."""
+        given, facts_of = self.some_table()
+        why, is_there = some_facts(self.chance), first + count <= PAGES
+        were = [self.chance.random() < 0.5 for _ in range(count)]
+        found = self.library.array("bool", were)
+        said = self.library.call("find_staying", self.pages, PAGES, *given, self.facts(why), first, found, count)
+        due = [self.known[first + at].stays(facts_of(first + at, why), was) for at, was in enumerate(were)] if is_there else were
+        self.seen.equal("find_staying", (said, values_of(found)[:count]), (is_there, tuple(due)))
+        found = self.library.array("bool", were)
+        said = self.library.call("find_coming", self.pages, PAGES, first, found, count)
+        due = [self.known[first + at].comes_home() for at in range(count)] if is_there else were
+        self.seen.equal("find_coming", (said, values_of(found)[:count]), (is_there, tuple(due)))
+
+    def ask(self, first: int, count: int) -> None:
+        """What changes nothing: of each page by its own facts, and of pages in a row."""
+        chance, library = self.chance, self.library
+        given, facts_of = self.some_table()
+        why = some_facts(chance)
         found = library.make("facts")
         library.call("find_facts", *given, self.facts(why), first, found)
         self.seen.equal("find_facts", values_of(found), tuple(getattr(facts_of(first, why), name) for name in FACTS))
@@ -170,10 +214,13 @@ class Table:
         ):
             self.seen.equal(name, self.library.call(name, self.pages, PAGES), [*due, False].index(False))
 
-    def mappings(self, first: int, count: int) -> None:
-        """How many mappings the pages take, where some parts are whole."""
+    def some_parts(self) -> tuple[Any, list[bool]]:
+        """Two parts, of which some are whole, and which."""
         whole = [self.chance.random() < 0.5 for _ in range(2)]
-        parts = self.library.array("part", [(it, 0, 0, 0, 0, False, False, 0) for it in whole])
+        return self.library.array("part", [(it, 0, 0, 0, 0, False, False, 0) for it in whole]), whole
+
+    def begun(self, whole: list[bool]) -> list[bool]:
+        """At which pages a mapping begins."""
 
         def are_one(at: int) -> bool:
             one, other = self.known[at - 1], self.known[at]
@@ -183,11 +230,50 @@ class Table:
                 return one.past == other.past and (one.clue + 1) % 32768 == other.clue
             return one.moved == other.moved and not other.begins and whole[self.part_of(at - 1)] == whole[self.part_of(at)]
 
-        begins = [at == 0 or not are_one(at) for at in range(PAGES)]
-        due = sum(begins[first : first + count + 1])
+        return [at == 0 or not are_one(at) for at in range(PAGES)]
+
+    def mappings(self, first: int, count: int) -> None:
+        """How many mappings the pages take, where some parts are whole."""
+        parts, whole = self.some_parts()
+        due = sum(self.begun(whole)[first : first + count + 1])
         words = (self.pages, PAGES, parts, 2, LEAD, first, count)
         self.seen.equal("mappings_at", self.library.call("mappings_at", *words), due)
         self.seen.equal("mappings_more", self.library.call("mappings_more", *words), min(count + 1, PAGES - first) - due)
+
+    def zeros(self, first: int, count: int) -> None:
+        """Whether there is room for zeros in place of pages, and how they are given up. Then zeros are put there, if the pages are there."""
+        chance, (parts, whole) = self.chance, self.some_parts()
+        words = (self.pages, PAGES, parts, 2, LEAD, first, count)
+        behind, most, taken, is_watched = first + count, chance.randrange(6), chance.randrange(6), chance.random() < 0.5
+        is_there = behind <= PAGES
+
+        def may_join(at: int) -> bool:
+            page = self.known[at]
+            return not page.over and not page.out and whole[self.part_of(at)] == whole[self.part_of(first)]
+
+        def joins(at: int) -> bool:
+            return may_join(at) and not self.known[at].moved
+
+        before = sum(self.begun(whole)[first : behind + 1])
+        after = int(first == 0 or not joins(first - 1)) + int(behind < PAGES and not joins(behind))
+        more = max(0, after - before)
+        has_room = is_there and (more == 0 or taken + more <= most)
+        self.seen.equal("has_room_for_zeros", self.library.call("has_room_for_zeros", *words, most, taken), has_room)
+        over = self.known[first].over
+        due = int((over or (not is_watched and before > 2)) and has_room) + 2 * int(over)
+        self.seen.equal("given_up_by", self.library.call("given_up_by", *words, is_watched, most, taken), due)
+        is_said, mappings = chance.random() < 0.5, self.library.make("size_t")
+        mappings.value = before
+        called = self.library.call("put_zeros", self.pages, PAGES, self.parts, 2, LEAD, parts, 2, first, count, is_said, mappings)
+        if is_there:
+            alone = not (first > 0 and may_join(first - 1)) and not (behind < PAGES and may_join(behind))
+            moved = alone or not is_said
+            for at, page in enumerate(self.known[first:behind]):
+                page.uncover(moved, moved and at == 0)
+            if count and behind < PAGES:
+                self.known[behind].begin()
+        due = sum(self.begun(whole)[first : behind + 1])
+        self.seen.equal("put_zeros", (called, mappings.value), (is_there, due))
 
     # ---- all of them ----
 
@@ -205,17 +291,20 @@ class Table:
             self.hear(at)
         elif which < 106:
             self.ask(at, self.chance.randrange(PAGES + 2))
+            self.ask_home(at, self.chance.randrange(PAGES + 2))
         elif which < 108:
             self.mappings(at, self.chance.randrange(PAGES + 2))
             self.ask_runs()
-        elif which < 111:
+        elif which < 110:
             self.put(at, count)
+        elif which < 111:
+            self.zeros(at, self.chance.randrange(PAGES + 2 - at))
         elif which < 117:
             self.note(at)
         elif which < 121:
             self.look(at)
         elif which < 126:
-            self.choose(at)
+            self.home(at, count)
         else:
             self.end(at, count)
         self.check(which)

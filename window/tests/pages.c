@@ -666,6 +666,37 @@ static void odd_lenders(void) {
     munmap(at, PAGES * PAGE);
 }
 
+/* A lender that notes whether a batch's last page is lent first. */
+static struct {
+    const struct window_lender *own;
+    bool fell;
+} in_order;
+
+static int lend_in_order(void *opaque, const uint32_t *numbers, size_t count, struct window_loan *loans) {
+    in_order.fell = in_order.fell || (count > 1 && numbers[0] > numbers[1]);
+    return in_order.own->lend(opaque, numbers, count, loans);
+}
+
+/* Pages that join frames from the last one to the first say nothing of the frames to come: new pages in a row get frames in a row. */
+static void frames_that_fall(void) {
+    enum { SOME = PAGES / 4 };
+    FIXTURE(&never_pinned, PAGES, PAGES);
+    struct window_lender lender = *lender_interface(fixture.lender);
+    in_order.own = lender_interface(fixture.lender);
+    lender.lend = lend_in_order;
+    windows_detach(fixture.windows);
+    must(windows_attach(fixture.windows, &lender), "windows_attach");
+    for (size_t i = 0; i < SOME; i++) memset(at + i * PAGE, (int)i + 1, PAGE), memset(at + (SOME + i) * PAGE, (int)i + 1, PAGE);
+    check(look_until(&fixture, 2 * SOME) == 2 * SOME, "pages are lent");
+    for (size_t i = 0; i < SOME; i++) memset(at + (2 * SOME + i) * PAGE, (int)(SOME - i), PAGE);
+    check(look_until(&fixture, 3 * SOME) == 3 * SOME, "others join their frames the other way round");
+    for (size_t i = 0; i < SOME; i++) memset(at + (3 * SOME + i) * PAGE, (int)(SOME + 1 + i / 2), PAGE);
+    check(look_until(&fixture, PAGES) == PAGES, "new ones are lent");
+    check(!in_order.fell, "the first of them first");
+    fixture_end(&fixture, window);
+    munmap(at, PAGES * PAGE);
+}
+
 /* A lender whose first reply to a lend is lost. */
 static struct {
     const struct window_lender *own;
@@ -828,12 +859,15 @@ static void places(void) {
     page_entry pages[2] = {{.belief = PAGESHARE_WINDOW_PRIVATE}};
     const page_entry *page = &pages[1];
     struct pageshare_window_counts part = {0};
-    check(pageshare_window_cover(pages, 2, &part, 1, 0, 0, 2, 320), "frames are mapped");
+    const struct pageshare_window_part split = {.whole = false};
+    size_t mappings = 1;
+    check(pageshare_window_cover(pages, 2, &part, 1, 0, &split, 1, 0, 2, 320, &mappings), "frames are mapped");
     check(is_over(page) && clue_in(page) == 321 && !is_past(page) && !shows_past(page), "a frame lies under a page");
-    check(pageshare_window_uncover(pages, 2, &part, 1, 0, 0, 2, true), "memory is moved");
+    check(pageshare_window_uncover(pages, 2, &part, 1, 0, &split, 1, 0, 2, true, &mappings), "memory is moved");
     check(!is_over(page) && is_moved(page) && !begins_moved(page) && clue_in(page) == 0, "its memory was moved there");
     check(begins_moved(&pages[0]), "the first page begins what was moved");
-    check(pageshare_window_uncover(pages, 2, &part, 1, 0, 0, 1, false), "memory is mapped at the place of the first one");
+    check(pageshare_window_uncover(pages, 2, &part, 1, 0, &split, 1, 0, 1, false, &mappings), "the first one's memory is mapped");
+    check(mappings == 2, "it is in another mapping");
     check(!is_moved(&pages[0]) && begins_moved(page), "the page behind it begins what was moved");
     pageshare_window_give_back(&pages[1], &part, true);
     check(is_given_back(page) && part.zeros == 1, "it was given back");
@@ -851,9 +885,10 @@ static bool are_in_a_row(uint32_t frame, uint32_t next) {
     page_entry pages[2] = {{.belief = PAGESHARE_WINDOW_PRIVATE}};
     struct pageshare_window_counts counts = {0};
     const struct pageshare_window_part part = {.whole = false};
-    pageshare_window_cover(pages, 2, &counts, 1, 0, 0, 1, frame);
-    pageshare_window_cover(pages, 2, &counts, 1, 0, 1, 1, next);
-    return pageshare_window_mappings_at(pages, 2, &part, 1, 0, 0, 2) == 1;
+    size_t mappings = 1;
+    pageshare_window_cover(pages, 2, &counts, 1, 0, &part, 1, 0, 1, frame, &mappings);
+    pageshare_window_cover(pages, 2, &counts, 1, 0, &part, 1, 1, 1, next, &mappings);
+    return mappings == 1;
 }
 
 /* Frames in a row are one mapping, but at each multiple of 32,768. Those at about the same place of two machines are not. */
@@ -920,6 +955,7 @@ int main(void) {
     lenders();
     changes();
     odd_lenders();
+    frames_that_fall();
     lost_replies();
     glances();
     samples();

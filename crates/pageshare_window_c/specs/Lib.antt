@@ -3,5 +3,6 @@ pub mod Holds
 pub mod Looks
 pub mod Pages
 pub mod Parts
+pub mod Rooms
 pub mod Sessions
 pub mod Tasks

@@ -21,14 +21,15 @@ ghost use Rattle.page_looks.specs.Parts.{order_of, part_then};
 ghost use Rattle.window_pages.specs.Runs.{is_here_as, lies_as};
 ghost use Rattle.pageshare_window_c.specs.Budgets.{ledger_of, rates};
 ghost use Rattle.window_pages.specs.Bytes.{known_of, notes_of};
-ghost use Rattle.window_pages.specs.Changed.{Becomes, Lends, given_back, lender_with, no_past};
+ghost use Rattle.window_pages.specs.Changed.{Becomes, Lends, given_back, lender_with};
 ghost use Rattle.window_pages.specs.Counted.{counts_then};
-ghost use Rattle.window_pages.specs.Known.{bars_of, chosen_as, lender_of, no_bars, shows_past, stays};
+ghost use Rattle.window_pages.specs.Known.{bars_of, chosen_as, lender_of, no_bars, stays};
 ghost use Rattle.pageshare_window_c.specs.Pages.{Takes, number_of};
 ghost use Rattle.pageshare_window_c.specs.Parts.{part_number};
 
 mod budget;
 mod holds;
+pub mod home;
 mod laws;
 mod lend;
 mod looks;
@@ -65,12 +66,12 @@ pub use page_looks::parts::{Part, PartConfig, PartLook};
 use part::part_number;
 pub use pins::{pageshare_window_begin_transfer, pageshare_window_end_transfer, pageshare_window_pin, pageshare_window_unpin};
 pub use ranges::{pageshare_window_bounds, pageshare_window_is_all_left};
-pub use scan::{pageshare_window_begin_scan, pageshare_window_follow_changes, pageshare_window_glance_numbers, pageshare_window_scan_done};
+pub use scan::{pageshare_window_begin_scan, pageshare_window_follow_changes, pageshare_window_glance_numbers, pageshare_window_left_over, pageshare_window_scan_done};
 pub use tables::{pageshare_window_are_movable, pageshare_window_cover, pageshare_window_detach, pageshare_window_find_facts, pageshare_window_give_up, pageshare_window_leave, pageshare_window_may_give_up, pageshare_window_may_go_on, pageshare_window_uncover, pageshare_window_unmap};
 pub use tasks::{WindowTask, pageshare_window_begin_tasks, pageshare_window_next_task, pageshare_window_task_done};
 pub use times::{pageshare_window_be_eager, pageshare_window_begin_times, pageshare_window_look_ended, pageshare_window_pause_ms};
 pub use window_pages::{PartCounts, WindowFacts, WindowPage};
-use window_pages::{alike, choose, forget, give_back, hear, here, is_free, next, see, stays, stop_past, take, withdraw};
+use window_pages::{alike, choose, forget, give_back, hear, here, is_free, next, see, stays, take, withdraw};
 pub use window_tables::TableFacts;
 pub use window_tables::pins::Transfer;
 
@@ -295,14 +296,6 @@ pub extern "C" fn pageshare_window_give_back(
     ensures { Becomes (given_back is_zeros (known_of page.old)) false page.old page.new part.old part.new }
 {
     give_back(page, part, is_zeros);
-}
-
-/// Notes that a page shows no frame of a lender that is gone.
-#[unsafe(no_mangle)]
-pub extern "C" fn pageshare_window_stop_past(page: &mut WindowPage, part: &mut PartCounts)
-    ensures { Becomes (no_past (known_of page.old)) (shows_past (known_of page.old)) page.old page.new part.old part.new }
-{
-    stop_past(page, part);
 }
 
 /// Notes that what looks have found of a page counts no more.

@@ -5,12 +5,16 @@ ghost use Rattle.page_lender.specs.Events.{IsFree, ShowsNone};
 ghost use Rattle.window_pages.specs.Bytes.{belief_of, known_of};
 ghost use Rattle.window_pages.specs.Known.{bars_of};
 ghost use Rattle.window_tables.specs.Facts.{facts_at, only_called};
+ghost use Rattle.window_tables.specs.Mappings.{kept_then, mappings_at};
 ghost use Rattle.window_tables.specs.Ranges.{Each, all_at, goes_on, has_pages, moves};
 ghost use Rattle.window_tables.specs.Tables.{Notes};
 ghost use Rattle.window_tables.specs.declared.changes.Change.TheVariants as Change;
 
+use page_looks::parts::Part;
 use window_pages::{PartCounts, WindowFacts, WindowPage};
-use window_tables::{Change, TableFacts, are_movable, facts_of, may_give_up, may_go_on, note};
+use window_tables::{
+    Change, TableFacts, are_movable, facts_of, may_give_up, may_go_on, note, note_kept,
+};
 
 /// Finds what is so of a page: of its window and its process, of its pins, and what is so besides (`why`). `pins` has how often each page was
 /// pinned, and is empty if none was yet.
@@ -75,38 +79,64 @@ pub extern "C" fn pageshare_window_are_movable(
     are_movable(pages, table, pins, first, count)
 }
 
-/// Notes that frames in a row were mapped at the places of so many pages, of which the first has this number. The page behind them begins
-/// what was moved, if it was moved. Returns false, and notes nothing, if these pages aren't all there, or if the table has more pages than
-/// its parts.
+/// Notes that frames in a row were mapped at the places of so many pages, of which the first has this number, and how many mappings there are then.
+/// The page behind them begins what was moved, if it was moved. Returns false, and notes nothing, if these pages aren't all there, or if the table
+/// has more pages than its parts.
 #[unsafe(no_mangle)]
 pub extern "C" fn pageshare_window_cover(
     pages: &mut [WindowPage],
     parts: &mut [PartCounts],
     lead: usize,
+    wholes: &[Part],
     first: usize,
     count: usize,
     frame: u32,
+    mappings: &mut usize,
 ) -> bool
-    ensures { Notes (Change.Covered frame) lead first count result pages.old pages.new parts.old parts.new }
+    ensures notes { Notes (Change.Covered frame) lead first count result pages.old pages.new parts.old parts.new }
+    ensures mappings { result ≡ true → mappings.new ≡ kept_then mappings.old (mappings_at lead wholes.now pages.old first count) (mappings_at lead wholes.now pages.new first count) }
+    ensures same { result ≡ false → mappings.new ≡ mappings.old }
 {
-    note(pages, parts, lead, first, count, Change::Covered(frame))
+    note_kept(
+        pages,
+        parts,
+        lead,
+        wholes,
+        first,
+        count,
+        Change::Covered(frame),
+        mappings,
+    )
 }
 
-/// Notes that memory of their own was put at the places of so many pages: it was moved there all at once, or it was mapped. The page behind
-/// them begins what was moved, if it was moved. Returns false, and notes nothing, if these pages aren't all there, or if the table has more
-/// pages than its parts.
+/// Notes that memory of their own was put at the places of so many pages, moved there all at once, or mapped; and how many mappings there are then.
+/// The page behind them begins what was moved, if it was moved. Returns false, and notes nothing, if these pages aren't all there, or if the table
+/// has more pages than its parts.
 #[unsafe(no_mangle)]
 pub extern "C" fn pageshare_window_uncover(
     pages: &mut [WindowPage],
     parts: &mut [PartCounts],
     lead: usize,
+    wholes: &[Part],
     first: usize,
     count: usize,
     moved: bool,
+    mappings: &mut usize,
 ) -> bool
-    ensures { Notes (Change.Uncovered moved) lead first count result pages.old pages.new parts.old parts.new }
+    ensures notes { Notes (Change.Uncovered moved) lead first count result pages.old pages.new parts.old parts.new }
+    ensures mappings { result ≡ true → mappings.new ≡ kept_then mappings.old (mappings_at lead wholes.now pages.old first count) (mappings_at lead wholes.now pages.new first count) }
+    ensures same { result ≡ false → mappings.new ≡ mappings.old }
 {
-    note(pages, parts, lead, first, count, Change::Uncovered(moved))
+    note_kept(
+        pages,
+        parts,
+        lead,
+        wholes,
+        first,
+        count,
+        Change::Uncovered(moved),
+        mappings,
+    )
 }
 
 /// Notes that the content of so many pages was given up. Returns false, and notes nothing, if these pages aren't all there, or if the table
@@ -124,19 +154,32 @@ pub extern "C" fn pageshare_window_give_up(
     note(pages, parts, lead, first, count, Change::GivenUp)
 }
 
-/// Notes that so many pages were unmapped, or that something else was mapped in their place. They have left their window. Returns false,
-/// and notes nothing, if these pages aren't all there, or if the table has more pages than its parts.
+/// Notes that so many pages were unmapped, or that something else was mapped in their place, and how many mappings there are then. They have left
+/// their window. Returns false, and notes nothing, if these pages aren't all there, or if the table has more pages than its parts.
 #[unsafe(no_mangle)]
 pub extern "C" fn pageshare_window_unmap(
     pages: &mut [WindowPage],
     parts: &mut [PartCounts],
     lead: usize,
+    wholes: &[Part],
     first: usize,
     count: usize,
+    mappings: &mut usize,
 ) -> bool
-    ensures { Notes Change.Unmapped lead first count result pages.old pages.new parts.old parts.new }
+    ensures notes { Notes Change.Unmapped lead first count result pages.old pages.new parts.old parts.new }
+    ensures mappings { result ≡ true → mappings.new ≡ kept_then mappings.old (mappings_at lead wholes.now pages.old first count) (mappings_at lead wholes.now pages.new first count) }
+    ensures same { result ≡ false → mappings.new ≡ mappings.old }
 {
-    note(pages, parts, lead, first, count, Change::Unmapped)
+    note_kept(
+        pages,
+        parts,
+        lead,
+        wholes,
+        first,
+        count,
+        Change::Unmapped,
+        mappings,
+    )
 }
 
 /// Notes that so many pages have left their window, with what they contain. Returns false, and notes nothing, if these pages aren't all
@@ -154,17 +197,30 @@ pub extern "C" fn pageshare_window_leave(
     note(pages, parts, lead, first, count, Change::Left)
 }
 
-/// Notes that the lender of so many pages is gone, and no slot of theirs counts any more. What they show stays. Returns false, and notes
-/// nothing, if these pages aren't all there, or if the table has more pages than its parts.
+/// Notes that the lender of so many pages is gone, and how many mappings there are then. No slot of theirs counts any more, and what they show stays.
+/// Returns false, and notes nothing, if these pages aren't all there, or if the table has more pages than its parts.
 #[unsafe(no_mangle)]
 pub extern "C" fn pageshare_window_detach(
     pages: &mut [WindowPage],
     parts: &mut [PartCounts],
     lead: usize,
+    wholes: &[Part],
     first: usize,
     count: usize,
+    mappings: &mut usize,
 ) -> bool
-    ensures { Notes Change.Detached lead first count result pages.old pages.new parts.old parts.new }
+    ensures notes { Notes Change.Detached lead first count result pages.old pages.new parts.old parts.new }
+    ensures mappings { result ≡ true → mappings.new ≡ kept_then mappings.old (mappings_at lead wholes.now pages.old first count) (mappings_at lead wholes.now pages.new first count) }
+    ensures same { result ≡ false → mappings.new ≡ mappings.old }
 {
-    note(pages, parts, lead, first, count, Change::Detached)
+    note_kept(
+        pages,
+        parts,
+        lead,
+        wholes,
+        first,
+        count,
+        Change::Detached,
+        mappings,
+    )
 }

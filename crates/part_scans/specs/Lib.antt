@@ -1,2 +1,3 @@
+pub mod LeftOver
 pub mod Scans
 pub mod Seen

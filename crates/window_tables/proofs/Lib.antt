@@ -1,6 +1,7 @@
 mod Behind
 pub mod Counts
 mod Differences
+mod Homing
 mod NewTables
 mod Paired
 mod PinCounts

@@ -1,9 +1,11 @@
 pub mod Changes
 pub mod Facts
+pub mod Homes
 pub mod Laws
 pub mod Mappings
 pub mod PinLaws
 pub mod Pins
 pub mod Ranges
+pub mod Rooms
 pub mod Tables
 pub mod Transfers

@@ -1,9 +1,10 @@
 -- How many mappings of the system a window's pages take.
-use Rattle.std.specs.Prelude.{◌≡◌, ℕ, zero, suc, ◌+◌, ◌-◌, ◌%◌, ◌≤◌, min, Bool, false, true, not, ◌&&◌, ◌||◌, ◌==◌, List, length, Option, None, Some, slice_get}
+use Rattle.std.specs.Prelude.{◌≡◌, ℕ, zero, suc, ◌+◌, ◌-◌, ◌%◌, ◌^◌, ◌≤◌, min, Bool, false, true, not, ◌&&◌, ◌||◌, ◌==◌, nat_lt, List, length, Option, None, Some, slice_get, slice_set}
 use Rattle.std.specs.Option.{option_map, option_map_or}
 use Rattle.window_pages.specs.Bytes.{digit, known_of, notes_of}
 use Rattle.window_pages.specs.Runs.{same}
 use Rattle.window_pages.specs.declared.page.WindowPage.{WindowPage}
+use Rattle.window_tables.specs.Ranges.{has_pages}
 use Rattle.window_tables.specs.Tables.{part_at}
 use Rattle.page_looks.specs.declared.parts.part.Part.{Part}
 
@@ -96,3 +97,17 @@ pub record StaysOutside (lead first count : ℕ) (parts parts_new : List Part) (
   pub before : (i : ℕ) → suc i ≤ first → mapped_at lead parts_new new i ≡ mapped_at lead parts old i
   pub behind : option_map unmarked (mapped_at lead parts_new new (first + count)) ≡ option_map unmarked (mapped_at lead parts old (first + count))
   pub beyond : (i : ℕ) → suc (first + count) ≤ i → mapped_at lead parts_new new i ≡ mapped_at lead parts old i
+
+-- a number of mappings that is kept, once there are others of some pages than before
+abbrev pub kept_then : ℕ → ℕ → ℕ → ℕ
+kept_then n before after = min (2 ^ 64 - 1) (n - before + after)
+
+-- so many pages from one on are a whole part of the table
+abbrev pub is_part : ℕ → ℕ → List WindowPage → List Part → Bool
+is_part lead first pages parts = has_pages first 512 pages && (nat_lt lead 512 && (((first + lead) % 512 == 0) && nat_lt (part_at lead first) (length parts)))
+
+-- One part is whole from now on, or split.
+pub record IsSet (is_whole : Bool) (lead first : ℕ) (parts parts_new : List Part) : Type 0 where
+  pub part : Part
+  pub there : slice_get parts (part_at lead first) ≡ Some part
+  pub set : parts_new ≡ slice_set parts (part_at lead first) (record part { whole = is_whole })

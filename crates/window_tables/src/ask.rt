@@ -29,7 +29,7 @@ enum Question {
 }
 
 // A window of which nothing is so.
-const NO_FACTS: TableFacts = TableFacts {
+pub(crate) const NO_FACTS: TableFacts = TableFacts {
     elsewhere: 0,
     may_pin: false,
     inherited: false,
@@ -39,7 +39,7 @@ const NO_FACTS: TableFacts = TableFacts {
 };
 
 // Returns that nothing is so of a page, but perhaps that a call of the monitor changes it.
-fn only_called(called: bool) -> WindowFacts
+pub(crate) fn only_called(called: bool) -> WindowFacts
     ensures { result ≡ only_called called }
 {
     WindowFacts {

@@ -13,7 +13,7 @@ use window_pages::WindowPage;
 const CLUES: u16 = 32_768;
 
 // Returns whether both are so, or neither.
-fn same(one: bool, other: bool) -> bool
+pub(crate) fn same(one: bool, other: bool) -> bool
     ensures { result ≡ same one other }
 {
     if one { other } else { !other }
@@ -42,7 +42,7 @@ fn is_one(before: &WindowPage, was_whole: bool, page: &WindowPage, is_whole: boo
 }
 
 // Returns whether the part of a page is whole. One that isn't there isn't.
-fn is_whole(parts: &[Part], lead: usize, place: usize) -> bool
+pub(crate) fn is_whole(parts: &[Part], lead: usize, place: usize) -> bool
     ensures { result ≡ is_whole lead parts.now place }
 {
     // (the sum of the two may not fit)

@@ -7,7 +7,7 @@ use std::alloc::Global;
 use std::process::Abort;
 use worked_answers::Answer;
 
-/// What is seen of a machine of two guests. The second has few pages.
+/// What is seen of a machine of two guests.
 #[derive(Clone, Copy)]
 struct Seen {
     report: [u32; 6],
@@ -15,29 +15,11 @@ struct Seen {
     frames: [Option<u32>; 3],
     /// How many frames are taken, and how many there are.
     taken: [u32; 2],
-    /// How many guests there are, and how many pages guest 1 has.
-    guests: u8,
-    pages: u32,
-    /// The first and the last byte of guest 1's page 0.
-    bytes: [u8; 2],
 }
 
 fn taken(core: &Core<Sha256Hash>) -> [u32; 2] {
     let frames = core.frames();
     [frames.used(), frames.total()]
-}
-
-/// Returns a byte of a page.
-fn byte(rt: &impl Abort, core: &Core<Sha256Hash>, guest: u8, ppn: u32, at: u32) -> u8 {
-    holds(rt, guest < core.guests());
-    holds(rt, ppn < core.pages(guest));
-    holds(rt, at < 4096);
-    core.read(guest, ppn, at)
-}
-
-fn pages(rt: &impl Abort, core: &Core<Sha256Hash>, guest: u8) -> u32 {
-    holds(rt, guest < core.guests());
-    core.pages(guest)
 }
 
 /// Returns what is seen once these lines are served.
@@ -51,9 +33,6 @@ fn look(rt: &impl Abort, core: &mut Core<Sha256Hash>, lines: &[Line]) -> Seen {
             frame(rt, core, 1, 0),
         ],
         taken: taken(core),
-        guests: core.guests(),
-        pages: pages(rt, core, 1),
-        bytes: [byte(rt, core, 1, 0, 0), byte(rt, core, 1, 0, 4095)],
     }
 }
 
@@ -112,16 +91,4 @@ fn frames_stay(rt: HostRuntime) {
     let [hint, _, alone] = before.frames;
     holds(&rt, shared.frames == [hint, hint, alone]);
     holds(&rt, after.frames == [None, hint, alone]);
-}
-
-#[test]
-fn read(rt: HostRuntime) {
-    let [before, after, _] = seen_after(&rt, rt.alloc(), &[], &SHARE_THREE, &[]);
-    holds(&rt, before.guests == 2);
-    holds(&rt, before.pages == 1);
-    holds(&rt, before.bytes == [0, 0]);
-    holds(&rt, after.report == [6, 3, 3, 1, 2, 0]);
-    holds(&rt, after.guests == 2);
-    holds(&rt, after.pages == 1);
-    holds(&rt, after.bytes == [0x41, 0]);
 }

@@ -1,5 +1,5 @@
-//! Worked machines on one thread, served by the public calls of `merge_core`: their verdicts, reports, frames and tables.
-//! This crate has only tests.
+//! Worked requests, stores of pages and machines on one thread, by the public calls of `page_model` up to `merge_core`. Besides the
+//! tests it has one case of a law that no call shows, `copies`.
 #![tactic(auto)]
 
 #[cfg(test)]
@@ -8,8 +8,7 @@ mod asks;
 mod by_workers;
 #[cfg(test)]
 mod checks;
-#[cfg(test)]
-mod counts;
+pub mod copies;
 #[cfg(test)]
 mod foreseen;
 #[cfg(test)]
@@ -23,10 +22,12 @@ mod lending;
 #[cfg(test)]
 mod limits;
 #[cfg(test)]
+mod model;
+#[cfg(test)]
 mod refused;
 #[cfg(test)]
 mod room;
 #[cfg(test)]
-mod salts;
+mod stores;
 #[cfg(test)]
 mod tables;

@@ -7,8 +7,6 @@ mod beside;
 #[cfg(test)]
 mod checks;
 #[cfg(test)]
-mod clients;
-#[cfg(test)]
 mod counted;
 #[cfg(test)]
 mod fingerprints;

@@ -1,7 +1,7 @@
 //! Domains of the greatest sizes.
 use crate::checks::holds;
 use page_digest::FoldHash;
-use share_domain::{Domain, DomainConfig, DomainFault, NO_FRAME, Slot, frame_number, limit_fault};
+use share_domain::{Domain, DomainConfig, NO_FRAME, Slot};
 use std::process::Abort;
 
 /// As many machines and clients as there may be, of which some hundred enter.
@@ -20,29 +20,6 @@ fn many_clients_enter(rt: HostRuntime) {
         holds(&rt, domain.enter() == Some(client));
     }
     holds(&rt, domain.held_by(299) == 0);
-}
-
-/// The first number that no domain has is found. A frame's number differs from that of no frame.
-#[test]
-fn numbers_out_of_range(rt: HostRuntime) {
-    let mut config = DomainConfig {
-        machines: 64,
-        slots: 1_048_576,
-        frames: 1_048_576,
-        clients: 65_536,
-        salt: 7,
-    };
-    holds(&rt, limit_fault(&config).is_none());
-    config.clients = 0;
-    holds(&rt, limit_fault(&config) == Some(DomainFault::Clients));
-    config.frames = 1;
-    holds(&rt, limit_fault(&config) == Some(DomainFault::Frames));
-    config.slots = 1_048_577;
-    holds(&rt, limit_fault(&config) == Some(DomainFault::Slots));
-    config.machines = 65;
-    holds(&rt, limit_fault(&config) == Some(DomainFault::Machines));
-    holds(&rt, frame_number(None) == NO_FRAME);
-    holds(&rt, frame_number(Some(7)) == 7);
 }
 
 /// Two clients enter, and lend three equal pages.

@@ -1,5 +1,4 @@
 //! The messages and sessions of a host.
-mod dialogue;
 mod frames;
 mod limits;
 mod spelled;

@@ -1,6 +1,5 @@
-//! Worked estimates: a few pages counted under several hashes, reads that fail, refused memory, and what is written of given numbers.
-//!
-//! This crate has only tests.
+//! Worked estimates, digests and command lines: pages counted under several hashes, reads that fail, refused memory. This crate has
+//! only tests.
 #![tactic(auto)]
 
 #[cfg(test)]
@@ -8,6 +7,10 @@ mod censuses;
 #[cfg(test)]
 mod checks;
 #[cfg(test)]
+mod digests;
+#[cfg(test)]
 mod images;
 #[cfg(test)]
 mod texts;
+#[cfg(test)]
+mod words;

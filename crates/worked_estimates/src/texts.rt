@@ -1,8 +1,4 @@
-//! What is written for numbers, amounts and names.
-mod amounts;
+//! What is written for numbers and names.
 mod names;
 mod numbers;
-mod parts;
-mod reclaimed;
 mod refused;
-mod shares;

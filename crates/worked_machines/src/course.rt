@@ -152,11 +152,6 @@ pub fn play_to_end<A: Allocator>(rt: &impl Abort, course: Course<A>, rows: &[(Ca
     drop(play(rt, course, rows));
 }
 
-/// Makes the last calls, and settles the machine.
-pub fn play_and_settle<A: Allocator>(rt: &impl Abort, course: Course<A>, rows: &[(Call, Reply)]) {
-    drop(settled(rt, play(rt, course, rows)));
-}
-
 fn make_call<A: Allocator>(rt: &impl Abort, course: Course<A>, call: Call) -> (Course<A>, Reply) {
     let mut course = course;
     let reply = match call {

@@ -1,4 +1,4 @@
-//! Worked machines, served by the public calls of `merge_run` over the ports of `share_rings`.
+//! Worked rings, machines and runs, by the public calls of `share_rings` and `merge_run`.
 //! This crate has only tests.
 #![tactic(auto)]
 
@@ -10,8 +10,6 @@ mod checks;
 mod course;
 #[cfg(test)]
 mod dropped;
-#[cfg(test)]
-mod early;
 #[cfg(test)]
 mod limits;
 #[cfg(test)]
@@ -25,7 +23,11 @@ mod ports;
 #[cfg(test)]
 mod refused;
 #[cfg(test)]
+mod rings;
+#[cfg(test)]
 mod rounds;
+#[cfg(test)]
+mod runs;
 #[cfg(test)]
 mod sharing;
 #[cfg(test)]

@@ -93,11 +93,6 @@ pub fn run_to_the_end<A: Allocator>(rt: &impl Abort, course: Course<A>) {
     look_at_port(rt, &settled);
 }
 
-#[test]
-fn rings_of_one_item(rt: HostRuntime) {
-    run_to_the_end(&rt, made(&rt, rt.alloc(), 1, &[1], 1, 4));
-}
-
 /// Makes a machine, and runs it while every request for memory is refused.
 fn run_without_memory(rt: &impl Abort, heap: &Refusing) {
     let course = made(rt, heap, 1, &[1], 1, 4);

@@ -142,18 +142,6 @@ fn look_at_end<A: Allocator>(rt: &impl Abort, course: Course<A>) -> ([u8; 3], Se
     (before, look(rt, &settled))
 }
 
-#[test]
-fn equal_pages_of_two_guests(rt: HostRuntime) {
-    let course = share(&rt, made(&rt, rt.alloc(), 3, &[2, 1], 8, 16));
-    let (before, seen) = look_at_end(&rt, course);
-    equal(&rt, before, [b'A', b'A', b'A']);
-    equal(&rt, seen.numbers, [8, 3, 3, 1, 2, 0]);
-    equal(&rt, seen.sizes, [(2, 2), (2, 1)]);
-    equal(&rt, seen.first, [b'A', b'A', b'A']);
-    equal(&rt, seen.last, [0, 0, 0]);
-    holds(&rt, seen.is_one_frame);
-}
-
 /// Returns what is seen of a machine whose every request for memory is refused once it is made.
 fn copied_without_memory(rt: &impl Abort, heap: &Refusing) -> ([u8; 3], Seen) {
     let course = made(rt, heap, 3, &[2, 1], 8, 16);

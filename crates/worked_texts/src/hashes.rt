@@ -48,17 +48,7 @@ fn prints_alike<T: Threads + Wait + Sync, H: PageHash + Copy + Drop>(
 
 #[test]
 fn journals_by_first_byte(rt: HostRuntime) {
-    for row in [
-        journals::three_share(),
-        journals::copy_at_a_store(),
-        journals::last_reference(),
-        journals::frame_used_again(),
-        journals::stale_hint(),
-        journals::kept_hint(),
-        journals::hint_moved(),
-        journals::false_match(),
-        journals::false_match_again(),
-    ] {
+    for row in [journals::false_match(), journals::false_match_again()] {
         holds_at(
             &rt,
             row.name,
@@ -77,58 +67,24 @@ fn one_key_and_two_hashes(rt: HostRuntime) {
 }
 
 #[test]
-fn journals_by_a_weak_hash(rt: HostRuntime) {
-    for row in [
-        journals::weak_hash(),
-        journals::three_share(),
-        journals::last_reference(),
-    ] {
-        holds_at(
-            &rt,
-            row.name,
-            prints(&rt, rt.alloc(), Engine::Replay, &row, ZeroHash),
-        );
-    }
+fn a_journal_by_a_weak_hash(rt: HostRuntime) {
+    let row = journals::weak_hash();
+    holds(&rt, prints(&rt, rt.alloc(), Engine::Replay, &row, ZeroHash));
 }
 
 #[test]
 fn scripts_by_first_byte(rt: HostRuntime) {
-    for row in [
-        scripts::scan(),
-        scripts::two_guests(),
-        scripts::three_share(),
-        scripts::false_match(),
-    ] {
-        holds_at(
-            &rt,
-            row.name,
-            prints(&rt, rt.alloc(), Engine::Serial, &row, FirstByteHash),
-        );
-    }
-    for row in [scripts::stale_hint(), scripts::false_match_of_one()] {
-        holds_at(
-            &rt,
-            row.name,
-            prints_alike(&rt, rt.alloc(), &row, FirstByteHash),
-        );
-    }
+    let row = scripts::false_match();
+    holds(
+        &rt,
+        prints(&rt, rt.alloc(), Engine::Serial, &row, FirstByteHash),
+    );
+    let row = scripts::false_match_of_one();
+    holds(&rt, prints_alike(&rt, rt.alloc(), &row, FirstByteHash));
 }
 
 #[test]
-fn scripts_by_a_weak_hash(rt: HostRuntime) {
-    for row in [
-        scripts::scan(),
-        scripts::two_guests(),
-        scripts::three_share(),
-    ] {
-        holds_at(
-            &rt,
-            row.name,
-            prints(&rt, rt.alloc(), Engine::Serial, &row, ZeroHash),
-        );
-    }
-    holds(
-        &rt,
-        prints_alike(&rt, rt.alloc(), &scripts::weak_hash(), ZeroHash),
-    );
+fn a_script_by_a_weak_hash(rt: HostRuntime) {
+    let row = scripts::weak_hash();
+    holds(&rt, prints_alike(&rt, rt.alloc(), &row, ZeroHash));
 }

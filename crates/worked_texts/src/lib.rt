@@ -29,4 +29,6 @@ mod scripts;
 #[cfg(test)]
 mod sentences;
 #[cfg(test)]
+mod surface;
+#[cfg(test)]
 mod writing;

@@ -71,35 +71,6 @@ pub const VERDICTS_OF_TWO: &str = "\
     1 closed\n\
     report entries 5 mapped 2 shared 0 frames 2 reclaimed 0 hints 1\n";
 
-/// Three equal pages of two guests. Every hash gives the same, because nothing else is stored.
-pub fn three_share() -> Row {
-    Row {
-        name: "three share",
-        text: "\
-            pageshare script 1\n\
-            frames 3\n\
-            pages 2 1\n\
-            ring 4\n\
-            journal 8\n\
-            0 store 0 0 41\n\
-            0 store 1 0 41\n\
-            1 store 0 0 41\n\
-            0 scan sequential 2\n\
-            1 propose 0\n\
-            end 5\n",
-        output: "\
-            0 mapped\n\
-            1 mapped\n\
-            0 mapped\n\
-            1 hinted\n\
-            0 paired\n\
-            1 closed\n\
-            0 joined 3\n\
-            0 closed\n\
-            report entries 8 mapped 3 shared 3 frames 1 reclaimed 2 hints 0\n",
-    }
-}
-
 const STALE_HINT: &str = "\
     pageshare script 1\n\
     frames 2\n\
@@ -113,23 +84,6 @@ const STALE_HINT: &str = "\
     0 propose 1\n\
     0 propose 0\n\
     end 6\n";
-
-/// A hint page is stored to, and another page replaces it.
-pub fn stale_hint() -> Row {
-    Row {
-        name: "stale hint",
-        text: STALE_HINT,
-        output: "\
-            0 mapped\n\
-            0 hinted\n\
-            0 stored\n\
-            0 mapped\n\
-            0 replaced\n\
-            0 hinted\n\
-            0 closed\n\
-            report entries 7 mapped 2 shared 0 frames 2 reclaimed 0 hints 2\n",
-    }
-}
 
 /// The same with a hash that is 0 for every page: the hint page is found under its old key, and isn't equal.
 pub fn weak_hash() -> Row {

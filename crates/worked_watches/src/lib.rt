@@ -1,4 +1,4 @@
-//! Worked machines that are watched, in one thread and in several. This crate has only tests.
+//! Worked publishers, watches and machines that are watched, in one thread and in several. This crate has only tests.
 #![tactic(auto)]
 
 #[cfg(test)]
@@ -13,6 +13,8 @@ mod guests;
 mod long;
 #[cfg(test)]
 mod refused;
+#[cfg(test)]
+mod reports;
 #[cfg(test)]
 mod runs;
 #[cfg(test)]

@@ -158,16 +158,3 @@ fn out_of_memory_is_reported_last(rt: HostRuntime) {
         );
     }
 }
-
-// The faults of a configuration and of a journal without room are the same with memory as without.
-#[test]
-fn faults_with_memory(rt: HostRuntime) {
-    let cases = [
-        ((0, 1, 5), RunFault::Frames),
-        ((2, 1, 4), RunFault::Stopped(JournalFull)),
-    ];
-    for (numbers, fault) in cases {
-        let heap = Refusing::new(rt.alloc(), u64::MAX, 0);
-        equal(&rt, fault_on_heap(&rt, &heap, numbers, false), Some(fault));
-    }
-}

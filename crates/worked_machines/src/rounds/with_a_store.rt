@@ -50,14 +50,6 @@ fn serve_four<R: Threads + Wait + Sync + Abort, B: Allocator + Clone + Send>(
     equal(rt, course.numbers(), [6, 2, 0, 2, 0, 2]);
 }
 
-#[test]
-fn round_with_a_store(rt: HostRuntime) {
-    for workers in [1u32, 4] {
-        let course = waiting(&rt, rt.alloc());
-        serve_four(&rt, rt.alloc(), course, workers);
-    }
-}
-
 /// Serves the four while growth number n of the round's lists is refused, and returns whether any was.
 fn is_refused<R: Threads + Wait + Sync + Abort>(rt: &R, alloc: Global, n: u64) -> bool {
     let heap = Refusing::new(alloc, n, 0);

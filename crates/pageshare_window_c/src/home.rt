@@ -1,0 +1,197 @@
+//! Pages of a window in a row that get memory of their own in place of frames, and room for zeros there.
+ghost use Rattle.std.specs.Prelude.{◌≡◌, ◌+◌, ◌||◌, false, length, not, true};
+ghost use Rattle.pageshare_window_c.specs.Rooms.{given_up_by, has_room};
+ghost use Rattle.page_lender.specs.declared.order.Outcome.TheVariants as Outcome;
+ghost use Rattle.window_tables.specs.Facts.{facts_at};
+ghost use Rattle.window_tables.specs.Homes.{Answers, Changes, HasMoved, IsCalled, IsCopied, IsHome, comes_home_at, stays_at};
+ghost use Rattle.window_tables.specs.Mappings.{IsSet, is_part, kept_then, mappings_at};
+ghost use Rattle.window_tables.specs.Ranges.{has_pages};
+ghost use Rattle.window_tables.specs.Rooms.{are_alone};
+ghost use Rattle.window_tables.specs.Tables.{Notes};
+ghost use Rattle.window_tables.specs.declared.changes.Change.TheVariants as Change;
+
+use look_tasks::room::fits;
+use page_looks::parts::Part;
+use window_pages::{PartCounts, WindowFacts, WindowPage};
+use window_tables::homes::{copied, find_coming, find_staying, moved, order, refused};
+use window_tables::rooms::{lies_over, wants_zeros, zeros_more};
+use window_tables::{TableFacts, put_zeros, set_whole};
+
+/// Orders that each of so many pages that shows its frame gets memory of its own, if these facts bar it: of its window and its process, of its
+/// pins, and `why` besides. Returns false, and changes nothing, if they aren't all there, or if the table has more pages than its parts.
+#[unsafe(no_mangle)]
+pub extern "C" fn pageshare_window_order_home(
+    pages: &mut [WindowPage],
+    parts: &mut [PartCounts],
+    lead: usize,
+    table: &TableFacts,
+    pins: &[u16],
+    why: &WindowFacts,
+    first: usize,
+    count: usize,
+) -> bool
+    ensures { Changes (λ n. IsCalled (facts_at table.now pins.now why.now (first + n))) lead first count result pages.old pages.new parts.old parts.new }
+{
+    order(pages, parts, lead, table, pins, why, first, count)
+}
+
+/// Finds which pages over frames have to stay where they are, of which `why` is so besides. Of each page `copies` says whether it has memory of
+/// its own; what is found takes the place of that. Returns false, and finds nothing, if they aren't all there.
+#[unsafe(no_mangle)]
+pub extern "C" fn pageshare_window_find_staying(
+    pages: &[WindowPage],
+    table: &TableFacts,
+    pins: &[u16],
+    why: &WindowFacts,
+    first: usize,
+    copies: &mut [bool],
+) -> bool
+    ensures there { result ≡ has_pages first (length copies.old) pages.now }
+    ensures found { result ≡ true → Answers (stays_at table.now pins.now why.now first) first (length copies.old) pages.now copies.old copies.new }
+    ensures same { result ≡ false → copies.new ≡ copies.old }
+{
+    find_staying(pages, table, pins, why, first, copies)
+}
+
+/// Finds which pages come home that get a copy where they are: they show a frame that they are to show no more, or one of a lender that is gone.
+/// Returns false, and finds nothing, if they aren't all there.
+#[unsafe(no_mangle)]
+pub extern "C" fn pageshare_window_find_coming(
+    pages: &[WindowPage],
+    first: usize,
+    found: &mut [bool],
+) -> bool
+    ensures there { result ≡ has_pages first (length found.old) pages.now }
+    ensures found { result ≡ true → Answers comes_home_at first (length found.old) pages.now found.old found.new }
+    ensures same { result ≡ false → found.new ≡ found.old }
+{
+    find_coming(pages, first, found)
+}
+
+/// Learns that other memory was moved to the places of so many pages. What looks have found of them counts no more. Returns false, and learns
+/// nothing, if they aren't all there, or if the table has more pages than its parts.
+#[unsafe(no_mangle)]
+pub extern "C" fn pageshare_window_moved_home(
+    pages: &mut [WindowPage],
+    parts: &mut [PartCounts],
+    lead: usize,
+    first: usize,
+    count: usize,
+) -> bool
+    ensures { Changes (λ n. HasMoved) lead first count result pages.old pages.new parts.old parts.new }
+{
+    moved(pages, parts, lead, first, count)
+}
+
+/// Learns that so many pages got a copy of their own where they are. They show no frame of a lender that is gone. Returns false, and learns
+/// nothing, if they aren't all there, or if the table has more pages than its parts.
+#[unsafe(no_mangle)]
+pub extern "C" fn pageshare_window_copied_home(
+    pages: &mut [WindowPage],
+    parts: &mut [PartCounts],
+    lead: usize,
+    first: usize,
+    count: usize,
+) -> bool
+    ensures { Changes (λ n. IsCopied) lead first count result pages.old pages.new parts.old parts.new }
+{
+    copied(pages, parts, lead, first, count)
+}
+
+/// Learns that so many pages keep what lies at their places: those that were to get memory of their own were refused that. Returns false, and
+/// learns nothing, if they aren't all there, or if the table has more pages than its parts.
+#[unsafe(no_mangle)]
+pub extern "C" fn pageshare_window_refused_home(
+    pages: &mut [WindowPage],
+    parts: &mut [PartCounts],
+    lead: usize,
+    first: usize,
+    count: usize,
+) -> bool
+    ensures { Changes (λ n. IsHome Outcome.Refused) lead first count result pages.old pages.new parts.old parts.new }
+{
+    refused(pages, parts, lead, first, count)
+}
+
+/// Notes that zeros were mapped in place of so many pages, and how many mappings there are then. They are a mapping by themselves if the system can
+/// join them with nothing beside them, or if it refused to say of them what is said of the window (`is_said`). Returns false, and notes nothing, if
+/// these pages aren't all there, or if the table has more pages than its parts.
+#[unsafe(no_mangle)]
+pub extern "C" fn pageshare_window_put_zeros(
+    pages: &mut [WindowPage],
+    parts: &mut [PartCounts],
+    lead: usize,
+    wholes: &[Part],
+    first: usize,
+    count: usize,
+    is_said: bool,
+    mappings: &mut usize,
+) -> bool
+    ensures notes { Notes (Change.Uncovered (are_alone lead wholes.now pages.old first count || not is_said)) lead first count result pages.old pages.new parts.old parts.new }
+    ensures mappings { result ≡ true → mappings.new ≡ kept_then mappings.old (mappings_at lead wholes.now pages.old first count) (mappings_at lead wholes.now pages.new first count) }
+    ensures same { result ≡ false → mappings.new ≡ mappings.old }
+{
+    put_zeros(pages, parts, lead, wholes, first, count, is_said, mappings)
+}
+
+/// Returns whether windows may take the mappings for zeros in place of so many pages, where they have taken so many, and may take so many in all.
+/// Returns false if the pages aren't all there.
+#[unsafe(no_mangle)]
+pub extern "C" fn pageshare_window_has_room_for_zeros(
+    pages: &[WindowPage],
+    parts: &[Part],
+    lead: usize,
+    first: usize,
+    count: usize,
+    most: u64,
+    taken: u64,
+) -> bool
+    ensures { result ≡ has_room lead parts.now pages.now first count most taken }
+{
+    match zeros_more(pages, parts, lead, first, count) {
+        None => false,
+        Some(more) => fits(most, taken, more as u64),
+    }
+}
+
+/// Returns how so many alike pages are given up: 1 zeros are mapped in their place, if the system has mappings for them and nobody else watches
+/// them; 2 what can't be so is cleared, since frames lie under it. Else their memory is given back.
+#[unsafe(no_mangle)]
+pub extern "C" fn pageshare_window_given_up_by(
+    pages: &[WindowPage],
+    parts: &[Part],
+    lead: usize,
+    first: usize,
+    count: usize,
+    is_watched: bool,
+    most: u64,
+    taken: u64,
+) -> u8
+    ensures { result ≡ given_up_by lead parts.now pages.now first count is_watched most taken }
+{
+    let wants = wants_zeros(pages, parts, lead, first, count, is_watched);
+    let has = pageshare_window_has_room_for_zeros(pages, parts, lead, first, count, most, taken);
+    let anew = if wants && has { 1 } else { 0 };
+    let cleared = if lies_over(pages, first) { 2 } else { 0 };
+    anew + cleared
+}
+
+/// Notes that the part whose first page is this one is whole from now on, or split, and how many mappings there are then. Returns false, and notes
+/// nothing, if this isn't the first page of a part whose pages are all there.
+#[unsafe(no_mangle)]
+pub extern "C" fn pageshare_window_set_whole(
+    pages: &[WindowPage],
+    parts: &mut [Part],
+    lead: usize,
+    first: usize,
+    is_whole: bool,
+    mappings: &mut usize,
+) -> bool
+    ensures set { result ≡ is_part lead first pages.now parts.old }
+    ensures whole { result ≡ true → IsSet is_whole lead first parts.old parts.new }
+    ensures mappings { result ≡ true → mappings.new ≡ kept_then mappings.old (mappings_at lead parts.old pages.now first 512) (mappings_at lead parts.new pages.now first 512) }
+    ensures same { result ≡ false → mappings.new ≡ mappings.old }
+    ensures same_parts { result ≡ false → parts.new ≡ parts.old }
+{
+    set_whole(pages, parts, lead, first, is_whole, mappings)
+}
