@@ -33,7 +33,7 @@ use Rattle.page_holds.specs.declared.place.HoldStep.{HoldStep}
 use Rattle.page_holds.specs.declared.place.HoldStep.TheVariants as Hold
 use Rattle.page_holds.specs.declared.place.Taking.{Taking}
 use Rattle.page_holds.specs.declared.place.Taking.TheVariants.{Refused as NotTaken, Watched, Guarded as TakenGuarded, Aside as TakenAside}
-use Rattle.page_lender.specs.Decisions.{waiting}
+use Rattle.page_lender.specs.Decisions.{shows, waiting}
 use Rattle.page_lender.specs.declared.belief.Belief.{Belief}
 use Rattle.page_lender.specs.declared.belief.Target.TheVariants.{Frame}
 use Rattle.page_lender.specs.declared.order.Order.TheVariants as Order
@@ -46,14 +46,18 @@ use Rattle.page_lender.specs.declared.order.Outcome.{Outcome}
 use Rattle.window_pages.specs.Bytes.{belief_of, known_of}
 use Rattle.window_pages.specs.Changed.{Lends}
 use Rattle.window_pages.specs.Known.{bars_of, lender_of, no_bars, takes}
+use Rattle.window_pages.specs.Counted.{counts_then}
+use Rattle.window_pages.specs.Laws.{no_counts}
 use Rattle.window_pages.specs.declared.counts.PartCounts.{PartCounts}
 use Rattle.window_pages.specs.declared.facts.WindowFacts.{WindowFacts}
 use Rattle.window_tables.specs.Changes.{Changed, IsBehind, NowBegins, RangeChanged, marks}
+use Rattle.window_tables.specs.Facts.{facts_at}
+use Rattle.window_tables.specs.Homes.{Changes, HasMoved, IsCalled, IsCopied, IsHome, hears}
 use Rattle.window_tables.specs.Tables.{can_note}
 use Rattle.window_tables.specs.declared.changes.Change.{Change}
 use Rattle.lending_laws.proofs.Kept.{IsKept, history_kept}
-use Rattle.lending_laws.proofs.Notes.{each_look_is_calls, each_note_is_a_call, given_back_keeps, given_back_lies, given_back_orders, known_stays}
-use Rattle.lending_laws.specs.Batches.{AreTruly, CopyIsSo, EachChoiceGoes, EachCopyGoes, EachFollowGoes, EachIsHistory, EachLoanGoes, EachNoteGoes, EachReleaseGoes, EachReleaseOrderGoes, EachRowGoes, EachRowOrderGoes, EachRowStepGoes, EachScanGoes, EachScanStepGoes, Goes, IsSo, IsSoOf, LoanIsSo, Reaches, row_outcome}
+use Rattle.lending_laws.proofs.Notes.{each_look_is_calls, each_note_is_a_call, given_back_keeps, given_back_lies, given_back_orders, known_stays, past_stops}
+use Rattle.lending_laws.specs.Batches.{AreTruly, CopyIsSo, EachChoiceGoes, EachCopyGoes, EachFollowGoes, EachHomeCopyGoes, EachHomeMoveGoes, EachHomeOrderGoes, EachHomeRefusalGoes, EachIsHistory, EachLoanGoes, EachNoteGoes, EachReleaseGoes, EachReleaseOrderGoes, EachRowGoes, EachRowOrderGoes, EachRowStepGoes, EachScanGoes, EachScanStepGoes, Goes, IsSo, IsSoOf, LoanIsSo, Reaches, row_outcome}
 use Rattle.lending_laws.specs.Notes.{ChangesByTwo, IsTruly}
 use Rattle.lending_laws.specs.Batches as goes
 use Rattle.lending_laws.specs.Histories.{Calls, CallsAt, CarriedOut, Given, GivesWhatItMay, History, IsTold, Moment, Nothing, OneIs, Pending, Reads, calls, is_told, notes, pending_after, slots_after}
@@ -640,3 +644,50 @@ each_scan_step_goes g first count lead from n scan outcomes row row_new m new pa
         (λ own. so j own its.page (subst (λ v. slice_get m.world.pages (first + (from + v)) ≡ Some its.page) (zero_less j) its.there))) where
   zero_less : (j : ℕ) → 0 + j ≡ j
   zero_less j = omega arith
+
+-- ---- pages that get memory of their own
+
+-- where each of so many pages becomes what this says, and can turn to that
+homes_go : (g : (ℕ → Bool) → ℕ → Bool) (first lead from n : ℕ) (m : Moment) (new : List WindowPage) (parts parts_new : List PartCounts) (Becomes : ℕ → WindowPage → WindowPage → Type 0) →
+    Changes Becomes lead from n true m.pages new parts parts_new → ((j : ℕ) (x y : WindowPage) → j < n → slice_get m.pages (from + j) ≡ Some x → Becomes j x y → CanTurn g first m (from + j) x y) → Reaches g first m new
+homes_go g first lead from n m new parts parts_new Becomes c can = changed_goes g first from n m new Becomes (c.pages refl) can
+
+called_turn : (g : (ℕ → Bool) → ℕ → Bool) (first i : ℕ) (m : Moment) (facts : WindowFacts) (x y : WindowPage) → IsCalled facts x y → CanTurn g first m i x y
+called_turn g first i m facts x y c = pick (shows (belief_of x)) refl where
+  pick : (b : Bool) → shows (belief_of x) ≡ b → CanTurn g first m i x y
+  pick true e = order_turn g first i m x y no_counts (counts_then x y no_counts) (order_due (lender_of facts (known_of x))) (bars_of facts (known_of x)) (c.shown e no_counts)
+  pick false e = stays_turn g first i m x y (c.other e)
+
+pub each_home_order_goes : EachHomeOrderGoes
+each_home_order_goes g first lead from n table pins why m new parts parts_new c =
+    homes_go g first lead from n m new parts parts_new (λ j. IsCalled (facts_at table pins why (from + j))) c (λ j x y l e b. called_turn g first (from + j) m (facts_at table pins why (from + j)) x y b)
+
+home_turn : (g : (ℕ → Bool) → ℕ → Bool) (first i : ℕ) (m : Moment) (outcome : Outcome) (x y : WindowPage) → no_loan outcome ≡ true → IsHome outcome x y → (hears outcome x ≡ true → IsSo g m i x outcome) → CanTurn g first m i x y
+home_turn g first i m outcome x y free h so = pick (hears outcome x) refl where
+  pick : (b : Bool) → hears outcome x ≡ b → CanTurn g first m i x y
+  pick true e = told_turn g first i m x y outcome no_counts (counts_then x y no_counts) free (so e) (h.done e no_counts)
+  pick false e = stays_turn g first i m x y (h.other e)
+
+done_is_free : no_loan Done ≡ true
+unfolding no_loan
+done_is_free = refl
+
+refused_is_free : no_loan Refused ≡ true
+unfolding no_loan
+refused_is_free = refl
+
+pub each_home_refusal_goes : EachHomeRefusalGoes
+each_home_refusal_goes g first lead from n m new parts parts_new c so =
+    homes_go g first lead from n m new parts parts_new (λ j. IsHome Refused) c (λ j x y l e b. home_turn g first (from + j) m Refused x y refused_is_free b (λ h. so j x l e h))
+
+pub each_home_move_goes : EachHomeMoveGoes
+each_home_move_goes g first lead from n m new parts parts_new c so =
+    homes_go g first lead from n m new parts parts_new (λ j. HasMoved) c
+    (λ j x y l e b. then_call g first (from + j) m x b.between y (home_turn g first (from + j) m Done x b.between done_is_free b.first (λ h. so j x l e h))
+        (λ pending. known_stays (first + (from + j)) m.world pending b.between y (b.second no_counts).known))
+
+pub each_home_copy_goes : EachHomeCopyGoes
+each_home_copy_goes g first lead from n m new parts parts_new c so =
+    homes_go g first lead from n m new parts parts_new (λ j. IsCopied) c
+    (λ j x y l e b. then_call g first (from + j) m x b.between y (home_turn g first (from + j) m Done x b.between done_is_free b.first (λ h. so j x l e h))
+        (λ pending. past_stops (first + (from + j)) m.world pending b.between y (b.second no_counts).known))

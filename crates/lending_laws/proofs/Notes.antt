@@ -121,7 +121,7 @@ no_past_lies page = pick page.over where
   pick true = refl
   pick false = refl
 
-past_stops : (p : ℕ) (w : Mappings) (pending : Pending) (old new : WindowPage) → known_of new ≡ no_past (known_of old) → Calls p w old pending new pending
+pub past_stops : (p : ℕ) (w : Mappings) (pending : Pending) (old new : WindowPage) → known_of new ≡ no_past (known_of old) → Calls p w old pending new pending
 past_stops p w pending old new e = notes old new pending (record {
   belief = ap (λ k. k.belief) e ∙ no_past_keeps (known_of old);
   ordered = ap (λ k. k.ordered) e ∙ no_past_orders (known_of old);

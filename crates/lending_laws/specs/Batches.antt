@@ -22,6 +22,8 @@ use Rattle.window_pages.specs.Known.{takes}
 use Rattle.window_pages.specs.declared.counts.PartCounts.{PartCounts}
 use Rattle.window_pages.specs.declared.facts.WindowFacts.{WindowFacts}
 use Rattle.window_pages.specs.declared.page.WindowPage.{WindowPage}
+use Rattle.window_tables.specs.Facts.{facts_at}
+use Rattle.window_tables.specs.Homes.{Changes, HasMoved, IsCalled, IsCopied, IsHome, hears}
 use Rattle.window_tables.specs.Tables.{Notes}
 use Rattle.window_tables.specs.declared.changes.Change.{Change}
 use Rattle.window_tables.specs.declared.facts.TableFacts.{TableFacts}
@@ -169,3 +171,33 @@ abbrev pub EachFollowGoes : Type 0
 EachFollowGoes =
     (may_give : (ℕ → Bool) → ℕ → Bool) (first lead from n : ℕ) (scan : Scan) (table : TableFacts) (pins memory before row row_new : List ℕ) (m : Moment) (new : List WindowPage) (parts parts_new : List PartCounts) →
     RowGoes (FollowsAt scan table pins from memory before) lead from n true m.pages new parts parts_new row row_new → Reaches may_give first m new
+
+-- ---- pages that get memory of their own
+
+-- Pages that show frames get orders to show none.
+abbrev pub EachHomeOrderGoes : Type 0
+EachHomeOrderGoes =
+    (may_give : (ℕ → Bool) → ℕ → Bool) (first lead from n : ℕ) (table : TableFacts) (pins : List ℕ) (why : WindowFacts) (m : Moment) (new : List WindowPage) (parts parts_new : List PartCounts) →
+    Changes (λ j. IsCalled (facts_at table pins why (from + j))) lead from n true m.pages new parts parts_new → Reaches may_give first m new
+
+-- of each page that hears this outcome it is so
+abbrev pub HomesAreSo : ((ℕ → Bool) → ℕ → Bool) → Moment → ℕ → ℕ → Outcome → Type 0
+HomesAreSo may_give m from n outcome = (j : ℕ) (x : WindowPage) → j < n → slice_get m.pages (from + j) ≡ Some x → hears outcome x ≡ true → IsSo may_give m (from + j) x outcome
+
+-- They were refused that.
+abbrev pub EachHomeRefusalGoes : Type 0
+EachHomeRefusalGoes =
+    (may_give : (ℕ → Bool) → ℕ → Bool) (first lead from n : ℕ) (m : Moment) (new : List WindowPage) (parts parts_new : List PartCounts) →
+    Changes (λ j. IsHome Refused) lead from n true m.pages new parts parts_new → HomesAreSo may_give m from n Refused → Reaches may_give first m new
+
+-- Other memory was moved to their places.
+abbrev pub EachHomeMoveGoes : Type 0
+EachHomeMoveGoes =
+    (may_give : (ℕ → Bool) → ℕ → Bool) (first lead from n : ℕ) (m : Moment) (new : List WindowPage) (parts parts_new : List PartCounts) →
+    Changes (λ j. HasMoved) lead from n true m.pages new parts parts_new → HomesAreSo may_give m from n Done → Reaches may_give first m new
+
+-- They got copies of their own where they are.
+abbrev pub EachHomeCopyGoes : Type 0
+EachHomeCopyGoes =
+    (may_give : (ℕ → Bool) → ℕ → Bool) (first lead from n : ℕ) (m : Moment) (new : List WindowPage) (parts parts_new : List PartCounts) →
+    Changes (λ j. IsCopied) lead from n true m.pages new parts parts_new → HomesAreSo may_give m from n Done → Reaches may_give first m new

@@ -1,4 +1,4 @@
-use Rattle.lending_laws.proofs.Batches.{each_choice_goes, each_copy_goes, each_follow_goes, each_is_history, each_loan_goes, each_note_goes, each_release_goes, each_release_order_goes, each_row_goes, each_row_order_goes, each_row_step_goes, each_scan_goes, each_scan_step_goes}
+use Rattle.lending_laws.proofs.Batches.{each_choice_goes, each_copy_goes, each_follow_goes, each_home_copy_goes, each_home_move_goes, each_home_order_goes, each_home_refusal_goes, each_is_history, each_loan_goes, each_note_goes, each_release_goes, each_release_order_goes, each_row_goes, each_row_order_goes, each_row_step_goes, each_scan_goes, each_scan_step_goes}
 use Rattle.lending_laws.proofs.Notes.{each_is_detached, each_look_is_calls, each_note_is_a_call, each_step_tells}
 use Rattle.lending_laws.proofs.calls_law.Goals as goal
 
@@ -52,3 +52,15 @@ returns-clause-scan_steps c = each_scan_step_goes
 
 pub returns-clause-follows : goal.returns-clause-follows
 returns-clause-follows c = each_follow_goes
+
+pub returns-clause-home_orders : goal.returns-clause-home_orders
+returns-clause-home_orders c = each_home_order_goes
+
+pub returns-clause-home_refusals : goal.returns-clause-home_refusals
+returns-clause-home_refusals c = each_home_refusal_goes
+
+pub returns-clause-home_moves : goal.returns-clause-home_moves
+returns-clause-home_moves c = each_home_move_goes
+
+pub returns-clause-home_copies : goal.returns-clause-home_copies
+returns-clause-home_copies c = each_home_copy_goes
