@@ -1,3 +1,4 @@
+pub mod Batches
 pub mod Beliefs
 pub mod Holds
 pub mod Kept

@@ -28,19 +28,19 @@ not_both : (b : Bool) → b ≡ true → b ≡ false → ⊥
 not_both b e f = cc
 
 -- where only what lies at the place is noted
-given_back_keeps : (page : KnownPage) → (given_back false page).belief ≡ page.belief
+pub given_back_keeps : (page : KnownPage) → (given_back false page).belief ≡ page.belief
 given_back_keeps page = pick page.over where
   pick : (b : Bool) → (cond b page (record page { same = false })).belief ≡ page.belief
   pick true = refl
   pick false = refl
 
-given_back_orders : (page : KnownPage) → (given_back false page).ordered ≡ page.ordered
+pub given_back_orders : (page : KnownPage) → (given_back false page).ordered ≡ page.ordered
 given_back_orders page = pick page.over where
   pick : (b : Bool) → (cond b page (record page { same = false })).ordered ≡ page.ordered
   pick true = refl
   pick false = refl
 
-given_back_lies : (page : KnownPage) → (given_back false page).over ≡ page.over
+pub given_back_lies : (page : KnownPage) → (given_back false page).over ≡ page.over
 given_back_lies page = pick page.over where
   pick : (b : Bool) → (cond b page (record page { same = false })).over ≡ page.over
   pick true = refl
@@ -93,7 +93,7 @@ each_step_tells outcome old new part after t = pick outcome (is_taken outcome (k
 -- ---- looks
 
 -- what is known of a page stays
-known_stays : (p : ℕ) (w : Mappings) (pending : Pending) (old new : WindowPage) → known_of new ≡ known_of old → Calls p w old pending new pending
+pub known_stays : (p : ℕ) (w : Mappings) (pending : Pending) (old new : WindowPage) → known_of new ≡ known_of old → Calls p w old pending new pending
 known_stays p w pending old new e = notes old new pending (record {
   belief = ap (λ k. k.belief) e;
   ordered = ap (λ k. k.ordered) e;
@@ -121,7 +121,7 @@ no_past_lies page = pick page.over where
   pick true = refl
   pick false = refl
 
-past_stops : (p : ℕ) (w : Mappings) (pending : Pending) (old new : WindowPage) → known_of new ≡ no_past (known_of old) → Calls p w old pending new pending
+pub past_stops : (p : ℕ) (w : Mappings) (pending : Pending) (old new : WindowPage) → known_of new ≡ no_past (known_of old) → Calls p w old pending new pending
 past_stops p w pending old new e = notes old new pending (record {
   belief = ap (λ k. k.belief) e ∙ no_past_keeps (known_of old);
   ordered = ap (λ k. k.ordered) e ∙ no_past_orders (known_of old);
