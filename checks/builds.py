@@ -33,7 +33,8 @@ FREESTANDING = "-ffreestanding -fno-pic -fno-stack-protector -fcf-protection=non
 # How the C files of each folder, or a file, are compiled: the longest path that a file's begins with counts.
 FLAGS: dict[str, list[str]] = {
     "benches/": [], "checks/embed/": POSIX, "checks/host/": [], "checks/host/descriptors.c": ["-Ihost"], "checks/host/lines.c": ["-Iwindow"],
-    "checks/host/tiny.c": ["-Ihost"], "checks/host/paced.c": ["-Iwindow"], "checks/host/ranges.c": PRELOAD, "checks/host/remote.c": PRELOAD, "checks/host/cuts.c": PRELOAD,
+    "checks/host/tiny.c": ["-Ihost"], "checks/host/paced.c": ["-Iwindow"],
+    "checks/host/ranges.c": PRELOAD, "checks/host/remote.c": PRELOAD, "checks/host/cuts.c": PRELOAD,
     "examples/": POSIX, "host/": ["-Iwindow", "-Ihost"],
     "lib/src/": ["-DPAGESHARE_BUILT_LEVEL=2", "-fPIC"], "monitor/": [], "monitor/guest.c": FREESTANDING, "monitor/standin.c": FREESTANDING,
     "packaging/": ['-DPAGESHARE_COMMIT="a commit"', '-DPAGESHARE_KIT="a kit"'], "window/": [],
