@@ -1,7 +1,7 @@
-pub mod Batches
 pub mod Beliefs
 pub mod Holds
 pub mod Kept
+pub mod Lender
 pub mod Looks
 pub mod Notes
 pub mod Outcomes

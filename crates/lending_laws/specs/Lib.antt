@@ -1,6 +1,6 @@
-pub mod Batches
 pub mod Histories
 pub mod Holds
+pub mod Lender
 pub mod Looks
 pub mod Notes
 pub mod Processes

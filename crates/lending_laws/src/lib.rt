@@ -3,7 +3,7 @@
 //! The laws hold for every history. The functions do nothing: the contract is all there is.
 #![tactic(auto)]
 
-ghost use Rattle.lending_laws.specs.Batches.{EachChoiceGoes, EachCopyGoes, EachFollowGoes, EachHomeCopyGoes, EachHomeMoveGoes, EachHomeOrderGoes, EachHomeRefusalGoes, EachIsHistory, EachLoanGoes, EachNoteGoes, EachReleaseGoes, EachReleaseOrderGoes, EachRowGoes, EachRowOrderGoes, EachRowStepGoes, EachScanGoes, EachScanStepGoes};
+ghost use Rattle.lending_laws.specs.Lender.{EachCallGoesOn};
 ghost use Rattle.lending_laws.specs.Histories.{CarriedOut, Given, IsTold};
 ghost use Rattle.lending_laws.specs.Holds.{EachComparisonIsTrue, EachHoldReadsTheSame, EachRowIsHeld, EachStepAgrees, EachTruthIsInBytes, EachZeroIsTrue};
 ghost use Rattle.lending_laws.specs.Looks.{EachStepReadsWhatItMay};
@@ -44,23 +44,13 @@ pub fn calls_law()
     ensures detached { EachIsDetached }
     ensures steps { EachStepTells }
     ensures looks { EachLookIsCalls }
-    ensures history { EachIsHistory }
-    ensures noted { EachNoteGoes }
-    ensures rows { EachRowGoes }
-    ensures row_orders { EachRowOrderGoes }
-    ensures row_steps { EachRowStepGoes }
-    ensures choices { EachChoiceGoes }
-    ensures copies { EachCopyGoes }
-    ensures loans { EachLoanGoes }
-    ensures release_orders { EachReleaseOrderGoes }
-    ensures releases { EachReleaseGoes }
-    ensures scans { EachScanGoes }
-    ensures scan_steps { EachScanStepGoes }
-    ensures follows { EachFollowGoes }
-    ensures home_orders { EachHomeOrderGoes }
-    ensures home_refusals { EachHomeRefusalGoes }
-    ensures home_moves { EachHomeMoveGoes }
-    ensures home_copies { EachHomeCopyGoes }
+{}
+
+/// *Each call that C makes for a window's pages*, in any order, leads from a moment of a history to one: by its contract, where what it says is so
+/// ([`Called`] has both). So each page reads what its guest stored last after each call, and all other laws of a history hold: beliefs are right,
+/// orders are possible, and an outcome is of the order that was given. What the system and guests do between two calls is in the history, too.
+pub fn lender_law()
+    ensures { EachCallGoesOn }
 {}
 
 /// With a host that gives only slots that it hasn't given: *each slot that it gave and hasn't got back is exactly one page's*, at each

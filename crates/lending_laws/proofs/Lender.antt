@@ -1,72 +1,188 @@
 -- Calls for many pages at once are calls of a history, one page after another.
-use Rattle.std.proofs.Common.{◌≡◌, ◌∙◌, ℕ, zero, suc, ◌+◌, ◌-◌, ◌<◌, ◌≤◌, ◌⊎◌, inl, inr, Bool, true, false, ◌&&◌, ◌||◌, cond, List, [], ◌∷◌, ◌++◌, length, Some, None, refl, ap, sym, subst, arith}
-use Rattle.std.specs.Prelude.{Option, nat_eq, nat_le, nat_lt, slice_get, slice_index_or, slice_set}
-use Rattle.std.proofs.Math.Seq.{set-append_seam}
-use Rattle.std.proofs.lemmas.Bool.{cases_lt, eqb-false, eqb-true, leb-true}
-use Rattle.std.proofs.lemmas.List.{length-append}
-use Rattle.window_pages.specs.Lives.{OneChanges}
-use Rattle.window_pages.specs.declared.page.WindowPage.{WindowPage}
-use Rattle.window_tables.proofs.Places.{set_length, set_other, set_own}
-use Rattle.std.proofs.lemmas.Option.{slice_get-get_or, slice_get_within}
-use Rattle.window_events.specs.Windows.{Mappings}
-use Rattle.page_holds.specs.Orders.{facts_there}
-use Rattle.page_holds.specs.Rows.{Asks, CameOut, IsBegun, PageBecomes, RowChanges, is_asked, taking_at}
 use Rattle.lend_steps.specs.Copies.{CameOfCopy, ChosenFor, ToCopy, is_changed, is_chosen, is_good, is_left, is_nothing, is_zeros}
-use Rattle.lend_steps.specs.Lists.{Told, is_not_there, is_there}
+use Rattle.lend_steps.specs.Lists.{Told, is_not_there, is_there, Turn}
 use Rattle.lend_steps.specs.Loans.{CameOfLoan, NotLent, is_given, is_unheard, is_without_frame, is_without_slot}
-use Rattle.lend_steps.specs.Releases.{OrderedTo, asks, at_once, is_hold, passes, refused_first}
+use Rattle.lend_steps.specs.Releases.{OrderedTo, asks, at_once, is_hold, passes, refused_first, FindsAt}
 use Rattle.lend_steps.specs.declared.copies.CopyOutcome.{CopyOutcome}
 use Rattle.lend_steps.specs.declared.loans.LoanReply.{LoanReply}
 use Rattle.lend_steps.specs.declared.loans.LoanReply.TheVariants.{Unheard, NoFrame, NoSlot, Given as Loan}
+use Rattle.lending_laws.proofs.Kept.{IsKept, history_kept}
+use Rattle.lending_laws.proofs.Notes.{each_look_is_calls, each_note_is_a_call, given_back_keeps, given_back_lies, given_back_orders, known_stays, past_stops}
+use Rattle.lending_laws.specs.Histories.{Calls, CallsAt, CarriedOut, Given, GivesWhatItMay, History, IsTold, IsToldAt, Moment, Nothing, OneIs, Pending, Reads, calls, is_told, notes, pending_after, slots_after}
+use Rattle.lending_laws.specs.Notes.{ChangesByTwo, IsTruly, ShowsNone}
+use Rattle.page_holds.specs.Bytes.{step_by}
+use Rattle.page_holds.specs.Orders.{facts_there, OrdersNext}
+use Rattle.page_holds.specs.Rows.{Asks, CameOut, IsBegun, PageBecomes, RowChanges, is_asked, taking_at, RowBegins, RowCameOut}
+use Rattle.page_holds.specs.Steps.{Took, asks_for, is_taken, is_to_hold, outcome_for, outcome_of, said}
+use Rattle.page_holds.specs.declared.place.HoldStep.{HoldStep}
+use Rattle.page_holds.specs.declared.place.Taking.{Taking}
+use Rattle.page_holds.specs.declared.place.Taking.TheVariants.{Refused as NotTaken, Watched, Guarded as TakenGuarded, Aside as TakenAside}
+use Rattle.page_holds.specs.declared.rows.run.RowOrder.{RowOrder}
+use Rattle.page_lender.specs.Calls.{IsDone, IsOrdered, order_due}
+use Rattle.page_lender.specs.Decisions.{shows, waiting}
+use Rattle.page_lender.specs.declared.bars.Bars.{Bars}
+use Rattle.page_lender.specs.declared.belief.Belief.{Belief}
+use Rattle.page_lender.specs.declared.belief.Target.TheVariants.{Frame}
+use Rattle.page_lender.specs.declared.order.Order.{Order}
+use Rattle.page_lender.specs.declared.order.Order.TheVariants.{Map}
+use Rattle.page_lender.specs.declared.order.Outcome.{Outcome}
+use Rattle.page_lender.specs.declared.order.Outcome.TheVariants.{Done, Lent, Refused, Unknown}
 use Rattle.page_looks.specs.Steps.{NotesMemory, has_again, has_memory}
 use Rattle.page_looks.specs.declared.finds.step.FindOutcome.{FindOutcome}
 use Rattle.page_looks.specs.declared.finds.step.Memory.{Memory}
-use Rattle.part_scans.specs.Scans.{BeginsAt, FollowsAt, GoesOn, GoesOnAt, IsTaken, follows, is_beside, memory_at, no_outcome, sight_at, takes as takes_page}
+use Rattle.part_scans.specs.Scans.{BeginsAt, FollowsAt, GoesOn, GoesOnAt, IsTaken, follows, is_beside, memory_at, no_outcome, sight_at, takes as takes_page, RowGoes}
 use Rattle.part_scans.specs.Seen.{has_step, seen_in}
 use Rattle.part_scans.specs.declared.scan.Scan.{Scan}
-use Rattle.window_events.specs.Windows.{is_bare}
+use Rattle.std.proofs.Common.{◌≡◌, ◌∙◌, ℕ, zero, suc, ◌+◌, ◌-◌, ◌<◌, ◌≤◌, ◌⊎◌, inl, inr, Bool, true, false, ◌&&◌, ◌||◌, cond, List, [], ◌∷◌, ◌++◌, length, Some, None, refl, ap, sym, subst, arith}
+use Rattle.std.proofs.Math.Seq.{set-append_seam}
+use Rattle.std.proofs.lemmas.Bool.{cases_lt, eqb-false, eqb-true, leb-true}
+use Rattle.std.proofs.lemmas.List.{length-append}
+use Rattle.std.proofs.lemmas.Option.{slice_get-get_or, slice_get_within}
+use Rattle.std.specs.Prelude.{Option, nat_eq, nat_le, nat_lt, slice_get, slice_index_or, slice_set}
+use Rattle.window_events.specs.Windows.{Mappings, is_bare}
 use Rattle.window_events.specs.declared.page.Page.{Page}
-use Rattle.window_pages.specs.Changed.{given_back}
-use Rattle.page_holds.specs.Bytes.{step_by}
-use Rattle.page_holds.specs.Steps.{Took, asks_for, is_taken, is_to_hold, outcome_for, outcome_of, said}
-use Rattle.page_holds.specs.declared.place.HoldStep.{HoldStep}
-use Rattle.page_holds.specs.declared.place.HoldStep.TheVariants as Hold
-use Rattle.page_holds.specs.declared.place.Taking.{Taking}
-use Rattle.page_holds.specs.declared.place.Taking.TheVariants.{Refused as NotTaken, Watched, Guarded as TakenGuarded, Aside as TakenAside}
-use Rattle.page_lender.specs.Decisions.{shows, waiting}
-use Rattle.page_lender.specs.declared.belief.Belief.{Belief}
-use Rattle.page_lender.specs.declared.belief.Target.TheVariants.{Frame}
-use Rattle.page_lender.specs.declared.order.Order.TheVariants as Order
-use Rattle.page_lender.specs.declared.order.Order.TheVariants.{Map}
-use Rattle.page_lender.specs.declared.order.Outcome.TheVariants.{Done, Lent, Refused, Unknown}
-use Rattle.page_lender.specs.Calls.{IsDone, IsOrdered, order_due}
-use Rattle.page_lender.specs.declared.bars.Bars.{Bars}
-use Rattle.page_lender.specs.declared.order.Order.{Order}
-use Rattle.page_lender.specs.declared.order.Outcome.{Outcome}
 use Rattle.window_pages.specs.Bytes.{belief_of, known_of}
-use Rattle.window_pages.specs.Changed.{Lends}
-use Rattle.window_pages.specs.Known.{bars_of, lender_of, no_bars, takes}
+use Rattle.window_pages.specs.Changed.{given_back, Lends}
 use Rattle.window_pages.specs.Counted.{counts_then}
+use Rattle.window_pages.specs.Known.{bars_of, lender_of, no_bars, takes}
 use Rattle.window_pages.specs.Laws.{no_counts}
+use Rattle.window_pages.specs.Lives.{OneChanges}
 use Rattle.window_pages.specs.declared.counts.PartCounts.{PartCounts}
 use Rattle.window_pages.specs.declared.facts.WindowFacts.{WindowFacts}
+use Rattle.window_pages.specs.declared.page.WindowPage.{WindowPage}
+use Rattle.window_tables.proofs.Places.{set_length, set_other, set_own}
 use Rattle.window_tables.specs.Changes.{Changed, IsBehind, NowBegins, RangeChanged, marks}
 use Rattle.window_tables.specs.Facts.{facts_at}
 use Rattle.window_tables.specs.Homes.{Changes, HasMoved, IsCalled, IsCopied, IsHome, hears}
-use Rattle.window_tables.specs.Tables.{can_note}
+use Rattle.window_tables.specs.Tables.{can_note, Notes}
 use Rattle.window_tables.specs.declared.changes.Change.{Change}
-use Rattle.lending_laws.proofs.Kept.{IsKept, history_kept}
-use Rattle.lending_laws.proofs.Notes.{each_look_is_calls, each_note_is_a_call, given_back_keeps, given_back_lies, given_back_orders, known_stays, past_stops}
-use Rattle.lending_laws.specs.Batches.{AreTruly, CopyIsSo, EachChoiceGoes, EachCopyGoes, EachFollowGoes, EachHomeCopyGoes, EachHomeMoveGoes, EachHomeOrderGoes, EachHomeRefusalGoes, EachIsHistory, EachLoanGoes, EachNoteGoes, EachReleaseGoes, EachReleaseOrderGoes, EachRowGoes, EachRowOrderGoes, EachRowStepGoes, EachScanGoes, EachScanStepGoes, Goes, IsSo, IsSoOf, LoanIsSo, Reaches, row_outcome}
-use Rattle.lending_laws.specs.Notes.{ChangesByTwo, IsTruly}
-use Rattle.lending_laws.specs.Batches as goes
-use Rattle.lending_laws.specs.Histories.{Calls, CallsAt, CarriedOut, Given, GivesWhatItMay, History, IsTold, Moment, Nothing, OneIs, Pending, Reads, calls, is_told, notes, pending_after, slots_after}
+use Rattle.window_tables.specs.declared.facts.TableFacts.{TableFacts}
 use Rattle.lending_laws.specs.Histories as made
+use Rattle.lending_laws.specs.Lender as call
+use Rattle.lending_laws.specs.Lender.{AreSo, AreTruly, Called, CopiesAreSo, CopyIsSo, EachCallGoesOn, HomesAreSo, IsSo, IsSoOf, LoanIsSo, row_outcome}
+use Rattle.page_holds.specs.declared.place.HoldStep.TheVariants as Hold
+use Rattle.page_lender.specs.declared.order.Order.TheVariants as Order
+
+-- A window goes from one moment to another by calls, and by outcomes that are told. Nothing else happens meanwhile.
+pub data Goes (may_give : (ℕ → Bool) → ℕ → Bool) (first : ℕ) (old : Moment) : Moment → Type 0 where
+  goes_stays : Goes may_give first old old
+  goes_calls : (now new : Moment) (i : ℕ) → Goes may_give first old now → CallsAt first i now new → Goes may_give first old new
+  goes_told : (now new : Moment) (i : ℕ) → Goes may_give first old now → IsToldAt may_give i now new → Goes may_give first old new
+
+-- So a window gets these pages, while what was stored and the mappings stay.
+pub record Reaches (may_give : (ℕ → Bool) → ℕ → Bool) (first : ℕ) (old : Moment) (pages : List WindowPage) : Type 0 where
+  pub new : Moment
+  pub goes : Goes may_give first old new
+  pub has : new.pages ≡ pages
+  pub stored : new.stored ≡ old.stored
+  pub world : new.world ≡ old.world
+
+-- what a window goes to is a moment of its history
+abbrev pub EachIsHistory : Type 0
+EachIsHistory =
+    (may_give : (ℕ → Bool) → ℕ → Bool) (first count : ℕ) (old new : Moment) → History may_give first count old → Goes may_give first old new → History may_give first count new
+
+-- Something is noted of many pages: the window goes there by calls.
+abbrev pub EachNoteGoes : Type 0
+EachNoteGoes =
+    (may_give : (ℕ → Bool) → ℕ → Bool) (first count lead from n : ℕ) (change : Change) (m : Moment) (new : List WindowPage) (parts parts_new : List PartCounts) → History may_give first count m →
+    Notes change lead from n true m.pages new parts parts_new → AreTruly change first from n m → Reaches may_give first m new
+
+-- A row begins: what came of the attempt to hold each of its pages is told.
+abbrev pub EachRowGoes : Type 0
+EachRowGoes =
+    (may_give : (ℕ → Bool) → ℕ → Bool) (first lead from : ℕ) (takings : List ℕ) (m : Moment) (new : List WindowPage) (parts parts_new : List PartCounts) (row row_new : List ℕ) →
+    RowBegins lead from takings true m.pages new parts parts_new row row_new →
+    AreSo may_give m from 0 (length row) (λ n x. asks_for (belief_of x) (taking_at takings n)) → Reaches may_give first m new
+
+-- Pages of a row get their orders.
+abbrev pub EachRowOrderGoes : Type 0
+EachRowOrderGoes =
+    (may_give : (ℕ → Bool) → ℕ → Bool) (first lead from : ℕ) (table : TableFacts) (pins row : List ℕ) (order : RowOrder) (m : Moment) (new : List WindowPage) (parts parts_new : List PartCounts) →
+    OrdersNext table pins lead from row order m.pages new parts parts_new → Reaches may_give first m new
+
+-- What came of a step of a row is told.
+abbrev pub EachRowStepGoes : Type 0
+EachRowStepGoes =
+    (may_give : (ℕ → Bool) → ℕ → Bool) (first lead from begin done refused : ℕ) (m : Moment) (new : List WindowPage) (parts parts_new : List PartCounts) (row row_new : List ℕ) →
+    RowCameOut lead from begin done refused true m.pages new parts parts_new row row_new → AreSo may_give m from begin (done + refused) (row_outcome row begin done) → Reaches may_give first m new
+
+-- Pages that are to be copied are chosen, and get their orders.
+abbrev pub EachChoiceGoes : Type 0
+EachChoiceGoes =
+    (may_give : (ℕ → Bool) → ℕ → Bool) (first lead number fingerprint answer : ℕ) (facts : WindowFacts) (is_ready : Bool) (m : Moment) (new : List WindowPage) (parts parts_new : List PartCounts) →
+    Turn (ToCopy facts is_ready fingerprint) lead number answer m.pages new parts parts_new → Reaches may_give first m new
+
+-- What came of a copy is told.
+abbrev pub EachCopyGoes : Type 0
+EachCopyGoes =
+    (may_give : (ℕ → Bool) → ℕ → Bool) (first lead number answer : ℕ) (facts : WindowFacts) (came : CopyOutcome) (m : Moment) (new : List WindowPage) (parts parts_new : List PartCounts) →
+    Turn (λ said x y p q. CameOfCopy facts said x y p q came) lead number answer m.pages new parts parts_new → CopyIsSo may_give m number came → Reaches may_give first m new
+
+-- What a host said is told.
+abbrev pub EachLoanGoes : Type 0
+EachLoanGoes =
+    (may_give : (ℕ → Bool) → ℕ → Bool) (first lead number frames answer : ℕ) (reply : LoanReply) (m : Moment) (new : List WindowPage) (parts parts_new : List PartCounts) →
+    Turn (λ said x y p q. CameOfLoan frames said x y p q reply) lead number answer m.pages new parts parts_new → LoanIsSo may_give m number reply → Reaches may_give first m new
+
+-- Slots are ordered to be released.
+abbrev pub EachReleaseOrderGoes : Type 0
+EachReleaseOrderGoes =
+    (may_give : (ℕ → Bool) → ℕ → Bool) (first lead place room count count_new : ℕ) (facts : WindowFacts) (pins : List ℕ) (m : Moment) (new : List WindowPage) (parts parts_new : List PartCounts) (places places_new : List ℕ) →
+    FindsAt facts pins lead place room count count_new m.pages new parts parts_new places places_new → Reaches may_give first m new
+
+-- What came of the message that released them is told.
+abbrev pub EachReleaseGoes : Type 0
+EachReleaseGoes =
+    (may_give : (ℕ → Bool) → ℕ → Bool) (first lead number answer : ℕ) (outcome : Outcome) (m : Moment) (new : List WindowPage) (parts parts_new : List PartCounts) →
+    Turn (λ said x y p q. Told outcome x y p q) lead number answer m.pages new parts parts_new → IsSoOf may_give m number outcome → Reaches may_give first m new
+
+-- A scan of pages of a part begins.
+abbrev pub EachScanGoes : Type 0
+EachScanGoes =
+    (may_give : (ℕ → Bool) → ℕ → Bool) (first lead from n : ℕ) (scan : Scan) (table : TableFacts) (pins memory row row_new : List ℕ) (all : Bool) (m : Moment) (new : List WindowPage) (parts parts_new : List PartCounts) →
+    RowGoes (BeginsAt scan table pins from all memory) lead from n true m.pages new parts parts_new row row_new → Reaches may_give first m new
+
+-- What came of a step of each of its pages is taken.
+abbrev pub EachScanStepGoes : Type 0
+EachScanStepGoes =
+    (may_give : (ℕ → Bool) → ℕ → Bool) (first count lead from n : ℕ) (scan : Scan) (outcomes : List FindOutcome) (row row_new : List ℕ) (m : Moment) (new : List WindowPage) (parts parts_new : List PartCounts) → History may_give first count m →
+    RowGoes (GoesOnAt scan from outcomes) lead from n true m.pages new parts parts_new row row_new → CopiesAreSo first from m outcomes → Reaches may_give first m new
+
+-- It follows changes to pages beside those that changed.
+abbrev pub EachFollowGoes : Type 0
+EachFollowGoes =
+    (may_give : (ℕ → Bool) → ℕ → Bool) (first lead from n : ℕ) (scan : Scan) (table : TableFacts) (pins memory before row row_new : List ℕ) (m : Moment) (new : List WindowPage) (parts parts_new : List PartCounts) →
+    RowGoes (FollowsAt scan table pins from memory before) lead from n true m.pages new parts parts_new row row_new → Reaches may_give first m new
+
+-- Pages that show frames get orders to show none.
+abbrev pub EachHomeOrderGoes : Type 0
+EachHomeOrderGoes =
+    (may_give : (ℕ → Bool) → ℕ → Bool) (first lead from n : ℕ) (table : TableFacts) (pins : List ℕ) (why : WindowFacts) (m : Moment) (new : List WindowPage) (parts parts_new : List PartCounts) →
+    Changes (λ j. IsCalled (facts_at table pins why (from + j))) lead from n true m.pages new parts parts_new → Reaches may_give first m new
+
+-- They were refused that.
+abbrev pub EachHomeRefusalGoes : Type 0
+EachHomeRefusalGoes =
+    (may_give : (ℕ → Bool) → ℕ → Bool) (first lead from n : ℕ) (m : Moment) (new : List WindowPage) (parts parts_new : List PartCounts) →
+    Changes (λ j. IsHome Refused) lead from n true m.pages new parts parts_new → HomesAreSo may_give m from n Refused → Reaches may_give first m new
+
+-- Other memory was moved to their places.
+abbrev pub EachHomeMoveGoes : Type 0
+EachHomeMoveGoes =
+    (may_give : (ℕ → Bool) → ℕ → Bool) (first lead from n : ℕ) (m : Moment) (new : List WindowPage) (parts parts_new : List PartCounts) →
+    Changes (λ j. HasMoved) lead from n true m.pages new parts parts_new → HomesAreSo may_give m from n Done → Reaches may_give first m new
+
+-- They got copies of their own where they are.
+abbrev pub EachHomeCopyGoes : Type 0
+EachHomeCopyGoes =
+    (may_give : (ℕ → Bool) → ℕ → Bool) (first lead from n : ℕ) (m : Moment) (new : List WindowPage) (parts parts_new : List PartCounts) →
+    Changes (λ j. IsCopied) lead from n true m.pages new parts parts_new → HomesAreSo may_give m from n Done → Reaches may_give first m new
 
 pub each_is_history : EachIsHistory
-each_is_history may_give first count old is h goes.stays = h
-each_is_history may_give first count old is h (goes.calls now next i g c) = calls now is i (each_is_history may_give first count old now h g) c
-each_is_history may_give first count old is h (goes.is_told now next i g t) = is_told now is i (each_is_history may_give first count old now h g) t
+each_is_history may_give first count old is h goes_stays = h
+each_is_history may_give first count old is h (goes_calls now next i g c) = calls now is i (each_is_history may_give first count old now h g) c
+each_is_history may_give first count old is h (goes_told now next i g t) = is_told now is i (each_is_history may_give first count old now h g) t
 
 -- ---- one page of a list becomes another
 
@@ -127,16 +243,16 @@ pub record Turns (may_give : (ℕ → Bool) → ℕ → Bool) (first : ℕ) (old
   pub world : new.world ≡ old.world
 
 pub joined : (may_give : (ℕ → Bool) → ℕ → Bool) (first : ℕ) (a b c : Moment) → Goes may_give first a b → Goes may_give first b c → Goes may_give first a c
-joined g first a b c s goes.stays = s
-joined g first a b c s (goes.calls now next i t e) = goes.calls now c i (joined g first a b now s t) e
-joined g first a b c s (goes.is_told now next i t e) = goes.is_told now c i (joined g first a b now s t) e
+joined g first a b c s goes_stays = s
+joined g first a b c s (goes_calls now next i t e) = goes_calls now c i (joined g first a b now s t) e
+joined g first a b c s (goes_told now next i t e) = goes_told now c i (joined g first a b now s t) e
 
 -- a turn by one call
 pub one_call : (may_give : (ℕ → Bool) → ℕ → Bool) (first i : ℕ) (m : Moment) (x y : WindowPage) (pending : Pending) → slice_get m.pages i ≡ Some x → Calls (first + i) m.world x (m.orders i) y pending →
     Turns may_give first m i y
 one_call g first i m x y pending e c = record {
   new = after_call m i y pending;
-  goes = goes.calls m (after_call m i y pending) i goes.stays (call_at first i m x y pending e c);
+  goes = goes_calls m (after_call m i y pending) i goes_stays (call_at first i m x y pending e c);
   has = refl;
   others = λ j n. other_pending i j pending (m.orders j) n;
   stored = refl;
@@ -187,7 +303,7 @@ rest_goes g first m now pre (x ∷ xs) (y ∷ ys) s is stored world orders l tur
 -- where each page of a window can become what it is in a list, the window gets these pages
 pub each_goes : (g : (ℕ → Bool) → ℕ → Bool) (first : ℕ) (m : Moment) (new : List WindowPage) → length m.pages ≡ length new →
     ((i : ℕ) (x y : WindowPage) → slice_get m.pages i ≡ Some x → slice_get new i ≡ Some y → CanTurn g first m i x y) → Reaches g first m new
-each_goes g first m new l turns = rest_goes g first m m [] m.pages new goes.stays refl refl refl (λ j. refl) l
+each_goes g first m new l turns = rest_goes g first m m [] m.pages new goes_stays refl refl refl (λ j. refl) l
     (λ j x y e f. subst (λ i. CanTurn g first m i x y) (from j) (turns j x y e f)) where
   from : (j : ℕ) → j ≡ 0 + j
   from j = omega arith
@@ -314,7 +430,7 @@ told_as g first i k x y its part after order t n gives d at =
     let new : Moment = record k { pages = slice_set k.pages i y; orders = with_pending i Nothing k.orders; slots = slots_after order its k.slots } in
     record {
       new = new;
-      goes = goes.is_told k new i goes.stays (record {
+      goes = goes_told k new i goes_stays (record {
         before = x;
         after = y;
         part = part;
@@ -422,7 +538,7 @@ each_row_order_goes g first lead from table pins row order m new parts parts_new
   pick : (b : Bool) → can_note lead from (length row) m.pages parts ≡ b → Reaches g first m new
   pick true e = changed_goes g first from (length row) m new (λ j. PageBecomes (Asks (facts_there table pins (from + j)) (slice_index_or row j 0))) (n.asked e)
       (λ j x y l at b. ordered_turn g first (from + j) m (facts_there table pins (from + j)) (slice_index_or row j 0) x y b.part b.part_after b.becomes)
-  pick false e = record { new = m; goes = goes.stays; has = sym (n.same e); stored = refl; world = refl }
+  pick false e = record { new = m; goes = goes_stays; has = sym (n.same e); stored = refl; world = refl }
 
 -- ---- turns one after another
 
@@ -436,7 +552,7 @@ pub call_then : (g : (ℕ → Bool) → ℕ → Bool) (first i : ℕ) (m : Momen
     Turns g first (after_call m i between pending) i y → Turns g first m i y
 call_then g first i m x between y pending e c u = record {
   new = u.new;
-  goes = joined g first m (after_call m i between pending) u.new (goes.calls m (after_call m i between pending) i goes.stays (call_at first i m x between pending e c)) u.goes;
+  goes = joined g first m (after_call m i between pending) u.new (goes_calls m (after_call m i between pending) i goes_stays (call_at first i m x between pending e c)) u.goes;
   has = u.has ∙ set_twice m.pages i between y;
   others = λ j n. u.others j n ∙ other_pending i j pending (m.orders j) n;
   stored = u.stored;
@@ -497,7 +613,7 @@ turn_reaches : (g : (ℕ → Bool) → ℕ → Bool) (first i : ℕ) (m : Moment
 turn_reaches g first i m y new t e = record { new = t.new; goes = t.goes; has = t.has ∙ sym e; stored = t.stored; world = t.world }
 
 none_reaches : (g : (ℕ → Bool) → ℕ → Bool) (first : ℕ) (m : Moment) (new : List WindowPage) → new ≡ m.pages → Reaches g first m new
-none_reaches g first m new e = record { new = m; goes = goes.stays; has = sym e; stored = refl; world = refl }
+none_reaches g first m new e = record { new = m; goes = goes_stays; has = sym e; stored = refl; world = refl }
 
 -- an outcome that is told if it can be taken
 told_of : (g : (ℕ → Bool) → ℕ → Bool) (first i : ℕ) (m : Moment) (x y : WindowPage) (its : Outcome) (part after : PartCounts) → slice_get m.pages i ≡ Some x → Told its x y part after → IsSoOf g m i its → Turns g first m i y
@@ -691,3 +807,33 @@ each_home_copy_goes g first lead from n m new parts parts_new c so =
     homes_go g first lead from n m new parts parts_new (λ j. IsCopied) c
     (λ j x y l e b. then_call g first (from + j) m x b.between y (home_turn g first (from + j) m Done x b.between done_is_free b.first (λ h. so j x l e h))
         (λ pending. past_stops (first + (from + j)) m.world pending b.between y (b.second no_counts).known))
+
+-- ---- each call
+
+call_reaches : (g : (ℕ → Bool) → ℕ → Bool) (first count : ℕ) (m : Moment) (new : List WindowPage) → History g first count m → Called g first m new → Reaches g first m new
+call_reaches g first count m new h (call.notes lead from n change parts parts_new c t) = each_note_goes g first count lead from n change m new parts parts_new h c t
+call_reaches g first count m new h (call.begins_row lead from takings row row_new parts parts_new c t) = each_row_goes g first lead from takings m new parts parts_new row row_new c t
+call_reaches g first count m new h (call.orders_row lead from table pins row order parts parts_new c) = each_row_order_goes g first lead from table pins row order m new parts parts_new c
+call_reaches g first count m new h (call.row_done lead from begin done refused row row_new parts parts_new c t) = each_row_step_goes g first lead from begin done refused m new parts parts_new row row_new c t
+call_reaches g first count m new h (call.to_copy lead number fingerprint answer facts is_ready parts parts_new c) = each_choice_goes g first lead number fingerprint answer facts is_ready m new parts parts_new c
+call_reaches g first count m new h (call.copied lead number answer facts came parts parts_new c t) = each_copy_goes g first lead number answer facts came m new parts parts_new c t
+call_reaches g first count m new h (call.loaned lead number frames answer reply parts parts_new c t) = each_loan_goes g first lead number frames answer reply m new parts parts_new c t
+call_reaches g first count m new h (call.to_release lead place room n n_new facts pins places places_new parts parts_new c) =
+    each_release_order_goes g first lead place room n n_new facts pins m new parts parts_new places places_new c
+call_reaches g first count m new h (call.released lead number answer outcome parts parts_new c t) = each_release_goes g first lead number answer outcome m new parts parts_new c t
+call_reaches g first count m new h (call.begins_scan lead from n scan table pins memory row row_new all parts parts_new c) =
+    each_scan_goes g first lead from n scan table pins memory row row_new all m new parts parts_new c
+call_reaches g first count m new h (call.scan_done lead from n scan outcomes row row_new parts parts_new c t) =
+    each_scan_step_goes g first count lead from n scan outcomes row row_new m new parts parts_new h c t
+call_reaches g first count m new h (call.follows lead from n scan table pins memory before row row_new parts parts_new c) =
+    each_follow_goes g first lead from n scan table pins memory before row row_new m new parts parts_new c
+call_reaches g first count m new h (call.orders_home lead from n table pins why parts parts_new c) = each_home_order_goes g first lead from n table pins why m new parts parts_new c
+call_reaches g first count m new h (call.refused_home lead from n parts parts_new c t) = each_home_refusal_goes g first lead from n m new parts parts_new c t
+call_reaches g first count m new h (call.moved_home lead from n parts parts_new c t) = each_home_move_goes g first lead from n m new parts parts_new c t
+call_reaches g first count m new h (call.copied_home lead from n parts parts_new c t) = each_home_copy_goes g first lead from n m new parts parts_new c t
+
+pub each_call_goes_on : EachCallGoesOn
+each_call_goes_on g first count m new h c =
+    let r : Reaches g first m new = call_reaches g first count m new h c in
+    let after : History g first count r.new = each_is_history g first count m r.new h r.goes in
+    record { new = r.new; history = after; has = r.has; stored = r.stored; world = r.world; reads = (history_kept g first count r.new after).reads }
