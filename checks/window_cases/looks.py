@@ -47,6 +47,20 @@ class Looked:
         given = self.library.structs["find_outcome"](*outcome)
         return int(self.library.call("find_done", self.page, self.counts, *self.structs(look), number, step, given))
 
+    def asked(self) -> None:
+        """It was asked about in vain."""
+        made = self.library.array
+        lists = (made("uint32_t", [0]), 1, made("uint64_t", [0]), 1, made("uint8_t", [0]), 1, made("uint8_t", [0]), 1)
+        self.library.call("answered", self.page, 1, self.counts, 1, 0, made("part", [()]), 1, 0, 0, *lists)
+
+    def is_in_passing(self, look: int, number: int) -> bool:
+        """A question about it isn't to be noted, where it is free and has this number."""
+        made, answer, (part, config) = self.library.array, self.library.array("uint8_t", [0]), self.structs(look)
+        pages, counts = made("page", [*[()] * number, values_of(self.page)]), made("counts", [()])
+        table, pins = self.library.make("table_facts"), made("uint16_t", [])
+        self.library.call("to_ask", pages, number + 1, counts, 1, 0, table, pins, 0, config, part, 1, 2**40, 0, made("uint32_t", [number]), 1, answer, 1)
+        return answer[0] == 3
+
     def asks(self, name: str, look: int, number: int) -> bool:
         return bool(self.library.call(name, self.page, *self.structs(look), number))
 
@@ -77,9 +91,10 @@ def by_rules(library: Library, seen: Compared, chance: random.Random) -> None:
     looked = Looked(library, known, part)
     before = known.counted()
     look, number, facts = some_number(chance), some_number(chance), Facts(locked=chance.random() < 0.1, may_pin=chance.random() < 0.1)
-    for name, due in (("is_left_out", not part.takes(known, look, number)), ("is_to_fetch", part.is_to_fetch(known, look, number)),
-                      ("is_in_passing", part.is_in_passing(known, look, number))):
+    for name, due in (("is_left_out", not part.takes(known, look, number)), ("is_to_fetch", part.is_to_fetch(known, look, number))):
         seen.equal(name, looked.asks(name, look, number), due)
+    if number < 256 and known.is_free(Facts()):
+        seen.equal("in passing", looked.is_in_passing(look, number), part.is_in_passing(known, look, number))
     seen.equal("glanced_by", library.call("glanced_by", looked.page, number), number if known.looks == 0 else plain_looks.fingerprint_of(known))
     memory, is_ready = chance.randrange(3), chance.random() < 0.8
     step = looked.begin(facts, look, number, memory, is_ready)
@@ -154,7 +169,10 @@ def is_idle_by_reads(library: Library, seen: Compared, over: bool) -> None:
             library.call("held", looked.page, looked.counts, True)
             reads = []
         elif which == 2:
-            library.call(chance.choice(["asked", "asked_last"]), looked.page, looked.counts)
+            if chance.random() < 0.5:
+                looked.asked()
+            else:
+                library.call("asked_last", looked.page, looked.counts)
         elif which == 3 and over:
             # (one that couldn't be held: its last read counts still)
             library.call("held", looked.page, looked.counts, False)
@@ -174,7 +192,7 @@ def stays(library: Library, seen: Compared) -> None:
         is_idle = looked.page.looks >> 4 & 3 == 3
         is_met = before != 1 and looked.page.looks >> 4 & 3 == 1
         if is_idle:
-            library.call("asked", looked.page, looked.counts)
+            looked.asked()
         stayed += 1
         seen.holds(f"idle at look {look}", stayed < 17 or is_idle)
         seen.holds(f"met at look {look}", stayed > 1 or not was_idle or is_met)
@@ -218,7 +236,7 @@ def samples(library: Library, seen: Compared) -> None:
         seen.equal(f"samples of {number}", (fetched, left_out), (16, 60))
         seen.equal(f"a page that is asked about, {number}", any(young.asks("is_left_out", look, number) for look in range(80)), False)
     passing = Looked(library, Page(looks=3, asks=1), Part(whole=True))
-    seen.equal("in passing", sum(passing.asks("is_in_passing", look, 100) for look in range(256)), 192)
+    seen.equal("in passing", sum(passing.is_in_passing(look, 100) for look in range(256)), 192)
 
 
 def run(tally: Tally, library: Library) -> None:

@@ -61,9 +61,11 @@ pub use holds::pageshare_window_row_again;
 pub use holds::pageshare_window_row_done;
 pub use laws::limits_law;
 pub use laws::tasks_law;
+pub use lend::pageshare_window_answered;
 pub use lend::pageshare_window_copied;
 pub use lend::pageshare_window_loaned;
 pub use lend::pageshare_window_released;
+pub use lend::pageshare_window_to_ask;
 pub use lend::pageshare_window_to_copy;
 pub use lend::pageshare_window_to_release;
 use look_tasks::Budget;
@@ -77,17 +79,14 @@ use look_tasks::room::fits;
 use look_tasks::room::most;
 pub use looks::WindowLook;
 pub use looks::pageshare_window_ask_at_once;
-pub use looks::pageshare_window_asked;
 pub use looks::pageshare_window_asked_last;
 pub use looks::pageshare_window_glanced_by;
 pub use looks::pageshare_window_held;
-pub use looks::pageshare_window_is_in_passing;
 pub use looks::pageshare_window_is_left_out;
 pub use looks::pageshare_window_is_to_fetch;
 pub use looks::pageshare_window_set_rest;
 pub use looks::pageshare_window_wake;
 pub use mappings::pageshare_window_mappings_at;
-pub use mappings::pageshare_window_mappings_more;
 pub use mappings::pageshare_window_mappings_new;
 pub use numbers::pageshare_window_find_numbers;
 pub use offered_ranges::OfferedBounds;
@@ -139,7 +138,6 @@ use window_pages::forget;
 use window_pages::give_back;
 use window_pages::hear;
 use window_pages::here;
-use window_pages::is_free;
 use window_pages::next;
 use window_pages::see;
 use window_pages::stays;
@@ -287,14 +285,6 @@ pub extern "C" fn pageshare_window_choose(
     ensures page { Lends (IsChosen (chosen_as is_zeros)) (bars_of facts.now (known_of page.old)) page.old page.new part.old part.new }
 {
     choose(page, part, facts, is_zeros)
-}
-
-/// Returns whether a page could be chosen.
-#[unsafe(no_mangle)]
-pub extern "C" fn pageshare_window_is_free(page: &WindowPage, facts: &WindowFacts) -> bool
-    ensures { result ≡ is_free (lender_of facts.now (known_of page.now)) }
-{
-    is_free(page, facts)
 }
 
 /// Returns the number of what is to be done next with a page, which is an order from then on: 0 if there is nothing to do.
