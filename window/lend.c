@@ -484,71 +484,65 @@ void lender_failed(struct windows *windows, int cause) {
     unlock_set(windows);
 }
 
-/*
- * Whether the system has mappings for a page that comes to show a frame, beside `*more` that others will take. Adds what the page takes to
- * them. Otherwise the page is asked about again later. With the lock.
- */
-static bool has_mappings(struct window *window, size_t number, size_t *more) {
-    struct windows *windows = window->windows;
-    /* (nothing is counted where a whole batch has room, of which each page lies between two others) */
-    if (pageshare_window_has_mappings(windows->mappings_most, windows->counts.mappings, 2 * WINDOW_BATCH)) return true;
-    size_t added = mappings_more(window, number, 1);
-    if (!pageshare_window_has_mappings(windows->mappings_most, windows->counts.mappings + *more, added)) {
-        note_crowded(windows, 1);
-        pageshare_window_asked_last(&window->pages[number], part_counts(window, number));
-        return false;
+/* Notes of how many pages was answered that mappings are short for them. With the lock. */
+static void note_left_out(struct windows *windows, const uint8_t *answers, size_t count) {
+    size_t crowded = 0;
+    for (size_t i = 0; i < count; i++) crowded += (answers[i] & PAGESHARE_WINDOW_ASK_CROWDED) != 0 ? 1 : 0;
+    if (crowded > 0) note_crowded(windows, crowded);
+}
+
+/* Leaves those pages of a batch that are to be asked about, or lent. */
+static void keep_asked(struct batch *batch, const uint8_t *answers) {
+    size_t kept = 0;
+    for (size_t i = 0; i < batch->count; i++) {
+        batch->fingerprints[kept] = batch->fingerprints[i];
+        batch->pages[kept] = batch->pages[i];
+        kept += (answers[i] & PAGESHARE_WINDOW_ASK) != 0 ? 1 : 0;
     }
-    *more += added;
-    return true;
+    batch->count = kept;
 }
 
 /* Takes the answers to questions. Leaves those pages of the batch that others have, and that can be lent. Takes the lock. */
-static void take_answers(struct window *window, struct batch *batch, const unsigned char *seen) {
+static void take_answers(struct window *window, struct batch *batch, const uint8_t *seen) {
     struct windows *windows = window->windows;
-    size_t kept = 0, mappings = 0;
+    const size_t count = batch->count;
+    uint8_t answers[WINDOW_BATCH] = {0};
     lock_for_look(windows);
-    for (size_t i = 0; i < batch->count; i++) {
-        uint32_t number = batch->pages[i];
-        page_entry *page = &window->pages[number];
-        bool is_whole = part_of(window, number)->whole, is_other = seen[i] != 0;
-        windows->counts.seen += is_other ? 1 : 0;
-        if (is_other && !is_whole) {
-            if (!has_mappings(window, number, &mappings)) continue;
-            batch->fingerprints[kept] = batch->fingerprints[i];
-            batch->pages[kept++] = number;
-            continue;
-        }
-        pageshare_window_asked(page, part_counts(window, number));
-        /* (the page may have been given up meanwhile) */
-        if (is_whole && looks_of(page) == STILL && kept_of(page) == batch->fingerprints[i]) note_seen(window, number, is_other);
-    }
-    windows->counts.asked += batch->count;
+    pageshare_window_answered(TABLES(window), window->parts, parts_in(window), windows->mappings_most, windows->counts.mappings,
+                              batch->pages, count, batch->fingerprints, count, seen, count, answers, count);
+    note_left_out(windows, answers, count);
+    for (size_t i = 0; i < count; i++) windows->counts.seen += seen[i] != 0 ? 1 : 0;
+    windows->counts.asked += count;
     unlock_set(windows);
-    batch->count = kept;
+    keep_asked(batch, answers);
 }
 
 /*
  * Takes those of the first idle pages that could be lent, and for each of which by itself the system has mappings. Writes the number of each
  * among all windows' pages, and whether others mustn't find it by the question. Takes the lock.
  */
-static void take_lendable(struct look *look, size_t count, uint32_t *numbers, bool *passing) {
+static void take_lendable(struct look *look, uint32_t *numbers, bool *passing) {
     struct batch *batch = &look->batch;
     struct window *window = look->window;
-    lock_for_look(look->windows);
-    const struct pageshare_window_look now = look_now(look->windows);
-    for (size_t i = 0; i < count; i++) {
-        const uint32_t number = look->idle.pages[i];
-        const page_entry *page = &window->pages[number];
-        const struct pageshare_window_facts facts = facts_of(window, number);
-        const struct pageshare_window_part *part = part_of(window, number);
-        if (!pageshare_window_is_free(page, &facts)) continue;
-        if (!part->whole && !has_mappings(window, number, &(size_t){0})) continue;
-        numbers[batch->count] = window->base + number;
-        passing[batch->count] = pageshare_window_is_in_passing(page, part, &now, number);
-        batch->fingerprints[batch->count] = look->idle.fingerprints[i];
-        batch->pages[batch->count++] = number;
+    struct windows *windows = look->windows;
+    const size_t count = least(look->idle.count, WINDOW_BATCH);
+    uint8_t answers[WINDOW_BATCH] = {0};
+    lock_for_look(windows);
+    const struct pageshare_window_look now = look_now(windows);
+    const struct pageshare_window_table_facts table = table_of(window);
+    pageshare_window_to_ask(TABLES(window), &table, PINS(window), &now, window->parts, parts_in(window), windows->mappings_most,
+                            windows->counts.mappings, look->idle.pages, count, answers, count);
+    note_left_out(windows, answers, count);
+    unlock_set(windows);
+    for (size_t i = 0, n = 0; i < count; i++) {
+        numbers[n] = window->base + look->idle.pages[i];
+        passing[n] = (answers[i] & PAGESHARE_WINDOW_ASK_IN_PASSING) != 0;
+        n += (answers[i] & PAGESHARE_WINDOW_ASK) != 0 ? 1 : 0;
     }
-    unlock_set(look->windows);
+    memcpy(batch->fingerprints, look->idle.fingerprints, count * sizeof batch->fingerprints[0]);
+    memcpy(batch->pages, look->idle.pages, count * sizeof batch->pages[0]);
+    batch->count = count;
+    keep_asked(batch, answers);
 }
 
 bool ask_lender(struct look *look) {
@@ -557,10 +551,9 @@ bool ask_lender(struct look *look) {
     uint32_t numbers[WINDOW_BATCH];
     bool passing[WINDOW_BATCH];
     unsigned char seen[WINDOW_BATCH] = {0};
-    const size_t count = look->idle.count < WINDOW_BATCH ? look->idle.count : WINDOW_BATCH;
     batch->count = 0;
-    if (windows->has_lender && !windows->lender_waits) take_lendable(look, count, numbers, passing);
-    take_away(&look->idle, count);
+    if (windows->has_lender && !windows->lender_waits) take_lendable(look, numbers, passing);
+    take_away(&look->idle, least(look->idle.count, WINDOW_BATCH));
     if (batch->count == 0) return false;
     int cause = windows->lender.ask(windows->lender.opaque, numbers, batch->fingerprints, passing, batch->count, seen);
     if (cause == 0) take_answers(look->window, batch, seen);

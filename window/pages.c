@@ -108,11 +108,6 @@ void forget_content(struct window *window, size_t number) {
     pageshare_window_forget(&window->pages[number], part_counts(window, number));
 }
 
-void note_seen(struct window *window, size_t number, bool is_other) {
-    if (is_seen(&window->pages[number]) != is_other)
-        pageshare_window_see(&window->pages[number], part_counts(window, number), is_other);
-}
-
 /* ---- what lies at pages' places ---- */
 
 size_t alike(const struct window *window, size_t first, size_t most) {
@@ -121,10 +116,6 @@ size_t alike(const struct window *window, size_t first, size_t most) {
 
 size_t mappings_of(const struct window *window, size_t first, size_t count) {
     return pageshare_window_mappings_at(window->pages, window->count, PARTS(window), window->lead, first, count);
-}
-
-size_t mappings_more(const struct window *window, size_t first, size_t count) {
-    return pageshare_window_mappings_more(window->pages, window->count, PARTS(window), window->lead, first, count);
 }
 
 void note_moved(struct window *window, size_t first, size_t count) {

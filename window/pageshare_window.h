@@ -279,8 +279,6 @@ struct pageshare_window_facts {
 /* Chooses a page to be lent, or to be given back if it is zeros. Returns whether it can be: it is private, and nothing bars it. */
 bool pageshare_window_choose(struct pageshare_window_page *page, struct pageshare_window_counts *part,
                              const struct pageshare_window_facts *facts, bool is_zeros);
-/* Whether it could be chosen. */
-bool pageshare_window_is_free(const struct pageshare_window_page *page, const struct pageshare_window_facts *facts);
 /* Gives the next order of a page: enum pageshare_window_order. While an order is open that is PAGESHARE_WINDOW_WAIT. */
 uint8_t pageshare_window_next(struct pageshare_window_page *page, struct pageshare_window_counts *part,
                               const struct pageshare_window_facts *facts);
@@ -519,7 +517,6 @@ uint8_t pageshare_window_next_of_part(struct pageshare_window_part *part, const 
 /*
  * VMAs of `count` pages of a window from `first` on:
  *   _at: how many begin at these pages, or at the one behind them, as far as these are there. Of all pages: how many the window uses.
- *   _more: the most that any change of these pages can add.
  *   _new: how many a new window of `count` pages uses.
  * `parts` has each part, and `lead` pages of the first part lie before the window. A part that isn't there counts as split.
  *
@@ -529,9 +526,6 @@ uint8_t pageshare_window_next_of_part(struct pageshare_window_part *part, const 
 size_t pageshare_window_mappings_at(const struct pageshare_window_page *pages, size_t pages_count,
                                     const struct pageshare_window_part *parts, size_t parts_count, size_t lead, size_t first,
                                     size_t count);
-size_t pageshare_window_mappings_more(const struct pageshare_window_page *pages, size_t pages_count,
-                                      const struct pageshare_window_part *parts, size_t parts_count, size_t lead, size_t first,
-                                      size_t count);
 size_t pageshare_window_mappings_new(const struct pageshare_window_part *parts, size_t parts_count, size_t lead, size_t count);
 
 /*
@@ -561,69 +555,6 @@ uint8_t pageshare_window_given_up_by(const struct pageshare_window_page *pages, 
 bool pageshare_window_set_whole(const struct pageshare_window_page *pages, size_t pages_count,
                                 struct pageshare_window_part *parts, size_t parts_count, size_t lead, size_t first, bool is_whole,
                                 size_t *mappings);
-
-/* ---- lists of a window's pages, of which one is taken after another ---- */
-
-/* How it is seen that the copy of a page is of the page that a look found. */
-enum pageshare_window_check {
-    PAGESHARE_WINDOW_CHECK_NO_COPY = 0,     /* it isn't to be copied */
-    PAGESHARE_WINDOW_CHECK_FINGERPRINT = 1, /* it has the fingerprint that was found */
-    PAGESHARE_WINDOW_CHECK_GLANCE = 2,      /* a glance at it, by that fingerprint, finds the page's clue */
-    PAGESHARE_WINDOW_CHECK_NEVER = 3        /* it isn't: something else was found of the page since */
-};
-
-/* What came of a copy. */
-enum pageshare_window_copied {
-    PAGESHARE_WINDOW_NOT_COPIED = 0,   /* it wasn't to be made */
-    PAGESHARE_WINDOW_COPY_GOOD = 1,    /* it is of the page that was found */
-    PAGESHARE_WINDOW_COPY_CHANGED = 2, /* it isn't */
-    PAGESHARE_WINDOW_COPY_ZEROS = 3    /* it is zeros */
-};
-
-/* The answer to what a host said of a page: a sum of these. */
-enum pageshare_window_loan {
-    PAGESHARE_WINDOW_LOAN_GOT = 1,      /* the page has its loan: it is to be held */
-    PAGESHARE_WINDOW_LOAN_NO_FRAME = 2, /* the host has no frame for it */
-    PAGESHARE_WINDOW_LOAN_WRONG = 4,    /* the host owes a slot, or a frame of its file */
-    PAGESHARE_WINDOW_LOAN_IN_FILE = 8   /* the frame is in the host's file */
-};
-
-/*
- * The pages of a list have these numbers. Of each there is an entry in the other lists. Where a page isn't in the table, the answer to it is 0, and
- * nothing else is done. Each returns false, and changes nothing, if lists have different lengths, or if the table has more pages than its parts.
- *
- * to_copy chooses those that are to be copied, which have these fingerprints by the last look. `there` is 1 for a page that is there. Answers: enum
- * pageshare_window_check. While that isn't 0, the page's order is open.
- * copied takes what came of the copies, enum pageshare_window_copied. The answer is 1 for a page of which a loan is to be asked for.
- * loaned takes what a host said of them, if it was heard, whose file has so many frames: the slot and the frame of each loan, or UINT32_MAX as a
- * frame for none. Answers: enum pageshare_window_loan. If it wasn't heard, it has lent none of them.
- * released takes whether the host heard that their slots aren't needed.
- */
-bool pageshare_window_to_copy(struct pageshare_window_page *pages, size_t pages_count, struct pageshare_window_counts *parts,
-                              size_t parts_count, size_t lead, const struct pageshare_window_table_facts *table,
-                              const uint16_t *pins, size_t pins_count, const struct pageshare_window_part *wholes,
-                              size_t wholes_count, const uint32_t *numbers, size_t numbers_count, const uint8_t *there,
-                              size_t there_count, const uint64_t *fingerprints, size_t fingerprints_count, uint8_t *answers,
-                              size_t answers_count);
-bool pageshare_window_copied(struct pageshare_window_page *pages, size_t pages_count, struct pageshare_window_counts *parts,
-                             size_t parts_count, size_t lead, const struct pageshare_window_table_facts *table,
-                             const uint16_t *pins, size_t pins_count, const uint32_t *numbers, size_t numbers_count,
-                             const uint8_t *outcomes, size_t outcomes_count, uint8_t *answers, size_t answers_count);
-bool pageshare_window_loaned(struct pageshare_window_page *pages, size_t pages_count, struct pageshare_window_counts *parts,
-                             size_t parts_count, size_t lead, const uint32_t *numbers, size_t numbers_count,
-                             const uint64_t *slots, size_t slots_count, const uint32_t *given, size_t given_count,
-                             uint32_t frames, bool is_heard, uint8_t *answers, size_t answers_count);
-bool pageshare_window_released(struct pageshare_window_page *pages, size_t pages_count, struct pageshare_window_counts *parts,
-                               size_t parts_count, size_t lead, const size_t *numbers, size_t numbers_count, bool is_done);
-/*
- * Finds which of `count` pages from `first` on are to be released: their slots aren't needed, no order of them is open, and no transfer of them is
- * under way. Releasing them is their order from then on. Writes the numbers of as many as there is room for, and returns how many; none if the
- * pages aren't all there, or if the table has more pages than its parts.
- */
-size_t pageshare_window_to_release(struct pageshare_window_page *pages, size_t pages_count, struct pageshare_window_counts *parts,
-                                   size_t parts_count, size_t lead, const struct pageshare_window_table_facts *table,
-                                   const uint16_t *pins, size_t pins_count, size_t first, size_t count, size_t *places,
-                                   size_t places_count);
 
 /* ---- looks ---- */
 
@@ -792,18 +723,99 @@ void pageshare_window_glance_numbers(const struct pageshare_window_page *pages, 
                                      const uint16_t *places, size_t places_count, uint64_t *numbers, size_t numbers_count);
 /* How many pages from the first on have copies of their own over frames, and were asked about in vain most often; or, if `are` is false, haven't. */
 size_t pageshare_window_left_over(const struct pageshare_window_page *pages, size_t count, bool are);
-/* A page was asked about in vain; it can't be lent now; it is to be asked about at once; or it was to be held, and was, or wasn't. */
-void pageshare_window_asked(struct pageshare_window_page *page, struct pageshare_window_counts *part);
+/* A page can't be lent now; it is to be asked about at once; or it was to be held, and was, or wasn't. */
 void pageshare_window_asked_last(struct pageshare_window_page *page, struct pageshare_window_counts *part);
 void pageshare_window_ask_at_once(struct pageshare_window_page *page, struct pageshare_window_counts *part);
 void pageshare_window_held(struct pageshare_window_page *page, struct pageshare_window_counts *part, bool was_held);
-/* True if the host should answer this question but not remember it. */
-bool pageshare_window_is_in_passing(const struct pageshare_window_page *page, const struct pageshare_window_part *part,
-                                    const struct pageshare_window_look *look, uint32_t number);
 /* What a look found of a part: idle pages that have changed, and pages with memory of their own. Or its rest ends. */
 void pageshare_window_set_rest(struct pageshare_window_part *part, const struct pageshare_window_look *look, uint32_t changes,
                                uint32_t own);
 void pageshare_window_wake(struct pageshare_window_part *part);
+
+/* ---- lists of a window's pages, of which one is taken after another ---- */
+
+/* The answer to a page about which a host may be asked, or was: a sum of these. */
+enum pageshare_window_ask {
+    PAGESHARE_WINDOW_ASK = 1,            /* it may be asked about; or it may be lent, since somebody else has it */
+    PAGESHARE_WINDOW_ASK_IN_PASSING = 2, /* and others mustn't find it by the question */
+    PAGESHARE_WINDOW_ASK_CROWDED = 4     /* it can't, since mappings are short, and is asked about as seldom as any */
+};
+
+/* How it is seen that the copy of a page is of the page that a look found. */
+enum pageshare_window_check {
+    PAGESHARE_WINDOW_CHECK_NO_COPY = 0,     /* it isn't to be copied */
+    PAGESHARE_WINDOW_CHECK_FINGERPRINT = 1, /* it has the fingerprint that was found */
+    PAGESHARE_WINDOW_CHECK_GLANCE = 2,      /* a glance at it, by that fingerprint, finds the page's clue */
+    PAGESHARE_WINDOW_CHECK_NEVER = 3        /* it isn't: something else was found of the page since */
+};
+
+/* What came of a copy. */
+enum pageshare_window_copied {
+    PAGESHARE_WINDOW_NOT_COPIED = 0,   /* it wasn't to be made */
+    PAGESHARE_WINDOW_COPY_GOOD = 1,    /* it is of the page that was found */
+    PAGESHARE_WINDOW_COPY_CHANGED = 2, /* it isn't */
+    PAGESHARE_WINDOW_COPY_ZEROS = 3    /* it is zeros */
+};
+
+/* The answer to what a host said of a page: a sum of these. */
+enum pageshare_window_loan {
+    PAGESHARE_WINDOW_LOAN_GOT = 1,      /* the page has its loan: it is to be held */
+    PAGESHARE_WINDOW_LOAN_NO_FRAME = 2, /* the host has no frame for it */
+    PAGESHARE_WINDOW_LOAN_WRONG = 4,    /* the host owes a slot, or a frame of its file */
+    PAGESHARE_WINDOW_LOAN_IN_FILE = 8   /* the frame is in the host's file */
+};
+
+/*
+ * The pages of a list have these numbers. Of each there is an entry in the other lists. Where a page isn't in the table, the answer to it is 0, and
+ * nothing else is done. Each returns false, and changes nothing, if lists have different lengths, or if the table has more pages than its parts.
+ *
+ * to_ask finds those about which a host may be asked: each is free, and by itself there is room for its mappings, where windows have taken so many
+ * of so many (`most`). answered takes which of them somebody else has; there is room for all together of which the answer is 1. Of whole parts it
+ * notes whether somebody else has a page. Answers: enum pageshare_window_ask.
+ * to_copy chooses those that are to be copied, which have these fingerprints by the last look. `there` is 1 for a page that is there. Answers: enum
+ * pageshare_window_check. While that isn't 0, the page's order is open.
+ * copied takes what came of the copies, enum pageshare_window_copied. The answer is 1 for a page of which a loan is to be asked for.
+ * loaned takes what a host said of them, if it was heard, whose file has so many frames: the slot and the frame of each loan, or UINT32_MAX as a
+ * frame for none. Answers: enum pageshare_window_loan. If it wasn't heard, it has lent none of them.
+ * released takes whether the host heard that their slots aren't needed.
+ */
+bool pageshare_window_to_ask(struct pageshare_window_page *pages, size_t pages_count, struct pageshare_window_counts *parts,
+                             size_t parts_count, size_t lead, const struct pageshare_window_table_facts *table,
+                             const uint16_t *pins, size_t pins_count, const struct pageshare_window_look *look,
+                             const struct pageshare_window_part *wholes, size_t wholes_count, uint64_t most, uint64_t taken,
+                             const uint32_t *numbers, size_t numbers_count, uint8_t *answers, size_t answers_count);
+bool pageshare_window_answered(struct pageshare_window_page *pages, size_t pages_count, struct pageshare_window_counts *parts,
+                               size_t parts_count, size_t lead, const struct pageshare_window_part *wholes, size_t wholes_count,
+                               uint64_t most, uint64_t taken, const uint32_t *numbers, size_t numbers_count,
+                               const uint64_t *fingerprints, size_t fingerprints_count, const uint8_t *seen, size_t seen_count,
+                               uint8_t *answers, size_t answers_count);
+bool pageshare_window_to_copy(struct pageshare_window_page *pages, size_t pages_count, struct pageshare_window_counts *parts,
+                              size_t parts_count, size_t lead, const struct pageshare_window_table_facts *table,
+                              const uint16_t *pins, size_t pins_count, const struct pageshare_window_part *wholes,
+                              size_t wholes_count, const uint32_t *numbers, size_t numbers_count, const uint8_t *there,
+                              size_t there_count, const uint64_t *fingerprints, size_t fingerprints_count, uint8_t *answers,
+                              size_t answers_count);
+bool pageshare_window_copied(struct pageshare_window_page *pages, size_t pages_count, struct pageshare_window_counts *parts,
+                             size_t parts_count, size_t lead, const struct pageshare_window_table_facts *table,
+                             const uint16_t *pins, size_t pins_count, const uint32_t *numbers, size_t numbers_count,
+                             const uint8_t *outcomes, size_t outcomes_count, uint8_t *answers, size_t answers_count);
+bool pageshare_window_loaned(struct pageshare_window_page *pages, size_t pages_count, struct pageshare_window_counts *parts,
+                             size_t parts_count, size_t lead, const uint32_t *numbers, size_t numbers_count,
+                             const uint64_t *slots, size_t slots_count, const uint32_t *given, size_t given_count,
+                             uint32_t frames, bool is_heard, uint8_t *answers, size_t answers_count);
+bool pageshare_window_released(struct pageshare_window_page *pages, size_t pages_count, struct pageshare_window_counts *parts,
+                               size_t parts_count, size_t lead, const size_t *numbers, size_t numbers_count, bool is_done);
+/*
+ * Finds which of `count` pages from `first` on are to be released: their slots aren't needed, no order of them is open, and no transfer of them is
+ * under way. Releasing them is their order from then on. Writes the numbers of as many as there is room for, and returns how many; none if the
+ * pages aren't all there, or if the table has more pages than its parts.
+ */
+size_t pageshare_window_to_release(struct pageshare_window_page *pages, size_t pages_count, struct pageshare_window_counts *parts,
+                                   size_t parts_count, size_t lead, const struct pageshare_window_table_facts *table,
+                                   const uint16_t *pins, size_t pins_count, size_t first, size_t count, size_t *places,
+                                   size_t places_count);
+
+/* ---- sessions ---- */
 
 /* The client's half of a session with a host (pageshare_host.h), which outlives its connections. A struct of zeros is a client without one. */
 struct pageshare_window_session {

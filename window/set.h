@@ -200,10 +200,6 @@ static inline bool can_lend(const struct window *window) {
 bool count_transfers(struct window *window);
 size_t bytes_of_places(const struct windows *windows);
 void free_places(struct windows *windows);
-/* Whether a transfer of a page is under way. With the lock. */
-static inline bool is_in_transfer(const struct window *window, size_t page) {
-    return window->pins != NULL && window->pins[page] > 0;
-}
 /* Whether any page with a copy over a frame may be pinned, for all that is known. With the lock. */
 static inline bool may_pin(const struct windows *windows) {
     return windows->config.pins != WINDOWS_PINS_NEVER || windows->transfers_elsewhere > 0;
@@ -225,11 +221,10 @@ static inline void unlock_set(struct windows *windows) { pthread_mutex_unlock(&w
 void note_failure(struct windows *windows, enum window_status status, int cause);
 
 /*
- * How many mappings of the system begin at these pages, or at the one behind them; and how many more may begin there, whatever becomes of them.
+ * How many mappings of the system begin at these pages, or at the one behind them.
  * What changes these pages changes the windows' count of mappings by what begins there then, less what began there before. With the lock.
  */
 size_t mappings_of(const struct window *window, size_t first, size_t count);
-size_t mappings_more(const struct window *window, size_t first, size_t count);
 
 /* ---- what the library decides of pages. All with the lock ---- */
 
@@ -264,8 +259,6 @@ void hear_written(struct window *window, size_t page);
 void note_zero(struct window *window, size_t page, bool is_zero);
 /* What is known of a page's content counts no more. */
 void forget_content(struct window *window, size_t page);
-/* Whether a page of a whole part could be shared. */
-void note_seen(struct window *window, size_t page, bool is_seen);
 /* A slot's number of a lender, by the name in 32 bits that the library gave it. */
 uint64_t slot_number(uint32_t name);
 

@@ -1,4 +1,4 @@
-"""Lists of pages that are copied, lent and released as chance has it, beside a plain model of each page (common/plain_page.py)."""
+"""Lists of pages that are asked about, copied, lent and released as chance has it, beside a plain model of each page (common/plain_page.py)."""
 from __future__ import annotations
 
 import collections
@@ -6,6 +6,7 @@ import random
 from typing import Any
 
 from common.compared import Compared
+from common.plain_looks import Part
 from common.plain_page import (
     CHOSEN, COPIED, COPY, DONE, HOLD, LEAVING, LEND, LENT, PRIVATE, READY, REFUSED, RELEASE, SHOWN, WAITING, ZEROS, Facts, Page, sums,
 )
@@ -13,7 +14,7 @@ from common.window_library import Library, values_of
 from harness import Tally
 
 # The pages of a table, of which three are in its first part; the frames of the host's file; and how often a table is made.
-PAGES, LEAD, FRAMES, ROUNDS, CALLS = 8, 509, 50, 3000, 5
+PAGES, LEAD, FRAMES, ROUNDS, CALLS = 8, 509, 50, 3000, 7
 NO_FRAME = 2**32 - 1
 
 
@@ -27,7 +28,7 @@ def some_page(chance: random.Random) -> Page:
     belief = chance.choice([*[PRIVATE] * 4, *[CHOSEN] * 3, *[COPIED] * 5, READY, READY | ZEROS, LEAVING, LEAVING, SHOWN, *WAITING])
     frame = 0 if belief == LEAVING else chance.randrange(2)
     return Page(belief, chance.randrange(2), frame, chance.random() < 0.4, chance.random() < 0.3, looks=chance.choice([1, 3, 3]),
-                asks=chance.choice([0, 3]), clue=chance.randrange(9), out=chance.random() < 0.05)
+                asks=chance.choice([0, 1, 3]), clue=chance.randrange(4), out=chance.random() < 0.05)
 
 
 class Table:
@@ -65,6 +66,65 @@ class Table:
         self.seen.equal(f"answers of {name}", list(answers)[: len(numbers)], due)
         self.found.update(f"{name} {it}" for it in due)
 
+    # ---- questions ----
+
+    def more(self, number: int) -> int:
+        """How many mappings more a page may take, whatever becomes of it."""
+        def begins(at: int) -> bool:
+            if at == 0:
+                return True
+            one, other = self.known[at - 1], self.known[at]
+            if one.over or other.over:
+                return not (one.over and other.over and one.past == other.past and (one.clue + 1) % 32768 == other.clue)
+            wholes = {self.whole[(LEAD + it) // 512] for it in (at - 1, at)}
+            return one.moved != other.moved or other.begins or len(wholes) > 1
+
+        places = range(number, min(number + 2, PAGES))
+        return len(places) - sum(map(begins, places))
+
+    def ask(self, number: int, look: int, room: int) -> int:
+        """Whether a page may be asked about."""
+        if number >= PAGES or not self.known[number].is_free(self.facts_of(number)):
+            return 0
+        page, whole, more = self.known[number], self.whole[(LEAD + number) // 512], self.more(number)
+        if not whole and more > room:
+            page.asks = 3
+            return 4
+        return 3 if Part(whole=whole).is_in_passing(page, look, number) else 1
+
+    def wholes(self) -> Any:
+        return self.library.array("part", [(it, 0, 0, 0, 0, False, False, 0) for it in self.whole])
+
+    def to_ask(self) -> None:
+        numbers, look, most = self.numbers(), self.chance.randrange(64), self.chance.choice([7, 8, 9])
+        due = [self.ask(it, look, most - 7) for it in numbers]
+        config = self.library.structs["look"](0, look, Part().turns, Part().rest_most)
+        self.list("to_ask", [*self.facts, config, self.wholes(), 2, most, 7], numbers, [], [], due)
+
+    def answer(self, number: int, fingerprint: int, is_other: int, room: list[int]) -> int:
+        """What a host's answer means. A page that may be lent takes room."""
+        if number >= PAGES:
+            return 0
+        page, whole, more = self.known[number], self.whole[(LEAD + number) // 512], self.more(number)
+        if is_other and not whole:
+            page.asks = page.asks if more == 0 or more <= room[0] else 3
+            if more > 0 and more > room[0]:
+                return 4
+            room[0] -= more
+            return 1
+        page.asks = min(page.asks + 1, 3)
+        if whole and page.looks == 3 and fingerprint == self.kept(number):
+            page.seen = is_other > 0
+        return 0
+
+    def answered(self) -> None:
+        numbers, room = self.numbers(), [self.chance.randrange(4)]
+        prints = [self.kept(it) if self.chance.random() < 0.7 else 5 for it in numbers]
+        seen = [self.chance.choice([0, 1, 7]) for _ in numbers]
+        before = [self.wholes(), 2, room[0] + 9, 9]
+        due = [self.answer(*it, room) for it in zip(numbers, prints, seen)]
+        self.list("answered", before, numbers, [("uint64_t", prints), ("uint8_t", seen)], [], due)
+
     # ---- copies ----
 
     def kept(self, number: int) -> int:
@@ -87,7 +147,7 @@ class Table:
         there = [self.chance.choice([0, 1, 1, 1]) for _ in numbers]
         prints = [self.kept(it) if self.chance.random() < 0.7 else 5 for it in numbers]
         due = [self.check_of(*it) for it in zip(numbers, there, prints)]
-        before = [*self.facts, self.library.array("part", [(it, 0, 0, 0, 0, False, False, 0) for it in self.whole]), 2]
+        before = [*self.facts, self.wholes(), 2]
         self.list("to_copy", before, numbers, [("uint8_t", there), ("uint64_t", prints)], [], due)
 
     def came(self, number: int, outcome: int) -> int:
@@ -160,7 +220,7 @@ class Table:
 
     def go_on(self) -> None:
         """A call, after which the pages and the counts of their parts are as they are known."""
-        call = self.chance.choice([self.to_copy, self.copied, self.loaned, self.to_release])
+        call = self.chance.choice([self.to_ask, self.answered, self.to_copy, self.copied, self.loaned, self.to_release])
         call()
         self.seen.equal(f"the pages after {call.__name__}", values_of(self.pages), tuple(page.bytes() for page in self.known))
         self.seen.equal(f"the counts after {call.__name__}", values_of(self.parts), (sums(self.known[:3]), sums(self.known[3:])))
@@ -175,6 +235,6 @@ def run(tally: Tally, library: Library) -> None:
         for _ in range(CALLS):
             table.go_on()
         found.update(table.found)
-    for name in ("to_copy 1", "to_copy 2", "to_copy 3", "copied 1", "loaned 2", "loaned 9", "loaned 5", "found"):
+    for name in ("to_ask 1", "to_ask 3", "to_ask 4", "answered 1", "answered 4", "to_copy 1", "to_copy 2", "to_copy 3", "copied 1", "loaned 2", "loaned 9", "loaned 5", "found"):
         seen.holds(f"enough of {name}", found[name] >= 50)
     seen.close()

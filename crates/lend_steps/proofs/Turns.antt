@@ -15,6 +15,7 @@ use Rattle.window_pages.specs.declared.page.WindowPage.{WindowPage}
 use Rattle.window_tables.proofs.Counts.{counted_more}
 use Rattle.window_tables.proofs.Places.{set_length, set_own}
 use Rattle.window_tables.specs.Tables.{Counted, OneChanges, has_parts, part_at}
+use Rattle.lend_steps.specs.Asks.{Answered, InVain, ToAsk, is_asked, is_crowded, is_found, is_in_vain, is_left_out, is_not_free, sees}
 use Rattle.lend_steps.specs.Copies.{CameOfCopy, ToCopy, is_chosen, is_left, is_good, is_changed, is_zeros, is_nothing}
 use Rattle.lend_steps.specs.Lists.{Deed, Followed, Told, Turn, follows, stays, is_there, is_not_there}
 use Rattle.lend_steps.specs.Loans.{CameOfLoan, is_unheard, is_without_frame, is_without_slot, is_given}
@@ -139,3 +140,22 @@ finds_keeps facts pins lead place room count count_new old new parts parts_new p
 }
 finds_keeps facts pins lead place room count count_new old new parts parts_new places places_new (asks is l h o e d) =
     change_keeps (λ x y p q. ToRelease facts is x y p q) lead place old new parts parts_new o (released_follows facts is o.before o.after o.part o.part_after o.becomes)
+
+pub to_ask_follows : (facts : WindowFacts) (has_room passing : Bool) (a : ℕ) (x y : WindowPage) (p q : PartCounts) → ToAsk facts has_room passing a x y p q → Followed x p y q
+to_ask_follows facts has_room passing a x y p q (is_not_free h e b d) = stays y q b d
+to_ask_follows facts has_room passing a x y p q (is_crowded h r e n) = follows x y p q (stays x p refl refl) n.counts
+to_ask_follows facts has_room passing a x y p q (is_asked h r e b d) = stays y q b d
+
+in_vain_follows : (whole other : Bool) (fingerprint : ℕ) (x y : WindowPage) (p q : PartCounts) → InVain whole other fingerprint x y p q → Followed x p y q
+in_vain_follows whole other fingerprint x y p q v = pick (sees whole other fingerprint v.between) refl where
+  first : Followed x p v.between v.part_between
+  first = follows x v.between p v.part_between (stays x p refl refl) v.asked.counts
+
+  pick : (is : Bool) → sees whole other fingerprint v.between ≡ is → Followed x p y q
+  pick true e = follows v.between y v.part_between q first ((v.seen e).counts)
+  pick false e = subst (λ w. Followed x p w q) (sym (v.kept e)) (subst (λ w. Followed x p v.between w) (sym (v.kept_part e)) first)
+
+pub answered_follows : (whole other has_room : Bool) (fingerprint a : ℕ) (x y : WindowPage) (p q : PartCounts) → Answered whole other has_room fingerprint a x y p q → Followed x p y q
+answered_follows whole other has_room fingerprint a x y p q (is_in_vain h e v) = in_vain_follows whole other fingerprint x y p q v
+answered_follows whole other has_room fingerprint a x y p q (is_left_out h r e n) = follows x y p q (stays x p refl refl) n.counts
+answered_follows whole other has_room fingerprint a x y p q (is_found h r e b d) = stays y q b d

@@ -1,3 +1,4 @@
+pub mod Asks
 pub mod Copies
 pub mod Lists
 pub mod Loans

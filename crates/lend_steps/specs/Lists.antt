@@ -29,10 +29,32 @@ pub data InTurn (Does : ℕ → Deed) (lead : ℕ) (numbers : List ℕ) (old : L
       → Turn (Does n) lead (slice_index_or numbers n 0) answer now new counts counts_new → said_new ≡ slice_set said n answer
       → InTurn Does lead numbers old parts answers (n + 1) new counts_new said_new
 
+-- The same, where room is taken up by each answer: what is done may depend on how much is taken, and on the table then.
+pub data InTurnWith (Does : ℕ → ℕ → List WindowPage → Deed) (Takes : ℕ → ℕ → List WindowPage → ℕ) (lead : ℕ) (numbers : List ℕ) (old : List WindowPage) (parts : List PartCounts) (answers : List ℕ) (taken : ℕ) : ℕ → ℕ → List WindowPage → List PartCounts → List ℕ → Type 0 where
+  begins_with : InTurnWith Does Takes lead numbers old parts answers taken 0 taken old parts answers
+  goes_on_with : (n answer has has_new : ℕ) (now new : List WindowPage) (counts counts_new : List PartCounts) (said said_new : List ℕ)
+      → InTurnWith Does Takes lead numbers old parts answers taken n has now counts said → n < length numbers
+      → Turn (Does n has now) lead (slice_index_or numbers n 0) answer now new counts counts_new → said_new ≡ slice_set said n answer
+      → has_new ≡ has + Takes n answer now → InTurnWith Does Takes lead numbers old parts answers taken (n + 1) has_new new counts_new said_new
+
 -- This is done with all pages of a list, exactly if `can`. Else nothing changes. The counts of the parts stay right.
 pub record Each (Does : ℕ → Deed) (lead : ℕ) (numbers : List ℕ) (can is_done : Bool) (old new : List WindowPage) (parts parts_new : List PartCounts) (answers answers_new : List ℕ) : Type 0 where
   pub done : is_done ≡ can
   pub pages : is_done ≡ true → InTurn Does lead numbers old parts answers (length numbers) new parts_new answers_new
+  pub counted : Counted lead old parts → Counted lead new parts_new
+  pub same : is_done ≡ false → new ≡ old
+  pub same_parts : is_done ≡ false → parts_new ≡ parts
+  pub same_answers : is_done ≡ false → answers_new ≡ answers
+
+-- The same of all pages of a list, whatever room is taken up then.
+pub record AllInTurnWith (Does : ℕ → ℕ → List WindowPage → Deed) (Takes : ℕ → ℕ → List WindowPage → ℕ) (lead : ℕ) (numbers : List ℕ) (taken : ℕ) (old new : List WindowPage) (parts parts_new : List PartCounts) (answers answers_new : List ℕ) : Type 0 where
+  pub has : ℕ
+  pub turns : InTurnWith Does Takes lead numbers old parts answers taken (length numbers) has new parts_new answers_new
+
+-- The same, exactly if `can`. Else nothing changes. The counts of the parts stay right.
+pub record EachWith (Does : ℕ → ℕ → List WindowPage → Deed) (Takes : ℕ → ℕ → List WindowPage → ℕ) (lead : ℕ) (numbers : List ℕ) (taken : ℕ) (can is_done : Bool) (old new : List WindowPage) (parts parts_new : List PartCounts) (answers answers_new : List ℕ) : Type 0 where
+  pub done : is_done ≡ can
+  pub pages : is_done ≡ true → AllInTurnWith Does Takes lead numbers taken old new parts parts_new answers answers_new
   pub counted : Counted lead old parts → Counted lead new parts_new
   pub same : is_done ≡ false → new ≡ old
   pub same_parts : is_done ≡ false → parts_new ≡ parts

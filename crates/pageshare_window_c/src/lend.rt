@@ -1,15 +1,78 @@
-//! What is copied, lent and released, up to 128 pages at once.
+//! What is asked, copied, lent and released, up to 128 pages at once.
 ghost use Rattle.std.specs.Prelude.{◌≡◌, ◌&&◌, [], length, nat_eq};
+ghost use Rattle.lend_steps.specs.Asks.{AnsweredAt, AsksAt, takes_if_found, takes_none};
 ghost use Rattle.lend_steps.specs.Copies.{CopiedAt, CopiesAt};
-ghost use Rattle.lend_steps.specs.Lists.{Each};
+ghost use Rattle.lend_steps.specs.Lists.{Each, EachWith};
 ghost use Rattle.lend_steps.specs.Loans.{LoanedAt};
 ghost use Rattle.lend_steps.specs.Releases.{Finds, ReleasedAt};
+ghost use Rattle.pageshare_window_c.specs.Looks.{config_of};
 ghost use Rattle.window_tables.specs.Tables.{can_note, has_parts};
 
-use lend_steps::{copied, loaned, released, to_copy, to_release};
+use crate::WindowLook;
+use crate::looks::config_of;
+use lend_steps::{answered, copied, loaned, released, to_ask, to_copy, to_release};
 use page_looks::parts::Part;
 use window_pages::{PartCounts, WindowPage};
 use window_tables::TableFacts;
+
+/// Finds about which pages of a list a host may be asked, each by itself: those that are free, and for which the system has mappings, where windows
+/// have taken so many of so many. `wholes` has each part of the table. Writes to `answers`, of each: 0 it isn't free; 1 it may be asked about; 3 the
+/// same, and others mustn't find it by the question; 4 there is no room for it, and it is asked about as seldom as any. Returns false, and changes
+/// nothing, if the table has more pages than its parts, or if the lists have different lengths.
+#[unsafe(no_mangle)]
+pub extern "C" fn pageshare_window_to_ask(
+    pages: &mut [WindowPage],
+    parts: &mut [PartCounts],
+    lead: usize,
+    table: &TableFacts,
+    pins: &[u16],
+    look: &WindowLook,
+    wholes: &[Part],
+    most: u64,
+    taken: u64,
+    numbers: &[u32],
+    answers: &mut [u8],
+) -> bool
+    ensures { EachWith (AsksAt table.now pins.now (config_of look.now) look.now.look most lead wholes.now numbers.now) takes_none lead numbers.now taken (has_parts lead pages.old parts.old && nat_eq (length answers.old) (length numbers.now)) result pages.old pages.new parts.old parts.new answers.old answers.new }
+{
+    let config = config_of(look);
+    to_ask(
+        pages, parts, lead, table, pins, &config, look.look, wholes, most, taken, numbers, answers,
+    )
+}
+
+/// Takes a host's answers to the questions about a list's pages, one after another: whether somebody else has each (`seen`), which has this
+/// fingerprint. `wholes` has each part of the table; windows have taken so many mappings of so many. Writes to `answers`, of each: 1 it may be lent,
+/// and its mappings are taken; 4 it could be, but there is no room for it, and it is asked about as seldom as any; else 0. Returns false, and changes
+/// nothing, if the table has more pages than its parts, or if the lists have different lengths.
+#[unsafe(no_mangle)]
+pub extern "C" fn pageshare_window_answered(
+    pages: &mut [WindowPage],
+    parts: &mut [PartCounts],
+    lead: usize,
+    wholes: &[Part],
+    most: u64,
+    taken: u64,
+    numbers: &[u32],
+    fingerprints: &[u64],
+    seen: &[u8],
+    answers: &mut [u8],
+) -> bool
+    ensures { EachWith (AnsweredAt most lead wholes.now numbers.now fingerprints.now seen.now) (takes_if_found lead wholes.now numbers.now) lead numbers.now taken (has_parts lead pages.old parts.old && nat_eq (length fingerprints.now) (length numbers.now) && nat_eq (length seen.now) (length numbers.now) && nat_eq (length answers.old) (length numbers.now)) result pages.old pages.new parts.old parts.new answers.old answers.new }
+{
+    answered(
+        pages,
+        parts,
+        lead,
+        wholes,
+        most,
+        taken,
+        numbers,
+        fingerprints,
+        seen,
+        answers,
+    )
+}
 
 /// Chooses the pages of a list that are to be copied, one after another, each with the fingerprint that a look found. `wholes` has each part of the
 /// table, and `there` 1 for a page that is there, else 0. Writes to `answers`, of each: 0 it is left; 1 it is copied, and has that fingerprint if it is the page that

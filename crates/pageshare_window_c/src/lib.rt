@@ -50,12 +50,12 @@ use budget::{budget_of, config_by, put};
 pub use client_session::KeptSession;
 pub use holds::{WindowRowOrder, pageshare_window_begin_row, pageshare_window_next_of_row, pageshare_window_row_again, pageshare_window_row_done};
 pub use laws::{limits_law, tasks_law};
-pub use lend::{pageshare_window_copied, pageshare_window_loaned, pageshare_window_released, pageshare_window_to_copy, pageshare_window_to_release};
+pub use lend::{pageshare_window_answered, pageshare_window_copied, pageshare_window_loaned, pageshare_window_released, pageshare_window_to_ask, pageshare_window_to_copy, pageshare_window_to_release};
 pub use look_tasks::{LookFinds, LookSteps, LookTasks, LookTimes, PartReturn, TaskOutcome};
 use look_tasks::Budget;
 use look_tasks::room::{fits, most};
-pub use looks::{WindowLook, pageshare_window_ask_at_once, pageshare_window_asked, pageshare_window_asked_last, pageshare_window_held, pageshare_window_is_in_passing, pageshare_window_set_rest, pageshare_window_wake};
-pub use mappings::{pageshare_window_mappings_at, pageshare_window_mappings_more, pageshare_window_mappings_new};
+pub use looks::{WindowLook, pageshare_window_ask_at_once, pageshare_window_asked_last, pageshare_window_held, pageshare_window_set_rest, pageshare_window_wake};
+pub use mappings::{pageshare_window_mappings_at, pageshare_window_mappings_new};
 pub use numbers::pageshare_window_find_numbers;
 pub use offered_ranges::{OfferedBounds, OfferedRange, Piece, Taken};
 use offered_ranges::{add, is_part_left, next as next_piece, take_out};
@@ -71,7 +71,7 @@ pub use tables::{pageshare_window_are_movable, pageshare_window_cover, pageshare
 pub use tasks::{WindowTask, pageshare_window_begin_tasks, pageshare_window_next_task, pageshare_window_task_done};
 pub use times::{pageshare_window_be_eager, pageshare_window_begin_times, pageshare_window_look_ended, pageshare_window_pause_ms};
 pub use window_pages::{PartCounts, WindowFacts, WindowPage};
-use window_pages::{alike, choose, forget, give_back, hear, here, is_free, next, see, stays, take, withdraw};
+use window_pages::{alike, choose, forget, give_back, hear, here, next, see, stays, take, withdraw};
 pub use window_tables::TableFacts;
 pub use window_tables::pins::Transfer;
 
@@ -213,14 +213,6 @@ pub extern "C" fn pageshare_window_choose(
     ensures page { Lends (IsChosen (chosen_as is_zeros)) (bars_of facts.now (known_of page.old)) page.old page.new part.old part.new }
 {
     choose(page, part, facts, is_zeros)
-}
-
-/// Returns whether a page could be chosen.
-#[unsafe(no_mangle)]
-pub extern "C" fn pageshare_window_is_free(page: &WindowPage, facts: &WindowFacts) -> bool
-    ensures { result ≡ is_free (lender_of facts.now (known_of page.now)) }
-{
-    is_free(page, facts)
 }
 
 /// Returns the number of what is to be done next with a page, which is an order from then on: 0 if there is nothing to do.

@@ -1,8 +1,7 @@
 //! Pages and parts, as looks know them.
 ghost use Rattle.std.specs.Prelude.{◌≡◌, false};
-ghost use Rattle.page_looks.specs.Idle.{asked, asked_last, due, held};
+ghost use Rattle.page_looks.specs.Idle.{asked_last, due, held};
 ghost use Rattle.page_looks.specs.Rests.{found_then, woken};
-ghost use Rattle.page_looks.specs.Turns.{is_asked_in_passing};
 ghost use Rattle.page_looks.specs.Notes.{Notes, looks_of};
 ghost use Rattle.window_pages.specs.Bytes.{notes_of};
 ghost use Rattle.pageshare_window_c.specs.Looks.{config_of};
@@ -40,17 +39,6 @@ pub(crate) fn config_of(look: &WindowLook) -> LookConfig
     }
 }
 
-/// Learns that a page was asked about in vain.
-#[unsafe(no_mangle)]
-pub extern "C" fn pageshare_window_asked(page: &mut WindowPage, counts: &mut PartCounts)
-    ensures { Notes (asked (looks_of page.old)) (notes_of page.old).seen page.old page.new counts.old counts.new }
-{
-    let mut looks = looks_of(page);
-    looks.asked();
-    let seen = page.notes().seen;
-    write_looks(page, counts, &looks, seen);
-}
-
 /// Learns that a page can't be lent now. So it is asked about as seldom as one that was asked about in vain most often.
 #[unsafe(no_mangle)]
 pub extern "C" fn pageshare_window_asked_last(page: &mut WindowPage, counts: &mut PartCounts)
@@ -85,19 +73,6 @@ pub extern "C" fn pageshare_window_held(
     looks.held(was_held);
     let seen = page.notes().seen;
     write_looks(page, counts, &looks, seen);
-}
-
-/// Returns whether others mustn't find a page by the question about it.
-#[unsafe(no_mangle)]
-pub extern "C" fn pageshare_window_is_in_passing(
-    page: &WindowPage,
-    part: &Part,
-    look: &WindowLook,
-    number: u32,
-) -> bool
-    ensures { result ≡ is_asked_in_passing (config_of look.now) part.now (looks_of page.now) look.now.look number }
-{
-    looks_of(page).is_asked_in_passing(&config_of(look), part, look.look, number)
 }
 
 /// Takes what a look found of a part: how many idle pages have changed, and how many have memory of their own.

@@ -1,11 +1,11 @@
 //! How many mappings of the system a window's pages take.
 ghost use Rattle.std.specs.Prelude.{◌≡◌, replicate};
 ghost use Rattle.window_pages.specs.Laws.{new_page};
-ghost use Rattle.window_tables.specs.Mappings.{mappings_at, mappings_more, mappings_of};
+ghost use Rattle.window_tables.specs.Mappings.{mappings_at, mappings_of};
 
 use page_looks::parts::Part;
 use window_pages::WindowPage;
-use window_tables::{mappings_at, mappings_more, mappings_new};
+use window_tables::{mappings_at, mappings_new};
 
 /// Returns how many mappings begin at so many pages from one on, or at the page behind them, as far as these pages are there. Of a whole table
 /// that is how many mappings it has.
@@ -20,20 +20,6 @@ pub extern "C" fn pageshare_window_mappings_at(
     ensures { result ≡ mappings_at lead parts.now pages.now first count }
 {
     mappings_at(pages, parts, lead, first, count)
-}
-
-/// Returns how many more may begin there, whatever becomes of these pages.
-#[unsafe(no_mangle)]
-pub extern "C" fn pageshare_window_mappings_more(
-    pages: &[WindowPage],
-    parts: &[Part],
-    lead: usize,
-    first: usize,
-    count: usize,
-) -> usize
-    ensures { result ≡ mappings_more lead parts.now pages.now first count }
-{
-    mappings_more(pages, parts, lead, first, count)
 }
 
 /// Returns how many mappings a window of so many pages takes at first, where nothing is known of its pages.
