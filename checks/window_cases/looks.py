@@ -85,10 +85,6 @@ class Looked:
         self.library.call("to_ask", pages, number + 1, counts, 1, 0, table, pins, 0, config, part, 1, 2**40, 0, made("uint32_t", [number]), 1, answer, 1)
         return answer[0] == 3
 
-    def asks(self, name: str, look: int, number: int) -> bool:
-        look_at, part = self.structs(look)
-        return bool(self.library.call(name, self.page, part, look_at, number))
-
     def glanced_by(self, number: int) -> int:
         library, pages = self.library, table_of(self.library)[0]
         numbers = library.array("uint64_t", [0])
