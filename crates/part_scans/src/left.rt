@@ -27,11 +27,7 @@ fn is_left_over(page: &WindowPage) -> bool
     ensures { result ≡ is_left_over page.now }
 {
     let known = page.known();
-    known.over
-        && !known.out
-        && !known.same
-        && is_private(known.belief)
-        && looks_of(page).is_again()
+    known.over && !known.out && !known.same && is_private(known.belief) && looks_of(page).is_again()
 }
 
 // Returns whether that is so, or isn't.
