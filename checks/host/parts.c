@@ -815,6 +815,18 @@ static void uncached_ring(void) {
     check(library_count("lent") == 0 && differing(at, 0, PAGES, 1) == 0, "and all is there");
 }
 
+/* Nor if threads of the C library make them. */
+static void uncached_request(void) {
+    int file = open_uncached();
+    if (file < 0) return;
+    uint8_t *at = lent(PAGES);
+    struct aiocb request = {.aio_fildes = file, .aio_buf = at + 10 * PAGE, .aio_nbytes = PAGE};
+    check(aio_read(&request) == 0, "a request");
+    check(end_of_request(&request) == PAGE && is_full_of(at + 10 * PAGE, PAGE, 'D'), "what was read is there");
+    check(wait_for_count("devices", 3, SECONDS), "lending ends");
+    check(differing(at, 0, 10, 1) == 0 && differing(at, 11, PAGES, 1) == 0, "and all else is there");
+}
+
 /* Sets O_DIRECT of the file of frames that the library has, behind its back. Returns whether it is there. */
 static bool set_own_flags(void) {
     char path[64], target[64] = "";
@@ -1057,6 +1069,7 @@ static const struct way {
     {"uncached-leave", uncached_leave},
     {"uncached-look", uncached_look},
     {"uncached-ring", uncached_ring},
+    {"uncached-request", uncached_request},
     {"pairs", pairs},
     {"newcomer", newcomer},
     {"read-late", read_late},

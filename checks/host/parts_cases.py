@@ -127,9 +127,10 @@ def slow_files(milliseconds: int) -> tuple[list[StrPath], pathlib.Path]:
 
 
 def case_uncached() -> None:
-    """Files of a file system that reads past the page cache without O_DIRECT, as FUSE may: what was read is there; with io_uring lending ends."""
+    """Files whose reads go past the page cache without O_DIRECT, as FUSE's may: what was read is there; with io_uring or aio_read lending ends."""
     before, file = slow_files(1500)
-    run_parts(("uncached-leave", "uncached-look", "uncached-ring"), more={"SLOW_FILE": str(file)}, user=[*map(str, before), *AS_NOBODY])
+    ways = ("uncached-leave", "uncached-look", "uncached-ring", "uncached-request")
+    run_parts(ways, more={"SLOW_FILE": str(file)}, user=[*map(str, before), *AS_NOBODY])
 
 
 def case_read_late() -> None:
