@@ -1,6 +1,7 @@
 -- Calls for many pages at once are calls of a history, one page after another.
 use Rattle.lend_steps.specs.Copies.{CameOfCopy, ChosenFor, ToCopy, is_changed, is_chosen, is_good, is_left, is_nothing, is_zeros}
-use Rattle.lend_steps.specs.Lists.{Told, is_not_there, is_there, Turn}
+use Rattle.lend_steps.specs.Asks.{Answered, InVain, ToAsk, is_asked as is_question, is_crowded, is_found, is_in_vain, is_left_out, is_not_free, sees}
+use Rattle.lend_steps.specs.Lists.{Deed, Told, is_not_there, is_there, Turn}
 use Rattle.lend_steps.specs.Loans.{CameOfLoan, NotLent, is_given, is_unheard, is_without_frame, is_without_slot}
 use Rattle.lend_steps.specs.Releases.{OrderedTo, asks, at_once, is_hold, passes, refused_first, FindsAt}
 use Rattle.lend_steps.specs.declared.copies.CopyOutcome.{CopyOutcome}
@@ -808,6 +809,33 @@ each_home_copy_goes g first lead from n m new parts parts_new c so =
     (λ j x y l e b. then_call g first (from + j) m x b.between y (home_turn g first (from + j) m Done x b.between done_is_free b.first (λ h. so j x l e h))
         (λ pending. past_stops (first + (from + j)) m.world pending b.between y (b.second no_counts).known))
 
+-- ---- questions
+
+asked_turn : (g : (ℕ → Bool) → ℕ → Bool) (first i : ℕ) (m : Moment) (x y : WindowPage) (facts : WindowFacts) (has_room is_passing : Bool) (answer : ℕ) (part after : PartCounts) → slice_get m.pages i ≡ Some x →
+    ToAsk facts has_room is_passing answer x y part after → Turns g first m i y
+asked_turn g first i m x y facts has_room is_passing answer part after e (is_not_free f said same counts) = stays_now g first i m x y e (ap known_of same)
+asked_turn g first i m x y facts has_room is_passing answer part after e (is_crowded f r said n) = stays_now g first i m x y e n.known
+asked_turn g first i m x y facts has_room is_passing answer part after e (is_question f r said same counts) = stays_now g first i m x y e (ap known_of same)
+
+in_vain_turn : (g : (ℕ → Bool) → ℕ → Bool) (first i : ℕ) (m : Moment) (x y : WindowPage) (is_whole is_other : Bool) (fingerprint : ℕ) (part after : PartCounts) → slice_get m.pages i ≡ Some x →
+    InVain is_whole is_other fingerprint x y part after → Turns g first m i y
+in_vain_turn g first i m x y is_whole is_other fingerprint part after e v = stays_now g first i m x y e (pick (sees is_whole is_other fingerprint v.between) refl) where
+  pick : (b : Bool) → sees is_whole is_other fingerprint v.between ≡ b → known_of y ≡ known_of x
+  pick true s = (v.seen s).known ∙ v.asked.known
+  pick false s = ap known_of (v.kept s) ∙ v.asked.known
+
+answered_turn : (g : (ℕ → Bool) → ℕ → Bool) (first i : ℕ) (m : Moment) (x y : WindowPage) (is_whole is_other has_room : Bool) (fingerprint answer : ℕ) (part after : PartCounts) → slice_get m.pages i ≡ Some x →
+    Answered is_whole is_other has_room fingerprint answer x y part after → Turns g first m i y
+answered_turn g first i m x y is_whole is_other has_room fingerprint answer part after e (is_in_vain o said v) = in_vain_turn g first i m x y is_whole is_other fingerprint part after e v
+answered_turn g first i m x y is_whole is_other has_room fingerprint answer part after e (is_left_out o r said n) = stays_now g first i m x y e n.known
+answered_turn g first i m x y is_whole is_other has_room fingerprint answer part after e (is_found o r said same counts) = stays_now g first i m x y e (ap known_of same)
+
+-- what a turn of a list reaches, where each page of it can turn
+list_reaches : (g : (ℕ → Bool) → ℕ → Bool) (first lead number answer : ℕ) (Does : Deed) (m : Moment) (new : List WindowPage) (parts parts_new : List PartCounts) → Turn Does lead number answer m.pages new parts parts_new →
+    ((x y : WindowPage) (part after : PartCounts) → slice_get m.pages number ≡ Some x → Does answer x y part after → Turns g first m number y) → Reaches g first m new
+list_reaches g first lead number answer Does m new parts parts_new (is_there c) can = turn_reaches g first number m c.after new (can c.before c.after c.part c.part_after c.is_there c.becomes) c.changed
+list_reaches g first lead number answer Does m new parts parts_new (is_not_there l said same counts) can = none_reaches g first m new same
+
 -- ---- each call
 
 call_reaches : (g : (ℕ → Bool) → ℕ → Bool) (first count : ℕ) (m : Moment) (new : List WindowPage) → History g first count m → Called g first m new → Reaches g first m new
@@ -815,6 +843,14 @@ call_reaches g first count m new h (call.notes lead from n change parts parts_ne
 call_reaches g first count m new h (call.begins_row lead from takings row row_new parts parts_new c t) = each_row_goes g first lead from takings m new parts parts_new row row_new c t
 call_reaches g first count m new h (call.orders_row lead from table pins row order parts parts_new c) = each_row_order_goes g first lead from table pins row order m new parts parts_new c
 call_reaches g first count m new h (call.row_done lead from begin done refused row row_new parts parts_new c t) = each_row_step_goes g first lead from begin done refused m new parts parts_new row row_new c t
+call_reaches g first count m new h (call.of_page i x y pending e n c) = turn_reaches g first i m y new (one_call g first i m x y pending e c) n
+call_reaches g first count m new h (call.told_of_page i x y outcome part part_new e n d t) = turn_reaches g first i m y new (told_now g first i m x y outcome part part_new t d e) n
+call_reaches g first count m new h (call.to_ask lead number answer facts has_room is_passing parts parts_new c) =
+    list_reaches g first lead number answer (λ said x y p q. ToAsk facts has_room is_passing said x y p q) m new parts parts_new c
+    (λ x y part after e d. asked_turn g first number m x y facts has_room is_passing answer part after e d)
+call_reaches g first count m new h (call.answered lead number fingerprint answer is_whole is_other has_room parts parts_new c) =
+    list_reaches g first lead number answer (λ said x y p q. Answered is_whole is_other has_room fingerprint said x y p q) m new parts parts_new c
+    (λ x y part after e d. answered_turn g first number m x y is_whole is_other has_room fingerprint answer part after e d)
 call_reaches g first count m new h (call.to_copy lead number fingerprint answer facts is_ready parts parts_new c) = each_choice_goes g first lead number fingerprint answer facts is_ready m new parts parts_new c
 call_reaches g first count m new h (call.copied lead number answer facts came parts parts_new c t) = each_copy_goes g first lead number answer facts came m new parts parts_new c t
 call_reaches g first count m new h (call.loaned lead number frames answer reply parts parts_new c t) = each_loan_goes g first lead number frames answer reply m new parts parts_new c t

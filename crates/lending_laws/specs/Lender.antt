@@ -1,5 +1,6 @@
 -- The calls that C makes for a window's pages, and what is so where they say the truth.
-use Rattle.std.specs.Prelude.{◌≡◌, ℕ, ◌+◌, ◌<◌, Bool, true, nat_lt, List, length, Option, Some, slice_get, slice_index_or}
+use Rattle.std.specs.Prelude.{◌≡◌, ℕ, ◌+◌, ◌<◌, Bool, true, nat_lt, List, length, Option, Some, slice_get, slice_index_or, slice_set}
+use Rattle.lend_steps.specs.Asks.{Answered, ToAsk}
 use Rattle.lend_steps.specs.Copies.{CameOfCopy, ToCopy}
 use Rattle.lend_steps.specs.Lists.{Told, Turn}
 use Rattle.lend_steps.specs.Loans.{CameOfLoan}
@@ -12,13 +13,15 @@ use Rattle.page_holds.specs.Orders.{OrdersNext}
 use Rattle.page_holds.specs.Rows.{RowBegins, RowCameOut, taking_at}
 use Rattle.page_holds.specs.Steps.{asks_for, outcome_for}
 use Rattle.page_holds.specs.declared.rows.run.RowOrder.{RowOrder}
+use Rattle.page_lender.specs.Calls.{IsDone}
 use Rattle.page_lender.specs.declared.belief.Target.TheVariants.{Frame}
 use Rattle.page_lender.specs.declared.order.Order.{Order}
 use Rattle.page_lender.specs.declared.order.Order.TheVariants.{Map}
 use Rattle.page_lender.specs.declared.order.Outcome.{Outcome}
 use Rattle.page_lender.specs.declared.order.Outcome.TheVariants.{Done, Lent, Refused}
 use Rattle.window_pages.specs.Bytes.{belief_of, known_of}
-use Rattle.window_pages.specs.Known.{takes}
+use Rattle.window_pages.specs.Changed.{Lends}
+use Rattle.window_pages.specs.Known.{no_bars, takes}
 use Rattle.window_pages.specs.declared.counts.PartCounts.{PartCounts}
 use Rattle.window_pages.specs.declared.facts.WindowFacts.{WindowFacts}
 use Rattle.window_pages.specs.declared.page.WindowPage.{WindowPage}
@@ -27,7 +30,7 @@ use Rattle.window_tables.specs.Homes.{Changes, HasMoved, IsCalled, IsCopied, IsH
 use Rattle.window_tables.specs.Tables.{Notes}
 use Rattle.window_tables.specs.declared.changes.Change.{Change}
 use Rattle.window_tables.specs.declared.facts.TableFacts.{TableFacts}
-use Rattle.lending_laws.specs.Histories.{CarriedOut, GivesWhatItMay, History, IsTold, Moment, Reads}
+use Rattle.lending_laws.specs.Histories.{Calls, CarriedOut, GivesWhatItMay, History, IsTold, Moment, Pending, Reads}
 use Rattle.lending_laws.specs.Notes.{IsTruly, ShowsNone}
 use Rattle.page_looks.specs.declared.finds.step.FindOutcome.{FindOutcome}
 use Rattle.part_scans.specs.Scans.{BeginsAt, FollowsAt, GoesOnAt, RowGoes, no_outcome}
@@ -81,7 +84,7 @@ abbrev pub HomesAreSo : ((ℕ → Bool) → ℕ → Bool) → Moment → ℕ →
 HomesAreSo may_give m from n outcome = (j : ℕ) (x : WindowPage) → j < n → slice_get m.pages (from + j) ≡ Some x → hears outcome x ≡ true → IsSo may_give m (from + j) x outcome
 
 -- A call of the lender for pages of a window, by its contract, where what it says is so: the window's pages become these. A call for a list of pages is
--- one such call for each of them, one after another.
+-- one such call for each of them, one after another. A call for one page is a call of a history, or says what came of the page's order.
 pub data Called (may_give : (ℕ → Bool) → ℕ → Bool) (first : ℕ) (m : Moment) (new : List WindowPage) : Type 0 where
   notes : (lead from n : ℕ) (change : Change) (parts parts_new : List PartCounts) → Notes change lead from n true m.pages new parts parts_new
       → AreTruly change first from n m → Called may_give first m new
@@ -91,6 +94,14 @@ pub data Called (may_give : (ℕ → Bool) → ℕ → Bool) (first : ℕ) (m : 
       → OrdersNext table pins lead from row order m.pages new parts parts_new → Called may_give first m new
   row_done : (lead from begin done refused : ℕ) (row row_new : List ℕ) (parts parts_new : List PartCounts) → RowCameOut lead from begin done refused true m.pages new parts parts_new row row_new
       → AreSo may_give m from begin (done + refused) (row_outcome row begin done) → Called may_give first m new
+  of_page : (i : ℕ) (x y : WindowPage) (pending : Pending) → slice_get m.pages i ≡ Some x → new ≡ slice_set m.pages i y
+      → Calls (first + i) m.world x (m.orders i) y pending → Called may_give first m new
+  told_of_page : (i : ℕ) (x y : WindowPage) (outcome : Outcome) (part part_new : PartCounts) → slice_get m.pages i ≡ Some x → new ≡ slice_set m.pages i y
+      → Lends (IsDone outcome) no_bars x y part part_new → IsSo may_give m i x outcome → Called may_give first m new
+  to_ask : (lead number answer : ℕ) (facts : WindowFacts) (has_room is_passing : Bool) (parts parts_new : List PartCounts)
+      → Turn (λ said x y p q. ToAsk facts has_room is_passing said x y p q) lead number answer m.pages new parts parts_new → Called may_give first m new
+  answered : (lead number fingerprint answer : ℕ) (is_whole is_other has_room : Bool) (parts parts_new : List PartCounts)
+      → Turn (λ said x y p q. Answered is_whole is_other has_room fingerprint said x y p q) lead number answer m.pages new parts parts_new → Called may_give first m new
   to_copy : (lead number fingerprint answer : ℕ) (facts : WindowFacts) (is_ready : Bool) (parts parts_new : List PartCounts)
       → Turn (ToCopy facts is_ready fingerprint) lead number answer m.pages new parts parts_new → Called may_give first m new
   copied : (lead number answer : ℕ) (facts : WindowFacts) (came : CopyOutcome) (parts parts_new : List PartCounts)
