@@ -5,7 +5,7 @@
 //! except that its references are valid. `window/pageshare_window.h` declares the same functions in C, and says what the caller owes.
 #![tactic(auto)]
 
-ghost use Rattle.std.specs.Prelude.{◌≡◌, ◌+◌, if◌then◌else◌, length, not, slice_get, true, false};
+ghost use Rattle.std.specs.Prelude.{◌≡◌, ◌+◌, if◌then◌else◌, length, slice_get, true, false};
 ghost use Rattle.std.specs.List.{list_any, prefix_len};
 ghost use Rattle.std.specs.Option.{option_map_or};
 ghost use Rattle.look_tasks.specs.Budgets.{begun, credited, paced};
@@ -13,17 +13,15 @@ ghost use Rattle.look_tasks.specs.Chores.{again_at};
 ghost use Rattle.look_tasks.specs.Rooms.{fits, most_of};
 ghost use Rattle.offered_ranges.specs.Pieces.{IsFirst, meets};
 ghost use Rattle.offered_ranges.specs.Tables.{added, can_add, can_take_out, is_of, ranges_of, taken_out};
-ghost use Rattle.page_lender.specs.Decisions.{is_busy};
-ghost use Rattle.page_lender.specs.declared.order.Notice.TheVariants as Notice;
 ghost use Rattle.page_lender.specs.declared.order.Outcome.TheVariants as Outcome;
-ghost use Rattle.page_lender.specs.Calls.{IsChosen, IsHeard, IsOrdered, is_free, order_due};
+ghost use Rattle.page_lender.specs.Calls.{IsChosen, IsOrdered, is_free, order_due};
 ghost use Rattle.page_looks.specs.Parts.{order_of, part_then};
 ghost use Rattle.window_pages.specs.Runs.{is_here_as, keeps_slot, lies_as};
 ghost use Rattle.pageshare_window_c.specs.Budgets.{ledger_of, rates};
 ghost use Rattle.window_pages.specs.Bytes.{known_of, notes_of};
-ghost use Rattle.window_pages.specs.Changed.{Becomes, Lends, given_back, lender_with};
+ghost use Rattle.window_pages.specs.Changed.{Becomes, Lends, given_back};
 ghost use Rattle.window_pages.specs.Counted.{counts_then};
-ghost use Rattle.window_pages.specs.Known.{bars_of, chosen_as, lender_of, no_bars, stays};
+ghost use Rattle.window_pages.specs.Known.{bars_of, chosen_as, lender_of, stays};
 ghost use Rattle.pageshare_window_c.specs.Pages.{Takes, number_of};
 ghost use Rattle.pageshare_window_c.specs.Parts.{part_number};
 
@@ -69,7 +67,7 @@ pub use numbers::pageshare_window_find_numbers;
 pub use offered_ranges::{OfferedBounds, OfferedRange, Piece, Taken};
 use offered_ranges::{add, is_part_left, next as next_piece, take_out};
 use order::number_of;
-use page_lender::{Notice, Outcome};
+use page_lender::Outcome;
 pub use page_looks::finds::FindOutcome;
 pub use page_looks::parts::{Part, PartConfig, PartLook};
 use part::part_number;
@@ -94,7 +92,7 @@ pub use times::{
 };
 pub use window_pages::{PartCounts, WindowFacts, WindowPage};
 use window_pages::{
-    alike, before_release, choose, forget, give_back, hear, here, is_free, next, see, stays, take,
+    alike, before_release, choose, forget, give_back, here, is_free, next, see, stays, take,
     withdraw,
 };
 pub use window_tables::TableFacts;
@@ -297,18 +295,6 @@ pub extern "C" fn pageshare_window_lent(
     ensures { Takes (Outcome.Lent slot frame) result page.old page.new part.old part.new }
 {
     take(page, part, Outcome::Lent(slot, frame))
-}
-
-/// Hears that a copy over a page's frame was found, or that it has memory of its own now. Returns false, and hears nothing, while an order
-/// is open that touches the page.
-#[unsafe(no_mangle)]
-pub extern "C" fn pageshare_window_written(page: &mut WindowPage, part: &mut PartCounts) -> bool
-    ensures hears { result ≡ not (is_busy (lender_with no_bars (known_of page.old))) }
-    ensures heard { result ≡ true → Lends (IsHeard Notice.Written) no_bars page.old page.new part.old part.new }
-    ensures page { result ≡ false → page.new ≡ page.old }
-    ensures part { result ≡ false → part.new ≡ part.old }
-{
-    hear(page, part, Notice::Written)
 }
 
 /// Returns whether a page over a frame has to stay where it is: it is to get its copy there, or it has one that a device may hold. Writes
