@@ -215,44 +215,34 @@ static int bring_home(struct home *home) {
     return cause;
 }
 
-/* Gives pages over frames, at most PART, a copy of their own, where they are. Returns 0 or an errno. */
-static int copy_in_place(struct window *window, size_t first, size_t count) {
-    bool comes[PART];
-    order_home(window, first, count, &(struct pageshare_window_facts){.pinned = true});
-    pageshare_window_find_coming(window->pages, window->count, first, comes, count);
-    if (madvise(address_of(window, first), bytes_of(count), MADV_POPULATE_WRITE) < 0) {
-        int cause = errno;
-        pageshare_window_refused_home(TABLES(window), first, count);
-        return cause;
-    }
-    pageshare_window_copied_home(TABLES(window), first, count);
-    for (size_t i = 0; i < count; i++) {
-        if (!comes[i]) continue;
-        trace_copy(window->windows->trace, window->base + (uint32_t)(first + i), address_of(window, first + i));
-        window->windows->counts.taken_home++;
-    }
-    return 0;
-}
-
 /* Whether a page is in the window and lies over a frame. */
 static bool is_in_frames(const struct window *window, size_t page) {
     return is_over(&window->pages[page]) && !is_out(&window->pages[page]);
 }
 
-/* Whether a page may show its frame still. */
-static bool may_show(const struct window *window, size_t page) {
-    return is_in_frames(window, page) && (is_lent(&window->pages[page]) || shows_past(&window->pages[page]));
+/* Gives pages that come home by that, at most PART, a copy of their own where they are. Returns 0 or an errno. */
+static int copy_in_place(struct window *window, size_t first, size_t count) {
+    if (madvise(address_of(window, first), bytes_of(count), MADV_POPULATE_WRITE) < 0) return errno;
+    pageshare_window_copied_home(TABLES(window), first, count);
+    for (size_t page = first; page < first + count; page++)
+        trace_copy(window->windows->trace, window->base + (uint32_t)page, address_of(window, page));
+    window->windows->counts.taken_home += count;
+    return 0;
 }
 
 /* What may show frames still gets a copy of its own there. (A write to what is one already might wait for the monitor's own userfaultfd.) */
 static struct window_result settle_home(struct window *window, size_t first, size_t count) {
-    for (size_t done = 0, run = 1; done < count; done += run, run = 1) {
-        const bool shows = may_show(window, first + done);
-        while (done + run < count && may_show(window, first + done + run) == shows) run++;
-        int cause = shows ? copy_in_place(window, first + done, run) : 0;
-        if (cause != 0) return result_of(WINDOW_NO_MAPPING, cause);
+    bool come[PART];
+    int cause = 0;
+    order_home(window, first, count, &(struct pageshare_window_facts){.pinned = true});
+    pageshare_window_find_coming(window->pages, window->count, first, come, count);
+    for (size_t i = 0, end = 0; i < count && cause == 0; i = end) {
+        for (end = i + 1; end < count && come[end] == come[i]; end++) {
+        }
+        if (come[i]) cause = copy_in_place(window, first + i, end - i);
     }
-    return result_of(WINDOW_OK, 0);
+    pageshare_window_refused_home(TABLES(window), first, count);
+    return cause == 0 ? result_of(WINDOW_OK, 0) : result_of(WINDOW_NO_MAPPING, cause);
 }
 
 struct window_result window_home(struct window *window, size_t first, size_t count, bool in_place) {

@@ -96,10 +96,6 @@ struct pageshare_window_row_order next_of_row(struct window *window, size_t firs
     return order;
 }
 
-void hear_written(struct window *window, size_t number) {
-    pageshare_window_written(&window->pages[number], part_counts(window, number));
-}
-
 void note_zero(struct window *window, size_t number, bool is_zero) {
     pageshare_window_give_back(&window->pages[number], part_counts(window, number), is_zero);
 }

@@ -292,10 +292,6 @@ void pageshare_window_withdraw(struct pageshare_window_page *page);
 bool pageshare_window_done(struct pageshare_window_page *page, struct pageshare_window_counts *part);
 bool pageshare_window_refused(struct pageshare_window_page *page, struct pageshare_window_counts *part);
 
-/* A copy over the page's frame was found, or it has memory of its own. Returns false, and changes nothing, while an order is open that
- * touches the page. */
-bool pageshare_window_written(struct pageshare_window_page *page, struct pageshare_window_counts *part);
-
 /* Whether a page over a frame has to stay where it is, while writes to it wait: it is to get its copy there, or it has memory of its own
  * (`is_copy`) that a device may hold. */
 bool pageshare_window_stays(const struct pageshare_window_page *page, const struct pageshare_window_facts *facts, bool is_copy);
@@ -401,8 +397,8 @@ bool pageshare_window_leave(struct pageshare_window_page *pages, size_t pages_co
  *   find_staying: which of them stay where they are while writes to them wait: they are to get their copy there, or have one that a device may
  *     hold. `copies` says before whether each has memory of its own, and then whether it stays.
  *   moved_home: it was moved there. If a page was to get it, that was done. What looks have found of it counts no more.
- *   find_coming, copied_home: they get a copy where they are. That brings those home that are found; `found` says of each whether it is one. None
- *     shows a frame of a lender that is gone any more.
+ *   find_coming, copied_home: they get a copy where they are. That brings those of the window home that are found; `found` says of each whether it is
+ *     one. None shows a frame of a lender that is gone any more.
  *   refused_home: those that were to get memory of their own get none.
  */
 bool pageshare_window_order_home(struct pageshare_window_page *pages, size_t pages_count, struct pageshare_window_counts *parts,
@@ -420,6 +416,16 @@ bool pageshare_window_copied_home(struct pageshare_window_page *pages, size_t pa
                                   size_t parts_count, size_t lead, size_t first, size_t count);
 bool pageshare_window_refused_home(struct pageshare_window_page *pages, size_t pages_count, struct pageshare_window_counts *parts,
                                    size_t parts_count, size_t lead, size_t first, size_t count);
+
+/*
+ * Under which of these pages a frame lies. And memory with what they contained was moved to their places at once: what looks have found of those over
+ * frames counts no more, and all have memory of their own. `*mappings` changes as above. Each returns false, and changes nothing, as those do.
+ */
+bool pageshare_window_find_over(const struct pageshare_window_page *pages, size_t pages_count, size_t first, bool *found,
+                                size_t count);
+bool pageshare_window_one_memory(struct pageshare_window_page *pages, size_t pages_count, struct pageshare_window_counts *counts,
+                                 size_t counts_count, size_t lead, const struct pageshare_window_part *parts, size_t parts_count,
+                                 size_t first, size_t count, size_t *mappings);
 
 /* What came of an attempt to hold a page. */
 enum pageshare_window_taking {

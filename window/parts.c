@@ -138,16 +138,15 @@ static int guard_part(struct window *window, size_t first) {
 
 /* Notes that all pages of a part have memory of their own, in one mapping. */
 static void note_one_memory(struct window *window, size_t first) {
-    bool was_over[PART];
-    for (size_t i = 0; i < PART; i++) was_over[i] = is_over(&window->pages[first + i]);
-    note_moved(window, first, PART);
+    struct windows *windows = window->windows;
+    bool were_over[PART];
+    pageshare_window_find_over(window->pages, window->count, first, were_over, PART);
+    pageshare_window_one_memory(TABLES(window), PARTS(window), first, PART, &windows->counts.mappings);
+    note_cleared(window, first, PART, false);
     for (size_t i = 0; i < PART; i++) {
-        hear_written(window, first + i);
-        note_zero(window, first + i, false);
-        if (!was_over[i]) continue;
-        forget_content(window, first + i); /* (no glance was noted of it) */
-        window->windows->counts.taken_home++;
-        trace_copy(window->windows->trace, window->base + (uint32_t)(first + i), address_of(window, first + i));
+        if (!were_over[i]) continue;
+        windows->counts.taken_home++;
+        trace_copy(windows->trace, window->base + (uint32_t)(first + i), address_of(window, first + i));
     }
 }
 

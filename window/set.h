@@ -253,8 +253,6 @@ bool may_give_up(const struct window *window, size_t first, size_t count);
 bool are_movable(const struct window *window, size_t first, size_t count);
 /* What is done next with held pages in a row, of which `row` has a byte each. */
 struct pageshare_window_row_order next_of_row(struct window *window, size_t first, const uint8_t *row, size_t count);
-/* A page was written to, or got memory of its own, by another's call. */
-void hear_written(struct window *window, size_t page);
 /* Pages were given back as zeros, or have memory again. */
 void note_zero(struct window *window, size_t page, bool is_zero);
 /* What is known of a page's content counts no more. */

@@ -224,8 +224,8 @@ class Page:
             self.forget()
 
     def comes_home(self) -> bool:
-        """A copy in its place brings it home."""
-        return self.belief in HOMES or self.shows_past()
+        """A copy in its place brings it home to its window."""
+        return not self.out and (self.belief in HOMES or self.shows_past())
 
     def order_home(self, facts: Facts) -> None:
         """It gets its order, if it shows its frame."""

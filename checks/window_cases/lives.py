@@ -72,7 +72,7 @@ class Life:
 
     def note(self, name: str, place: int, *words: Any) -> None:
         """A call for pages in a row, of which there is one here."""
-        kept = name in ("cover", "uncover", "detach")
+        kept = name in ("cover", "uncover", "detach", "one_memory")
         given = [self.library.array("part", [()]), 1] if kept else []
         taken = [self.library.make("size_t")] if kept else []
         self.seen.holds(name, self.library.call(name, self.pages, PAGES, self.counts, 1, 0, *given, place, 1, *words, *taken))
@@ -192,7 +192,7 @@ class Life:
         if self.window(place).is_bare():
             return
         if self.chance.random() < 0.5:
-            self.call("written", place)
+            self.note("one_memory", place)
         else:
             self.note("give_up", place)
 
@@ -225,8 +225,7 @@ class Life:
         for place in range(PAGES if order == 2 else 0):
             if self.window(place).is_bare():
                 self.must(("write", FIRST + place, self.windows.shown(FIRST + place)))
-            self.note("uncover", place, False)
-            self.seen.holds("written", self.call("written", place))
+            self.note("one_memory", place)
 
     def is_movable(self, place: int, facts: Facts, only_held: bool = False) -> bool:
         if only_held:

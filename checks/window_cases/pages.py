@@ -85,9 +85,6 @@ class Table:
         self.seen.holds("loaned", self.library.call("loaned", self.pages, PAGES, self.parts, 2, LEAD, *lists, 0, True, answer, 1))
         self.seen.equal("the loan", answer[0], 4 + self.known[at].take(LENT, slot, frame))
 
-    def hear(self, at: int) -> None:
-        self.seen.equal("written", self.call("written", at), self.known[at].written())
-
     def note(self, at: int) -> None:
         """Notes something of the page's content, or takes its order back."""
         is_so, which, known = self.chance.random() < 0.5, self.chance.randrange(4), self.known[at]
@@ -130,6 +127,21 @@ class Table:
             self.call_kept("uncover", first, count, moved)
             for behind, page in enumerate(known):
                 page.uncover(moved, moved and behind == 0)
+        if count and first + count < PAGES:
+            self.known[first + count].begin()
+
+    def one_memory(self, first: int, count: int) -> None:
+        """Memory with what pages contained is moved to their places. Their lenders hear that, and those over frames are forgotten."""
+        known = self.known[first : first + count]
+        found = self.library.array("bool", [False] * count)
+        self.seen.holds("find_over", self.library.call("find_over", self.pages, PAGES, first, found, count))
+        self.seen.equal("over", values_of(found)[:count], tuple(page.over for page in known))
+        self.call_kept("one_memory", first, count)
+        for behind, page in enumerate(known):
+            if page.over:
+                page.forget()
+            page.written()
+            page.uncover(True, behind == 0)
         if count and first + count < PAGES:
             self.known[first + count].begin()
 
@@ -286,7 +298,7 @@ class Table:
         elif which < 100:
             self.take(at)
         elif which < 102:
-            self.hear(at)
+            self.one_memory(at, count)
         elif which < 106:
             self.ask(at, self.chance.randrange(PAGES + 2))
             self.ask_home(at, self.chance.randrange(PAGES + 2))

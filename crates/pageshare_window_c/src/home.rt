@@ -3,17 +3,19 @@ ghost use Rattle.std.specs.Prelude.{◌≡◌, ◌+◌, ◌||◌, false, length,
 ghost use Rattle.pageshare_window_c.specs.Rooms.{given_up_by, has_room};
 ghost use Rattle.page_lender.specs.declared.order.Outcome.TheVariants as Outcome;
 ghost use Rattle.window_tables.specs.Facts.{facts_at};
-ghost use Rattle.window_tables.specs.Homes.{Answers, Changes, HasMoved, IsCalled, IsCopied, IsHome, comes_home_at, stays_at};
+ghost use Rattle.window_tables.specs.Homes.{Answers, Changes, HasMoved, IsCalled, IsCopied, IsHome, OneMemory, comes_home_at, over_at, stays_at};
 ghost use Rattle.window_tables.specs.Mappings.{IsSet, is_part, kept_then, mappings_at};
 ghost use Rattle.window_tables.specs.Ranges.{has_pages};
 ghost use Rattle.window_tables.specs.Rooms.{are_alone};
-ghost use Rattle.window_tables.specs.Tables.{Notes};
+ghost use Rattle.window_tables.specs.Tables.{Counted, Notes, can_note};
 ghost use Rattle.window_tables.specs.declared.changes.Change.TheVariants as Change;
 
 use look_tasks::room::fits;
 use page_looks::parts::Part;
 use window_pages::{PartCounts, WindowFacts, WindowPage};
-use window_tables::homes::{copied, find_coming, find_staying, moved, order, refused};
+use window_tables::homes::{
+    copied, find_coming, find_over, find_staying, moved, one_memory, order, refused,
+};
 use window_tables::rooms::{lies_over, wants_zeros, zeros_more};
 use window_tables::{TableFacts, put_zeros, set_whole};
 
@@ -53,8 +55,8 @@ pub extern "C" fn pageshare_window_find_staying(
     find_staying(pages, table, pins, why, first, copies)
 }
 
-/// Finds which pages come home that get a copy where they are: they show a frame that they are to show no more, or one of a lender that is gone.
-/// Returns false, and finds nothing, if they aren't all there.
+/// Finds which pages of the window come home by a copy where they are: they show a frame that they are to show no more, or one of a lender that is
+/// gone. Returns false, and finds nothing, if they aren't all there.
 #[unsafe(no_mangle)]
 pub extern "C" fn pageshare_window_find_coming(
     pages: &[WindowPage],
@@ -194,4 +196,42 @@ pub extern "C" fn pageshare_window_set_whole(
     ensures same_parts { result ≡ false → parts.new ≡ parts.old }
 {
     set_whole(pages, parts, lead, first, is_whole, mappings)
+}
+
+/// Finds under which pages a frame lies. Returns false, and finds nothing, if they aren't all there.
+#[unsafe(no_mangle)]
+pub extern "C" fn pageshare_window_find_over(
+    pages: &[WindowPage],
+    first: usize,
+    found: &mut [bool],
+) -> bool
+    ensures there { result ≡ has_pages first (length found.old) pages.now }
+    ensures found { result ≡ true → Answers over_at first (length found.old) pages.now found.old found.new }
+    ensures same { result ≡ false → found.new ≡ found.old }
+{
+    find_over(pages, first, found)
+}
+
+/// Learns that memory with what so many pages contained was moved to their places at once, and how many mappings there are then. What looks have
+/// found of those over frames counts no more, and all have memory of their own. Returns false, and learns nothing, if they aren't all there, or if
+/// the table has more pages than its parts.
+#[unsafe(no_mangle)]
+pub extern "C" fn pageshare_window_one_memory(
+    pages: &mut [WindowPage],
+    parts: &mut [PartCounts],
+    lead: usize,
+    wholes: &[Part],
+    first: usize,
+    count: usize,
+    mappings: &mut usize,
+) -> bool
+    ensures done { result ≡ can_note lead first count pages.old parts.old }
+    ensures pages { result ≡ true → OneMemory first count pages.old pages.new }
+    ensures counted { Counted lead pages.old parts.old → Counted lead pages.new parts.new }
+    ensures mappings { result ≡ true → mappings.new ≡ kept_then mappings.old (mappings_at lead wholes.now pages.old first count) (mappings_at lead wholes.now pages.new first count) }
+    ensures same { result ≡ false → pages.new ≡ pages.old }
+    ensures same_parts { result ≡ false → parts.new ≡ parts.old }
+    ensures same_mappings { result ≡ false → mappings.new ≡ mappings.old }
+{
+    one_memory(pages, parts, lead, wholes, first, count, mappings)
 }

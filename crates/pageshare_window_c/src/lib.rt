@@ -5,7 +5,7 @@
 //! except that its references are valid. `window/pageshare_window.h` declares the same functions in C, and says what the caller owes.
 #![tactic(auto)]
 
-ghost use Rattle.std.specs.Prelude.{◌≡◌, ◌+◌, if◌then◌else◌, length, not, slice_get, true, false};
+ghost use Rattle.std.specs.Prelude.{◌≡◌, ◌+◌, if◌then◌else◌, length, slice_get, true, false};
 ghost use Rattle.std.specs.List.{list_any, prefix_len};
 ghost use Rattle.std.specs.Option.{option_map_or};
 ghost use Rattle.look_tasks.specs.Budgets.{begun, credited, paced};
@@ -13,17 +13,15 @@ ghost use Rattle.look_tasks.specs.Chores.{again_at};
 ghost use Rattle.look_tasks.specs.Rooms.{fits, most_of};
 ghost use Rattle.offered_ranges.specs.Pieces.{IsFirst, meets};
 ghost use Rattle.offered_ranges.specs.Tables.{added, can_add, can_take_out, is_of, ranges_of, taken_out};
-ghost use Rattle.page_lender.specs.Decisions.{is_busy};
-ghost use Rattle.page_lender.specs.declared.order.Notice.TheVariants as Notice;
 ghost use Rattle.page_lender.specs.declared.order.Outcome.TheVariants as Outcome;
-ghost use Rattle.page_lender.specs.Calls.{IsChosen, IsHeard, IsOrdered, is_free, order_due};
+ghost use Rattle.page_lender.specs.Calls.{IsChosen, IsOrdered, is_free, order_due};
 ghost use Rattle.page_looks.specs.Parts.{order_of, part_then};
 ghost use Rattle.window_pages.specs.Runs.{is_here_as, lies_as};
 ghost use Rattle.pageshare_window_c.specs.Budgets.{ledger_of, rates};
 ghost use Rattle.window_pages.specs.Bytes.{known_of, notes_of};
-ghost use Rattle.window_pages.specs.Changed.{Becomes, Lends, given_back, lender_with};
+ghost use Rattle.window_pages.specs.Changed.{Becomes, Lends, given_back};
 ghost use Rattle.window_pages.specs.Counted.{counts_then};
-ghost use Rattle.window_pages.specs.Known.{bars_of, chosen_as, lender_of, no_bars, stays};
+ghost use Rattle.window_pages.specs.Known.{bars_of, chosen_as, lender_of, stays};
 ghost use Rattle.pageshare_window_c.specs.Pages.{Takes, number_of};
 ghost use Rattle.pageshare_window_c.specs.Parts.{part_number};
 
@@ -60,7 +58,7 @@ pub use numbers::pageshare_window_find_numbers;
 pub use offered_ranges::{OfferedBounds, OfferedRange, Piece, Taken};
 use offered_ranges::{add, is_part_left, next as next_piece, take_out};
 use order::number_of;
-use page_lender::{Notice, Outcome};
+use page_lender::Outcome;
 pub use page_looks::finds::FindOutcome;
 pub use page_looks::parts::{Part, PartConfig, PartLook};
 use part::part_number;
@@ -71,7 +69,7 @@ pub use tables::{pageshare_window_are_movable, pageshare_window_cover, pageshare
 pub use tasks::{WindowTask, pageshare_window_begin_tasks, pageshare_window_next_task, pageshare_window_task_done};
 pub use times::{pageshare_window_be_eager, pageshare_window_begin_times, pageshare_window_look_ended, pageshare_window_pause_ms};
 pub use window_pages::{PartCounts, WindowFacts, WindowPage};
-use window_pages::{alike, choose, forget, give_back, hear, here, next, see, stays, take, withdraw};
+use window_pages::{alike, choose, forget, give_back, here, next, see, stays, take, withdraw};
 pub use window_tables::TableFacts;
 pub use window_tables::pins::Transfer;
 
@@ -251,18 +249,6 @@ pub extern "C" fn pageshare_window_refused(page: &mut WindowPage, part: &mut Par
     ensures { Takes Outcome.Refused result page.old page.new part.old part.new }
 {
     take(page, part, Outcome::Refused)
-}
-
-/// Hears that a copy over a page's frame was found, or that it has memory of its own now. Returns false, and hears nothing, while an order
-/// is open that touches the page.
-#[unsafe(no_mangle)]
-pub extern "C" fn pageshare_window_written(page: &mut WindowPage, part: &mut PartCounts) -> bool
-    ensures hears { result ≡ not (is_busy (lender_with no_bars (known_of page.old))) }
-    ensures heard { result ≡ true → Lends (IsHeard Notice.Written) no_bars page.old page.new part.old part.new }
-    ensures page { result ≡ false → page.new ≡ page.old }
-    ensures part { result ≡ false → part.new ≡ part.old }
-{
-    hear(page, part, Notice::Written)
 }
 
 /// Returns whether a page over a frame has to stay where it is: it is to get its copy there, or it has one that a device may hold. Writes

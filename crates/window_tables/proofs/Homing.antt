@@ -1,7 +1,7 @@
 -- Pages that get memory of their own.
 use Rattle.std.proofs.Common.{◌≡◌, ◌∙◌, ℕ, zero, suc, ◌+◌, ◌<◌, ◌≤◌, ◌⊎◌, inl, inr, Bool, true, false, List, [], ◌∷◌, length, Some, refl, get_or, ap, sym, subst, arith}
-use Rattle.std.specs.Prelude.{slice_get, slice_set}
-use Rattle.std.proofs.lemmas.Bool.{cases_eq}
+use Rattle.std.specs.Prelude.{◌&&◌, nat_le, slice_get, slice_set}
+use Rattle.std.proofs.lemmas.Bool.{cases_eq, le-leb}
 use Rattle.std.proofs.lemmas.Option.{slice_get-get_or}
 use Rattle.window_pages.specs.Bytes.{known_of}
 use Rattle.window_pages.specs.Known.{stays}
@@ -13,7 +13,7 @@ use Rattle.window_tables.proofs.Places.{changed_more, same, set_length, set_othe
 use Rattle.window_tables.specs.Changes.{Changed}
 use Rattle.window_tables.specs.Facts.{facts_at, only_called}
 use Rattle.window_tables.specs.Homes.{Answers, Became, Both, Stays, stays_at}
-use Rattle.window_tables.specs.Tables.{Counted, OneChanges, has_parts}
+use Rattle.window_tables.specs.Tables.{Counted, OneChanges, can_note, has_parts}
 use Rattle.window_tables.specs.declared.facts.TableFacts.{TableFacts}
 use Rattle.window_tables.specs.declared.homes.steps.HomeStep.{HomeStep}
 
@@ -124,3 +124,10 @@ no_table = record { elsewhere = 0; may_pin = false; inherited = false; locked = 
 pub by_nothing : (step : HomeStep) (facts : WindowFacts) (first count : ℕ) (old new : List WindowPage) → facts ≡ only_called false →
     Changed (λ i. Became step (facts_at no_table [] facts (first + i))) first count old new → Changed (λ i. Became step (only_called false)) first count old new
 by_nothing step facts first count old new e c = subst (λ f. Changed (λ i. Became step (facts_at no_table [] f (first + i))) first count old new) e c
+
+-- what becomes of the pages can be noted still
+pub can_still : (lead first count : ℕ) (old new : List WindowPage) (parts : List PartCounts) → first + count ≤ length old → length new ≡ length old → has_parts lead new parts ≡ true →
+    can_note lead first count new parts ≡ true
+can_still lead first count old new parts l e h =
+    let there : nat_le (first + count) (length new) ≡ true = le-leb (first + count) (length new) (omega (arith, l, e)) in
+    subst (λ b. (b && has_parts lead new parts) ≡ true) (sym there) h

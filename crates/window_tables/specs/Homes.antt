@@ -1,26 +1,28 @@
 -- Pages in a row that get memory of their own in place of frames.
-use Rattle.std.specs.Prelude.{◌≡◌, ℕ, ◌+◌, ◌<◌, ◌≤◌, Bool, true, false, ◌&&◌, ◌||◌, List, length, Some, slice_get}
-use Rattle.page_lender.specs.Calls.{IsDone, IsOrdered, order_due}
-use Rattle.page_lender.specs.Decisions.{shows}
+use Rattle.std.specs.Prelude.{◌≡◌, ℕ, ◌+◌, ◌<◌, ◌≤◌, Bool, true, false, not, ◌&&◌, ◌||◌, List, length, Some, slice_get}
+use Rattle.page_lender.specs.Calls.{IsDone, IsHeard, IsOrdered, order_due}
+use Rattle.page_lender.specs.Decisions.{is_busy, shows}
 use Rattle.page_lender.specs.declared.belief.Belief.{Belief}
 use Rattle.page_lender.specs.declared.belief.Belief.TheVariants.{Private, Chosen, Copied, Turning, Shown, Leaving}
 use Rattle.page_lender.specs.declared.belief.Homing.{Homing}
 use Rattle.page_lender.specs.declared.belief.Homing.TheVariants.{Off, InPlace, Elsewhere}
+use Rattle.page_lender.specs.declared.order.Notice.TheVariants.{Written}
 use Rattle.page_lender.specs.declared.order.Outcome.{Outcome}
 use Rattle.page_lender.specs.declared.order.Outcome.TheVariants.{Done, Refused}
 use Rattle.window_pages.specs.Bytes.{belief_of, known_of}
-use Rattle.window_pages.specs.Changed.{Becomes, Lends, no_past}
+use Rattle.window_pages.specs.Changed.{Becomes, Lends, lender_with, no_past}
 use Rattle.window_pages.specs.Counted.{counts_then}
 use Rattle.window_pages.specs.Known.{bars_of, lender_of, no_bars, shows_past, stays, takes}
 use Rattle.window_pages.specs.declared.counts.PartCounts.{PartCounts}
 use Rattle.window_pages.specs.declared.facts.WindowFacts.{WindowFacts}
 use Rattle.window_pages.specs.declared.page.WindowPage.{WindowPage}
-use Rattle.window_tables.specs.Changes.{Changed}
+use Rattle.window_tables.specs.Changes.{Changed, RangeChanged}
 use Rattle.window_tables.specs.Facts.{facts_at}
 use Rattle.window_tables.specs.Tables.{Counted, can_note}
+use Rattle.window_tables.specs.declared.changes.Change.TheVariants.{Uncovered}
 use Rattle.window_tables.specs.declared.facts.TableFacts.{TableFacts}
 use Rattle.window_tables.specs.declared.homes.steps.HomeStep.{HomeStep}
-use Rattle.window_tables.specs.declared.homes.steps.HomeStep.TheVariants.{Order, Take, EndPast, Forget}
+use Rattle.window_tables.specs.declared.homes.steps.HomeStep.TheVariants.{Order, Take, EndPast, Forget, ForgetOver, Hear}
 
 -- ---- one page ----
 
@@ -61,12 +63,24 @@ abbrev pub outcome_of : Bool → Outcome
 outcome_of true = Done
 outcome_of false = Refused
 
+-- What looks have found of a page over a frame counts no more. Nothing becomes of another.
+pub record IsForgotten (old new : WindowPage) : Type 0 where
+  pub over : (known_of old).over ≡ true → Whatever (Becomes (known_of old) true) old new
+  pub other : (known_of old).over ≡ false → new ≡ old
+
+-- The page's lender hears that it was written, unless an order is open that touches the page.
+pub record HearsWritten (old new : WindowPage) : Type 0 where
+  pub heard : is_busy (lender_with no_bars (known_of old)) ≡ false → Whatever (Lends (IsHeard Written) no_bars) old new
+  pub other : is_busy (lender_with no_bars (known_of old)) ≡ true → new ≡ old
+
 -- what becomes of a page by a step
 abbrev pub Became : HomeStep → WindowFacts → WindowPage → WindowPage → Type 0
 Became Order facts old new = IsCalled facts old new
 Became (Take is_done) facts old new = IsHome (outcome_of is_done) old new
 Became EndPast facts old new = Whatever (Becomes (no_past (known_of old)) (shows_past (known_of old))) old new
 Became Forget facts old new = Whatever (Becomes (known_of old) true) old new
+Became ForgetOver facts old new = IsForgotten old new
+Became Hear facts old new = HearsWritten old new
 
 -- One thing becomes of a page, and then another.
 pub record Both (One Other : WindowPage → WindowPage → Type 0) (old new : WindowPage) : Type 0 where
@@ -82,9 +96,16 @@ HasMoved old new = Both (IsHome Done) (λ x y. Whatever (Becomes (known_of x) tr
 abbrev pub IsCopied : WindowPage → WindowPage → Type 0
 IsCopied old new = Both (IsHome Done) (λ x y. Whatever (Becomes (no_past (known_of x)) (shows_past (known_of x))) x y) old new
 
--- a page that gets a copy where it is comes home by that: it showed a frame that it was to show no more, or one of a lender that is gone
+-- a page of the window comes home by a copy where it is: it showed a frame that it was to show no more, or one of a lender that is gone
 abbrev pub comes_home : WindowPage → Bool
-comes_home page = is_homing (belief_of page) || shows_past (known_of page)
+comes_home page = not (known_of page).out && (is_homing (belief_of page) || shows_past (known_of page))
+
+-- Memory with what so many pages contained was moved to their places at once. What looks have found of those over frames counts no more before that,
+-- and their lenders hear that they have memory of their own.
+pub record OneMemory (first count : ℕ) (old new : List WindowPage) : Type 0 where
+  pub between : List WindowPage
+  pub hear : Changed (λ n. Both IsForgotten HearsWritten) first count old between
+  pub moves : RangeChanged (Uncovered true) first count between new
 
 -- ---- a range ----
 
@@ -122,3 +143,7 @@ stays_at table pins why first n is_copy page = stays (facts_at table pins why (f
 -- it comes home, whatever was there
 abbrev pub comes_home_at : ℕ → Bool → WindowPage → Bool
 comes_home_at n was page = comes_home page
+
+-- a frame lies under it
+abbrev pub over_at : ℕ → Bool → WindowPage → Bool
+over_at n was page = (known_of page).over

@@ -3,5 +3,5 @@ mod answers;
 mod home;
 mod steps;
 
-pub use answers::{find_coming, find_staying};
-pub use home::{copied, moved, order, refused};
+pub use answers::{find_coming, find_over, find_staying};
+pub use home::{copied, moved, one_memory, order, refused};

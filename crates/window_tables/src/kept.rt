@@ -12,7 +12,7 @@ use page_looks::parts::Part;
 use window_pages::{PartCounts, WindowPage};
 
 // Returns the number of mappings once there are so many of some pages, where there were so many before.
-fn kept_then(mappings: usize, before: usize, after: usize) -> usize
+pub(crate) fn kept_then(mappings: usize, before: usize, after: usize) -> usize
     ensures { result ≡ kept_then mappings before after }
 {
     mappings.saturating_sub(before).saturating_add(after)

@@ -2,12 +2,12 @@
 ghost use Rattle.std.specs.Prelude.{◌≡◌, ◌+◌, ◌<◌, ◌≤◌, false, length, true};
 ghost use Rattle.window_pages.specs.Counted.{counts_then};
 ghost use Rattle.window_tables.specs.Facts.{facts_at};
-ghost use Rattle.window_tables.specs.Homes.{Became, EachStep, IsCalled, IsHome, Stays, is_homing, is_on, outcome_of};
+ghost use Rattle.window_tables.specs.Homes.{Became, EachStep, IsCalled, IsForgotten, IsHome, Stays, is_homing, is_on, outcome_of};
 ghost use Rattle.window_tables.specs.Tables.{OneChanges, has_parts};
 
 use crate::{PART, TableFacts, facts_of};
-use page_lender::{Belief, Homing, Outcome};
-use window_pages::{PartCounts, WindowFacts, WindowPage, forget, next, stop_past, take};
+use page_lender::{Belief, Homing, Notice, Outcome};
+use window_pages::{PartCounts, WindowFacts, WindowPage, forget, hear, next, stop_past, take};
 
 // What becomes of a page.
 #[derive(Clone, Copy)]
@@ -20,6 +20,10 @@ pub(crate) enum HomeStep {
     EndPast,
     // What looks have found of it counts no more.
     Forget,
+    // The same, if it lies over a frame.
+    ForgetOver,
+    // Its lender hears that it was written.
+    Hear,
 }
 
 // Returns whether a page that shows its frame is to get memory of its own.
@@ -87,6 +91,21 @@ fn come_home(page: &mut WindowPage, part: &mut PartCounts, outcome: Outcome) -> 
     take(page, part, outcome)
 }
 
+// What looks have found of a page over a frame counts no more. Returns whether it is one.
+fn forget_over(page: &mut WindowPage, part: &mut PartCounts) -> bool
+    ensures page { IsForgotten page.old page.new }
+    ensures part { result ≡ true → part.new ≡ counts_then page.old page.new part.old }
+    ensures same { result ≡ false → page.new ≡ page.old }
+    ensures same_part { result ≡ false → part.new ≡ part.old }
+{
+    let over = page.known().over;
+    if !over {
+        return false;
+    }
+    forget(page, part);
+    true
+}
+
 // Makes this step of a page. Returns whether anything became of it.
 fn step_one(
     page: &mut WindowPage,
@@ -110,6 +129,8 @@ fn step_one(
             forget(page, part);
             true
         }
+        HomeStep::ForgetOver => forget_over(page, part),
+        HomeStep::Hear => hear(page, part, Notice::Written),
     }
 }
 
