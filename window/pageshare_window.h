@@ -301,8 +301,6 @@ void pageshare_window_give_back(struct pageshare_window_page *page, struct pages
 
 /* What looks have found of a page counts no more. */
 void pageshare_window_forget(struct pageshare_window_page *page, struct pageshare_window_counts *part);
-/* Whether it was seen elsewhere, or is zeros. */
-void pageshare_window_see(struct pageshare_window_page *page, struct pageshare_window_counts *part, bool is_seen);
 
 /*
  * How many of these pages, from the first one on,

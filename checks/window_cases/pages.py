@@ -87,14 +87,11 @@ class Table:
 
     def note(self, at: int) -> None:
         """Notes something of the page's content, or takes its order back."""
-        is_so, which, known = self.chance.random() < 0.5, self.chance.randrange(4), self.known[at]
+        is_so, which, known = self.chance.random() < 0.5, self.chance.randrange(3), self.known[at]
         if which == 0:
             self.call("give_back", at, is_so)
             known.give_back(is_so)
         elif which == 1:
-            self.call("see", at, is_so)
-            known.seen = is_so
-        elif which == 2:
             self.call("forget", at)
             known.forget()
         else:

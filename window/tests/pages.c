@@ -871,10 +871,8 @@ static void places(void) {
     check(!is_moved(&pages[0]) && begins_moved(page), "the page behind it begins what was moved");
     pageshare_window_give_back(&pages[1], &part, true);
     check(is_given_back(page) && part.zeros == 1, "it was given back");
-    pageshare_window_see(&pages[1], &part, true);
-    check(is_seen(page) && part.shareable == 1, "it was seen");
     check(pageshare_window_give_up(pages, 2, &part, 1, 0, 1, 1), "one page is given up");
-    check(!is_given_back(page) && !is_seen(page) && part.zeros == 0 && part.shareable == 0, "it was given up");
+    check(!is_given_back(page) && part.zeros == 0, "it was given up");
     check(pageshare_window_leave(pages, 2, &part, 1, 0, 1, 1), "one page leaves");
     check(is_out(page) && !is_over(page) && !is_out(&pages[0]), "it has left");
     check(!pageshare_window_leave(pages, 2, &part, 1, 0, 1, 2) && !is_out(&pages[0]), "a page that isn't there leaves no window");

@@ -69,7 +69,7 @@ pub use tables::{pageshare_window_are_movable, pageshare_window_cover, pageshare
 pub use tasks::{WindowTask, pageshare_window_begin_tasks, pageshare_window_next_task, pageshare_window_task_done};
 pub use times::{pageshare_window_be_eager, pageshare_window_begin_times, pageshare_window_look_ended, pageshare_window_pause_ms};
 pub use window_pages::{PartCounts, WindowFacts, WindowPage};
-use window_pages::{alike, choose, forget, give_back, here, next, see, stays, take, withdraw};
+use window_pages::{alike, choose, forget, give_back, here, next, stays, take, withdraw};
 pub use window_tables::TableFacts;
 pub use window_tables::pins::Transfer;
 
@@ -282,16 +282,6 @@ pub extern "C" fn pageshare_window_forget(page: &mut WindowPage, part: &mut Part
     ensures { Becomes (known_of page.old) true page.old page.new part.old part.new }
 {
     forget(page, part);
-}
-
-/// Notes whether a page was seen elsewhere or is zeros, so that it counts as one that could be shared.
-#[unsafe(no_mangle)]
-pub extern "C" fn pageshare_window_see(page: &mut WindowPage, part: &mut PartCounts, is_seen: bool)
-    ensures known { known_of page.new ≡ known_of page.old }
-    ensures notes { notes_of page.new ≡ record (notes_of page.old) { seen = is_seen } }
-    ensures counts { part.new ≡ counts_then page.old page.new part.old }
-{
-    see(page, part, is_seen);
 }
 
 /// Returns how many pages from the first on lie as it does: over frames or not, and in the window or not.

@@ -6,7 +6,6 @@ use Rattle.page_lender.specs.declared.belief.Belief.{Belief}
 use Rattle.page_lender.specs.declared.belief.Target.{Target}
 use Rattle.page_lender.specs.declared.belief.Target.TheVariants.{Frame, Zeros}
 use Rattle.window_pages.specs.Bytes.{belief_of, known_of}
-use Rattle.window_pages.specs.Counted.{is_to_release}
 use Rattle.window_pages.specs.declared.page.WindowPage.{WindowPage}
 
 abbrev pub same : Bool → Bool → Bool
@@ -23,10 +22,6 @@ is_here x = not (known_of x).out || (known_of x).over
 
 abbrev pub is_here_as : WindowPage → WindowPage → Bool
 is_here_as x y = same (is_here x) (is_here y)
-
--- its slot isn't to be released, or an order of it is open
-abbrev pub keeps_slot : WindowPage → Bool
-keeps_slot x = not (is_to_release (known_of x)) || (known_of x).ordered
 
 -- the second is the frame behind the first, or both are zeros
 abbrev pub follows : Target → Target → Bool

@@ -4,7 +4,7 @@ ghost use Rattle.std.specs.List.{prefix_len};
 ghost use Rattle.std.specs.Option.{option_map_or};
 ghost use Rattle.page_lender.specs.Decisions.{equal_to};
 ghost use Rattle.window_pages.specs.Bytes.{belief_of, known_of};
-ghost use Rattle.window_pages.specs.Runs.{follows, goes_on, goes_with, is_here, is_here_as, keeps_slot, lies_as, same};
+ghost use Rattle.window_pages.specs.Runs.{follows, goes_on, goes_with, is_here, is_here_as, lies_as, same};
 
 use crate::WindowPage;
 use page_lender::{Belief, Target};
@@ -85,14 +85,6 @@ impl WindowPage {
     {
         same(self.is_here(), other.is_here())
     }
-
-    // Returns whether its slot isn't to be released, or an order of it is open.
-    fn keeps_slot(&self) -> bool
-        ensures { result ≡ keeps_slot self.now }
-    {
-        let known = self.known();
-        !known.is_to_release() || known.ordered
-    }
 }
 
 // Returns how many pages come before one that doesn't lie as this one does.
@@ -139,17 +131,4 @@ pub fn here(pages: &[WindowPage]) -> usize
         None => 0,
         Some(first) => here_as(first, pages),
     }
-}
-
-/// Returns how many pages come before the first one whose slot is to be released, and of which no order is open.
-pub fn before_release(pages: &[WindowPage]) -> usize
-    ensures { result ≡ prefix_len keeps_slot pages.now }
-{
-    for place in 0..pages.len() {
-        let is_so = pages[place].keeps_slot();
-        if !is_so {
-            return place;
-        }
-    }
-    pages.len()
 }
