@@ -20,10 +20,11 @@ use Rattle.page_holds.specs.declared.place.Taking.{Taking}
 use Rattle.page_holds.specs.declared.place.Taking.TheVariants.{Refused as NotTaken, Watched, Guarded as TakenGuarded, Aside as TakenAside}
 use Rattle.page_holds.specs.declared.rows.run.RowOrder.{RowOrder}
 use Rattle.page_lender.specs.Calls.{IsDone, IsOrdered, order_due}
-use Rattle.page_lender.specs.Decisions.{shows, waiting}
+use Rattle.page_lender.specs.Decisions.{is_busy, shows, waiting}
 use Rattle.page_lender.specs.declared.bars.Bars.{Bars}
 use Rattle.page_lender.specs.declared.belief.Belief.{Belief}
 use Rattle.page_lender.specs.declared.belief.Target.TheVariants.{Frame}
+use Rattle.page_lender.specs.declared.order.Notice.TheVariants.{Written}
 use Rattle.page_lender.specs.declared.order.Order.{Order}
 use Rattle.page_lender.specs.declared.order.Order.TheVariants.{Map}
 use Rattle.page_lender.specs.declared.order.Outcome.{Outcome}
@@ -43,7 +44,7 @@ use Rattle.std.specs.Prelude.{Option, nat_eq, nat_le, nat_lt, slice_get, slice_i
 use Rattle.window_events.specs.Windows.{Mappings, is_bare}
 use Rattle.window_events.specs.declared.page.Page.{Page}
 use Rattle.window_pages.specs.Bytes.{belief_of, known_of}
-use Rattle.window_pages.specs.Changed.{given_back, Lends}
+use Rattle.window_pages.specs.Changed.{given_back, lender_with, Lends}
 use Rattle.window_pages.specs.Counted.{counts_then}
 use Rattle.window_pages.specs.Known.{bars_of, lender_of, no_bars, takes}
 use Rattle.window_pages.specs.Laws.{no_counts}
@@ -54,9 +55,10 @@ use Rattle.window_pages.specs.declared.page.WindowPage.{WindowPage}
 use Rattle.window_tables.proofs.Places.{set_length, set_other, set_own}
 use Rattle.window_tables.specs.Changes.{Changed, IsBehind, NowBegins, RangeChanged, marks}
 use Rattle.window_tables.specs.Facts.{facts_at}
-use Rattle.window_tables.specs.Homes.{Changes, HasMoved, IsCalled, IsCopied, IsHome, hears}
+use Rattle.window_tables.specs.Homes.{Both, Changes, HasMoved, HearsWritten, IsCalled, IsCopied, IsForgotten, IsHome, OneMemory, hears}
 use Rattle.window_tables.specs.Tables.{can_note, Notes}
 use Rattle.window_tables.specs.declared.changes.Change.{Change}
+use Rattle.window_tables.specs.declared.changes.Change.TheVariants.{Uncovered}
 use Rattle.window_tables.specs.declared.facts.TableFacts.{TableFacts}
 use Rattle.lending_laws.specs.Histories as made
 use Rattle.lending_laws.specs.Lender as call
@@ -88,6 +90,11 @@ abbrev pub EachNoteGoes : Type 0
 EachNoteGoes =
     (may_give : (ℕ → Bool) → ℕ → Bool) (first count lead from n : ℕ) (change : Change) (m : Moment) (new : List WindowPage) (parts parts_new : List PartCounts) → History may_give first count m →
     Notes change lead from n true m.pages new parts parts_new → AreTruly change first from n m → Reaches may_give first m new
+
+-- A part gets one memory: its pages' lenders hear that, and other memory is noted of them.
+abbrev pub EachOneMemoryGoes : Type 0
+EachOneMemoryGoes =
+    (may_give : (ℕ → Bool) → ℕ → Bool) (first count from n : ℕ) (m : Moment) (new : List WindowPage) → History may_give first count m → OneMemory from n m.pages new → AreTruly (Uncovered true) first from n m → Reaches may_give first m new
 
 -- A row begins: what came of the attempt to hold each of its pages is told.
 abbrev pub EachRowGoes : Type 0
@@ -357,12 +364,14 @@ note_call first count from n change m new kept r t i pending x y e f = elim (cas
   at_edge s = behind_call change n (first + i) m.world pending x y
       (r.behind x y (subst (λ v. slice_get m.pages v ≡ Some x) (sym s) e) (subst (λ v. slice_get new v ≡ Some y) (sym s) f))
 
-pub each_note_goes : EachNoteGoes
-each_note_goes g first count lead from n change m new parts parts_new h noted t =
-    let r : RangeChanged change from n m.pages new = noted.pages refl in
-    let kept : IsKept first count m = history_kept g first count m h in
+-- something becomes of a range of pages, and is so
+range_goes : (g : (ℕ → Bool) → ℕ → Bool) (first count from n : ℕ) (change : Change) (m : Moment) (new : List WindowPage) → IsKept first count m → RangeChanged change from n m.pages new → AreTruly change first from n m → Reaches g first m new
+range_goes g first count from n change m new kept r t =
     each_goes g first m new (sym r.length) (λ i x y e f k w s o at.
         one_call g first i k x y (k.orders i) at (subst (λ v. Calls (first + i) v x (k.orders i) y (k.orders i)) (sym w) (note_call first count from n change m new kept r t i (k.orders i) x y e f)))
+
+pub each_note_goes : EachNoteGoes
+each_note_goes g first count lead from n change m new parts parts_new h noted t = range_goes g first count from n change m new (history_kept g first count m h) (noted.pages refl) t
 
 -- ---- rows
 
@@ -809,6 +818,38 @@ each_home_copy_goes g first lead from n m new parts parts_new c so =
     (λ j x y l e b. then_call g first (from + j) m x b.between y (home_turn g first (from + j) m Done x b.between done_is_free b.first (λ h. so j x l e h))
         (λ pending. past_stops (first + (from + j)) m.world pending b.between y (b.second no_counts).known))
 
+-- ---- a part that gets one memory
+
+-- what looks have found of a page over a frame counts no more
+forgotten_turn : (g : (ℕ → Bool) → ℕ → Bool) (first i : ℕ) (m : Moment) (x y : WindowPage) → IsForgotten x y → CanTurn g first m i x y
+forgotten_turn g first i m x y b = pick (known_of x).over refl where
+  pick : (o : Bool) → (known_of x).over ≡ o → CanTurn g first m i x y
+  pick true e = λ k w o p at. stays_now g first i k x y at (b.over e no_counts).known
+  pick false e = stays_turn g first i m x y (b.other e)
+
+-- a page that shows no frame hears that it was written
+written_call : (p : ℕ) (w : Mappings) (pending : Pending) (x y : WindowPage) (page : Page) → slice_get w.pages p ≡ Some page → is_bare page.view ≡ false → HearsWritten x y → Calls p w x pending y pending
+written_call p w pending x y page there bare h = pick (is_busy (lender_with no_bars (known_of x))) refl where
+  pick : (b : Bool) → is_busy (lender_with no_bars (known_of x)) ≡ b → Calls p w x pending y pending
+  pick false e = made.hears x y no_counts (counts_then x y no_counts) Written pending page there bare e (h.heard e no_counts)
+  pick true e = stays_call p w pending x y (h.other e)
+
+reaches_then : (g : (ℕ → Bool) → ℕ → Bool) (first : ℕ) (m : Moment) (between new : List WindowPage) → (r : Reaches g first m between) → Reaches g first r.new new → Reaches g first m new
+reaches_then g first m between new r s = record { new = s.new; goes = joined g first m r.new s.new r.goes s.goes; has = s.has; stored = s.stored ∙ r.stored; world = s.world ∙ r.world }
+
+pub each_one_memory_goes : EachOneMemoryGoes
+each_one_memory_goes g first count from n m new h c t =
+    let kept : IsKept first count m = history_kept g first count m h in
+    let heard : Reaches g first m c.between = changed_goes g first from n m c.between (λ j. Both IsForgotten HearsWritten) c.hear
+        (λ j x y l e b.
+            let its : Reads m.world (first + (from + j)) (m.stored (first + (from + j))) = kept.reads (from + j) (omega (arith, slice_get_within m.pages (from + j) x e, kept.many)) in
+            then_call g first (from + j) m x b.between y (forgotten_turn g first (from + j) m x b.between b.first)
+            (λ pending. written_call (first + (from + j)) m.world pending b.between y its.page its.there (t j l its.page its.there) b.second)) in
+    let after : IsKept first count heard.new = history_kept g first count heard.new (each_is_history g first count m heard.new h heard.goes) in
+    let moves : RangeChanged (Uncovered true) from n heard.new.pages new = subst (λ v. RangeChanged (Uncovered true) from n v new) (sym heard.has) c.moves in
+    let truly : AreTruly (Uncovered true) first from n heard.new = λ j l. subst (λ v. IsTruly (Uncovered true) (first + (from + j)) v) (sym heard.world) (t j l) in
+    reaches_then g first m c.between new heard (range_goes g first count from n (Uncovered true) heard.new new after moves truly)
+
 -- ---- questions
 
 asked_turn : (g : (ℕ → Bool) → ℕ → Bool) (first i : ℕ) (m : Moment) (x y : WindowPage) (facts : WindowFacts) (has_room is_passing : Bool) (answer : ℕ) (part after : PartCounts) → slice_get m.pages i ≡ Some x →
@@ -867,6 +908,7 @@ call_reaches g first count m new h (call.orders_home lead from n table pins why 
 call_reaches g first count m new h (call.refused_home lead from n parts parts_new c t) = each_home_refusal_goes g first lead from n m new parts parts_new c t
 call_reaches g first count m new h (call.moved_home lead from n parts parts_new c t) = each_home_move_goes g first lead from n m new parts parts_new c t
 call_reaches g first count m new h (call.copied_home lead from n parts parts_new c t) = each_home_copy_goes g first lead from n m new parts parts_new c t
+call_reaches g first count m new h (call.one_memory from n c t) = each_one_memory_goes g first count from n m new h c t
 
 pub each_call_goes_on : EachCallGoesOn
 each_call_goes_on g first count m new h c =

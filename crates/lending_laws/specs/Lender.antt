@@ -26,9 +26,10 @@ use Rattle.window_pages.specs.declared.counts.PartCounts.{PartCounts}
 use Rattle.window_pages.specs.declared.facts.WindowFacts.{WindowFacts}
 use Rattle.window_pages.specs.declared.page.WindowPage.{WindowPage}
 use Rattle.window_tables.specs.Facts.{facts_at}
-use Rattle.window_tables.specs.Homes.{Changes, HasMoved, IsCalled, IsCopied, IsHome, hears}
+use Rattle.window_tables.specs.Homes.{Changes, HasMoved, IsCalled, IsCopied, IsHome, OneMemory, hears}
 use Rattle.window_tables.specs.Tables.{Notes}
 use Rattle.window_tables.specs.declared.changes.Change.{Change}
+use Rattle.window_tables.specs.declared.changes.Change.TheVariants.{Uncovered}
 use Rattle.window_tables.specs.declared.facts.TableFacts.{TableFacts}
 use Rattle.lending_laws.specs.Histories.{Calls, CarriedOut, GivesWhatItMay, History, IsTold, Moment, Pending, Reads}
 use Rattle.lending_laws.specs.Notes.{IsTruly, ShowsNone}
@@ -126,6 +127,7 @@ pub data Called (may_give : (ℕ → Bool) → ℕ → Bool) (first : ℕ) (m : 
       → HomesAreSo may_give m from n Done → Called may_give first m new
   copied_home : (lead from n : ℕ) (parts parts_new : List PartCounts) → Changes (λ j. IsCopied) lead from n true m.pages new parts parts_new
       → HomesAreSo may_give m from n Done → Called may_give first m new
+  one_memory : (from n : ℕ) → OneMemory from n m.pages new → AreTruly (Uncovered true) first from n m → Called may_give first m new
 
 -- Then the window is at a moment of its history, with these pages. What was stored and the mappings are as before, and each page reads what its guest
 -- stored last.
