@@ -10,7 +10,7 @@ use Rattle.lend_steps.specs.declared.loans.LoanReply.TheVariants.{Unheard, NoFra
 use Rattle.lending_laws.proofs.Kept.{IsKept, history_kept}
 use Rattle.lending_laws.proofs.Notes.{each_look_is_calls, each_note_is_a_call, given_back_keeps, given_back_lies, given_back_orders, known_stays, past_stops}
 use Rattle.lending_laws.specs.Histories.{Calls, CallsAt, CarriedOut, Given, GivesWhatItMay, History, IsTold, IsToldAt, Moment, Nothing, OneIs, Pending, Reads, calls, is_told, notes, pending_after, slots_after}
-use Rattle.lending_laws.specs.Notes.{ChangesByTwo, IsTruly, ShowsNone}
+use Rattle.lending_laws.specs.Notes.{ChangesByTwo, IsTruly}
 use Rattle.page_holds.specs.Bytes.{step_by}
 use Rattle.page_holds.specs.Orders.{facts_there, OrdersNext}
 use Rattle.page_holds.specs.Rows.{Asks, CameOut, IsBegun, PageBecomes, RowChanges, is_asked, taking_at, RowBegins, RowCameOut}
@@ -38,7 +38,6 @@ use Rattle.part_scans.specs.declared.scan.Scan.{Scan}
 use Rattle.std.proofs.Common.{◌≡◌, ◌∙◌, ℕ, zero, suc, ◌+◌, ◌-◌, ◌<◌, ◌≤◌, ◌⊎◌, inl, inr, Bool, true, false, ◌&&◌, ◌||◌, cond, List, [], ◌∷◌, ◌++◌, length, Some, None, refl, ap, sym, subst, arith}
 use Rattle.std.proofs.Math.Seq.{set-append_seam}
 use Rattle.std.proofs.lemmas.Bool.{cases_lt, eqb-false, eqb-true, leb-true}
-use Rattle.std.proofs.lemmas.List.{length-append}
 use Rattle.std.proofs.lemmas.Option.{slice_get-get_or, slice_get_within}
 use Rattle.std.specs.Prelude.{Option, nat_eq, nat_le, nat_lt, slice_get, slice_index_or, slice_set}
 use Rattle.window_events.specs.Windows.{Mappings, is_bare}
@@ -64,7 +63,6 @@ use Rattle.lending_laws.specs.Histories as made
 use Rattle.lending_laws.specs.Lender as call
 use Rattle.lending_laws.specs.Lender.{AreSo, AreTruly, Called, CopiesAreSo, CopyIsSo, EachCallGoesOn, HomesAreSo, IsSo, IsSoOf, LoanIsSo, row_outcome}
 use Rattle.page_holds.specs.declared.place.HoldStep.TheVariants as Hold
-use Rattle.page_lender.specs.declared.order.Order.TheVariants as Order
 
 -- A window goes from one moment to another by calls, and by outcomes that are told. Nothing else happens meanwhile.
 pub data Goes (may_give : (ℕ → Bool) → ℕ → Bool) (first : ℕ) (old : Moment) : Moment → Type 0 where
@@ -299,22 +297,22 @@ rest_goes g first m now pre (x ∷ xs) (y ∷ ys) s is stored world orders l tur
     let shift : (j : ℕ) → length pre + suc j ≡ length (pre ++ y ∷ []) + j = λ j. omega (arith, one_longer pre y) in
     let apart : (j : ℕ) → length (pre ++ y ∷ []) + j ≡ length pre → ⊥ = λ j e. omega (arith, one_longer pre y, e) in
     let more : (j : ℕ) → t.new.orders (length (pre ++ y ∷ []) + j) ≡ m.orders (length (pre ++ y ∷ []) + j) =
-        λ j. t.others (length (pre ++ y ∷ []) + j) (apart j) ∙ subst (λ i. now.orders i ≡ m.orders i) (shift j) (orders (suc j)) in
+    λ j. t.others (length (pre ++ y ∷ []) + j) (apart j) ∙ subst (λ i. now.orders i ≡ m.orders i) (shift j) (orders (suc j)) in
     let rest : (j : ℕ) (a b : WindowPage) → slice_get xs j ≡ Some a → slice_get ys j ≡ Some b → CanTurn g first m (length (pre ++ y ∷ []) + j) a b =
-        λ j a b e f. subst (λ i. CanTurn g first m i a b) (shift j) (turns (suc j) a b e f) in
+    λ j a b e f. subst (λ i. CanTurn g first m i a b) (shift j) (turns (suc j) a b e f) in
     let r : Reaches g first m ((pre ++ y ∷ []) ++ ys) = rest_goes g first m t.new (pre ++ y ∷ []) xs ys (joined g first m now t.new s t.goes) pages (t.stored ∙ stored) (t.world ∙ world) more (suc_same xs ys l) rest in
     subst (λ v. Reaches g first m v) (one_more pre ys y) r
   where
-  suc_same : (xs ys : List WindowPage) → suc (length xs) ≡ suc (length ys) → length xs ≡ length ys
-  suc_same xs ys e = omega (arith, e)
+    suc_same : (xs ys : List WindowPage) → suc (length xs) ≡ suc (length ys) → length xs ≡ length ys
+    suc_same xs ys e = omega (arith, e)
 
 -- where each page of a window can become what it is in a list, the window gets these pages
 pub each_goes : (g : (ℕ → Bool) → ℕ → Bool) (first : ℕ) (m : Moment) (new : List WindowPage) → length m.pages ≡ length new →
     ((i : ℕ) (x y : WindowPage) → slice_get m.pages i ≡ Some x → slice_get new i ≡ Some y → CanTurn g first m i x y) → Reaches g first m new
 each_goes g first m new l turns = rest_goes g first m m [] m.pages new goes_stays refl refl refl (λ j. refl) l
     (λ j x y e f. subst (λ i. CanTurn g first m i x y) (from j) (turns j x y e f)) where
-  from : (j : ℕ) → j ≡ 0 + j
-  from j = omega arith
+      from : (j : ℕ) → j ≡ 0 + j
+      from j = omega arith
 
 -- ---- what is noted of many pages
 
@@ -354,12 +352,14 @@ note_call first count from n change m new kept r t i pending x y e f = elim (cas
 ] where
   its : (j : ℕ) → from + j ≡ i → Reads m.world (first + i) (m.stored (first + i))
   its j s = kept.reads i (omega (arith, slice_get_within m.pages i x e, kept.many))
+
   within : (j : ℕ) → from + j ≡ i → j < n → Calls (first + i) m.world x pending y pending
   within j s l =
       let got : slice_get m.pages (from + j) ≡ Some x = subst (λ v. slice_get m.pages v ≡ Some x) (sym s) e in
       let gets : slice_get new (from + j) ≡ Some y = subst (λ v. slice_get new v ≡ Some y) (sym s) f in
       let truly : IsTruly change (first + i) m.world = subst (λ v. IsTruly change (first + v) m.world) s (t j l) in
       each_note_is_a_call change j (first + i) m.world x y pending (its j s).page (r.inside j x y l got gets) (its j s).there truly
+
   at_edge : from + n ≡ i → Calls (first + i) m.world x pending y pending
   at_edge s = behind_call change n (first + i) m.world pending x y
       (r.behind x y (subst (λ v. slice_get m.pages v ≡ Some x) (sym s) e) (subst (λ v. slice_get new v ≡ Some y) (sym s) f))
@@ -368,7 +368,7 @@ note_call first count from n change m new kept r t i pending x y e f = elim (cas
 range_goes : (g : (ℕ → Bool) → ℕ → Bool) (first count from n : ℕ) (change : Change) (m : Moment) (new : List WindowPage) → IsKept first count m → RangeChanged change from n m.pages new → AreTruly change first from n m → Reaches g first m new
 range_goes g first count from n change m new kept r t =
     each_goes g first m new (sym r.length) (λ i x y e f k w s o at.
-        one_call g first i k x y (k.orders i) at (subst (λ v. Calls (first + i) v x (k.orders i) y (k.orders i)) (sym w) (note_call first count from n change m new kept r t i (k.orders i) x y e f)))
+    one_call g first i k x y (k.orders i) at (subst (λ v. Calls (first + i) v x (k.orders i) y (k.orders i)) (sym w) (note_call first count from n change m new kept r t i (k.orders i) x y e f)))
 
 pub each_note_goes : EachNoteGoes
 each_note_goes g first count lead from n change m new parts parts_new h noted t = range_goes g first count from n change m new (history_kept g first count m h) (noted.pages refl) t
@@ -381,11 +381,13 @@ pub changed_goes : (g : (ℕ → Bool) → ℕ → Bool) (first from count : ℕ
 changed_goes g first from count m new Becomes r can = each_goes g first m new (sym r.length) turn where
   stays : (i : ℕ) (x y : WindowPage) → y ≡ x → CanTurn g first m i x y
   stays i x y s k w o p at = one_call g first i k x y (k.orders i) at (stays_call (first + i) k.world (k.orders i) x y s)
+
   within : (i : ℕ) (x y : WindowPage) → slice_get m.pages i ≡ Some x → slice_get new i ≡ Some y → (n : ℕ) → from + n ≡ i → n < count → CanTurn g first m i x y
   within i x y e f n s l =
       let got : slice_get m.pages (from + n) ≡ Some x = subst (λ v. slice_get m.pages v ≡ Some x) (sym s) e in
       let gets : slice_get new (from + n) ≡ Some y = subst (λ v. slice_get new v ≡ Some y) (sym s) f in
       subst (λ v. CanTurn g first m v x y) s (can n x y l got (r.inside n x y l got gets))
+
   turn : (i : ℕ) (x y : WindowPage) → slice_get m.pages i ≡ Some x → slice_get new i ≡ Some y → CanTurn g first m i x y
   turn i x y e f = elim (cases_lt i from) [
     | inl below ↦ stays i x y (some_same y x (sym f ∙ r.outside i (inl below) ∙ e))
@@ -405,19 +407,24 @@ row_goes g first from begin count m new row row_new Becomes r fits can =
       inside = λ n x y l e f. inside n x y l e f;
       outside = λ i o. r.outside i (outside i o);
     }) (λ n x y l e b. subst (λ v. CanTurn g first m v x y) (place n) (can n b.0 x y l (subst (λ v. slice_get m.pages v ≡ Some x) (sym (place n)) e) b.1)) where
-  place : (n : ℕ) → from + (begin + n) ≡ from + begin + n
-  place n = omega arith
-  outside : (i : ℕ) → (i < from + begin) ⊎ (from + begin + count ≤ i) → (i < from + begin) ⊎ (from + (begin + count) ≤ i)
-  outside i (inl l) = inl l
-  outside i (inr l) = inr (omega (arith, l))
-  byte_in : (xs : List ℕ) (i : ℕ) → i < length xs → slice_get xs i ≡ Some (slice_index_or xs i 0)
-  byte_in xs i l = slice_get-get_or xs i 0 l
-  inside : (n : ℕ) (x y : WindowPage) → n < count → slice_get m.pages (from + begin + n) ≡ Some x → slice_get new (from + begin + n) ≡ Some y → (c : ℕ) × Becomes n (slice_index_or row (begin + n) 0) c x y
-  inside n x y l e f =
-      let there : begin + n < length row = omega (arith, l, fits) in
-      let there_new : begin + n < length row_new = omega (arith, l, fits, r.bytes) in
-      (slice_index_or row_new (begin + n) 0, r.inside n (slice_index_or row (begin + n) 0) (slice_index_or row_new (begin + n) 0) x y l (byte_in row (begin + n) there) (byte_in row_new (begin + n) there_new)
-          (subst (λ v. slice_get m.pages v ≡ Some x) (sym (place n)) e) (subst (λ v. slice_get new v ≡ Some y) (sym (place n)) f))
+      place : (n : ℕ) → from + (begin + n) ≡ from + begin + n
+      place n = omega arith
+
+      outside : (i : ℕ) → (i < from + begin) ⊎ (from + begin + count ≤ i) → (i < from + begin) ⊎ (from + (begin + count) ≤ i)
+      outside i (inl l) = inl l
+      outside i (inr l) = inr (omega (arith, l))
+
+      byte_in : (xs : List ℕ) (i : ℕ) → i < length xs → slice_get xs i ≡ Some (slice_index_or xs i 0)
+      byte_in xs i l = slice_get-get_or xs i 0 l
+
+      inside : (n : ℕ) (x y : WindowPage) → n < count → slice_get m.pages (from + begin + n) ≡ Some x → slice_get new (from + begin + n) ≡ Some y → (c : ℕ) × Becomes n (slice_index_or row (begin + n) 0) c x y
+      inside n x y l e f =
+          let there : begin + n < length row = omega (arith, l, fits) in
+          let there_new : begin + n < length row_new = omega (arith, l, fits, r.bytes) in (
+            slice_index_or row_new (begin + n) 0,
+            r.inside n (slice_index_or row (begin + n) 0) (slice_index_or row_new (begin + n) 0) x y l (byte_in row (begin + n) there) (byte_in row_new (begin + n) there_new)
+                (subst (λ v. slice_get m.pages v ≡ Some x) (sym (place n)) e) (subst (λ v. slice_get new v ≡ Some y) (sym (place n)) f),
+          )
 
 -- an outcome with which a host gives no slot
 no_loan : Outcome → Bool
@@ -493,6 +500,7 @@ asks_no_loan belief taking its e = pick (is_to_hold belief) e where
   taken Watched = refl
   taken TakenGuarded = refl
   taken TakenAside = refl
+
   pick : (b : Bool) → cond b (Some (outcome_of taking)) None ≡ Some its → no_loan its ≡ true
   pick true e = some_no_loan (outcome_of taking) its e (taken taking)
   pick false e = cc
@@ -529,11 +537,12 @@ pub each_row_step_goes : EachRowStepGoes
 each_row_step_goes g first lead from begin done refused m new parts parts_new row row_new b so =
     row_goes g first from begin (done + refused) m new row row_new (CameOut done) (b.pages refl) (omega (arith, fits))
     (λ n c x y l e came. took_turn g first (from + (begin + n)) m x y (row_outcome row begin done n x) came.page.part came.page.part_after came.page.becomes (λ its a. step_no_loan (step_by (belief_of x) (slice_index_or row (begin + n) 0)) (belief_of x) (nat_lt n done) its a) (λ its a t. so n x its l e a t)) where
-  right : (one other : Bool) → (one && other) ≡ true → other ≡ true
-  right true other e = e
-  right false other e = cc
-  fits : begin + done + refused ≤ length row
-  fits = leb-true (begin + done + refused) (length row) (right (can_note lead from (length row) m.pages parts) (nat_le (begin + done + refused) (length row)) (sym b.taken))
+      right : (one other : Bool) → (one && other) ≡ true → other ≡ true
+      right true other e = e
+      right false other e = cc
+
+      fits : begin + done + refused ≤ length row
+      fits = leb-true (begin + done + refused) (length row) (right (can_note lead from (length row) m.pages parts) (nat_le (begin + done + refused) (length row)) (sym b.taken))
 
 -- a turn by the page's next order
 ordered_turn : (g : (ℕ → Bool) → ℕ → Bool) (first i : ℕ) (m : Moment) (facts : WindowFacts) (byte : ℕ) (x y : WindowPage) (part after : PartCounts) → Asks facts byte x y part after → CanTurn g first m i x y
@@ -575,7 +584,7 @@ two_turn g first i m x y c k w o p at =
     let two : ChangesByTwo (first + i) k.world (k.orders i) x y = subst (λ v. ChangesByTwo (first + i) v (k.orders i) x y) (sym w) (c (k.orders i)) in
     let then : Moment = after_call k i two.middle (k.orders i) in
     let second : Calls (first + i) k.world two.middle (then.orders i) y (then.orders i) =
-        subst (λ v. Calls (first + i) k.world two.middle v y v) (sym (own_pending i (k.orders i) (k.orders i))) two.second in
+    subst (λ v. Calls (first + i) k.world two.middle v y v) (sym (own_pending i (k.orders i) (k.orders i))) two.second in
     call_then g first i k x two.middle y (k.orders i) at two.first (one_call g first i then two.middle y (then.orders i) (set_own k.pages i x two.middle at) second)
 
 pub turns_then : (g : (ℕ → Bool) → ℕ → Bool) (first i : ℕ) (m : Moment) (x y : WindowPage) → (t : Turns g first m i x) → Turns g first t.new i y → Turns g first m i y
@@ -595,7 +604,7 @@ then_call g first i m x between y t c k w o p at =
     let one : Turns g first k i between = t k w o p at in
     let there : slice_get one.new.pages i ≡ Some between = subst (λ v. slice_get v i ≡ Some between) (sym one.has) (set_own k.pages i x between at) in
     let second : Calls (first + i) one.new.world between (one.new.orders i) y (one.new.orders i) =
-        subst (λ v. Calls (first + i) v between (one.new.orders i) y (one.new.orders i)) (sym (one.world ∙ w)) (c (one.new.orders i)) in
+    subst (λ v. Calls (first + i) v between (one.new.orders i) y (one.new.orders i)) (sym (one.world ∙ w)) (c (one.new.orders i)) in
     turns_then g first i k between y one (one_call g first i one.new between y (one.new.orders i) there second)
 
 -- a page that stays
@@ -635,7 +644,7 @@ told_of g first i m x y its part after e t so = pick (takes its (known_of x)) re
 chosen_turn : (g : (ℕ → Bool) → ℕ → Bool) (first i : ℕ) (m : Moment) (x y : WindowPage) (facts : WindowFacts) (order : Order) (part after : PartCounts) → slice_get m.pages i ≡ Some x → ChosenFor facts order x y part after → Turns g first m i y
 chosen_turn g first i m x y facts order part after e c =
     let t : Turns g first m i c.between = one_call g first i m x c.between (m.orders i) e
-        (made.chooses x c.between part c.part_between false (bars_of facts (known_of x)) (m.orders i) c.chosen) in
+    (made.chooses x c.between part c.part_between false (bars_of facts (known_of x)) (m.orders i) c.chosen) in
     and_then g first i m x c.between y e t (order_turn g first i t.new c.between y c.part_between after order (bars_of facts (known_of c.between)) c.ordered)
 
 pub each_choice_goes : EachChoiceGoes
@@ -723,12 +732,14 @@ memory_turn : (g : (ℕ → Bool) → ℕ → Bool) (first i : ℕ) (m : Moment)
 memory_turn g first i m x y memory part after n = pick (has_again memory (known_of x)) refl where
   not_over : (b : Bool) → b ≡ true → b ≡ false → ⊥
   not_over b e f = cc
+
   call : (w : Mappings) (pending : Pending) → known_of y ≡ given_back false (known_of x) → Calls (first + i) w x pending y pending
   call w pending e = notes x y pending (record {
     belief = ap (λ k. k.belief) e ∙ given_back_keeps (known_of x);
     ordered = ap (λ k. k.ordered) e ∙ given_back_orders (known_of x);
     place = λ page o f l. absurd (not_over (known_of y).over (ap (λ k. k.over) e ∙ given_back_lies (known_of x) ∙ o) f);
   })
+
   pick : (b : Bool) → has_again memory (known_of x) ≡ b → CanTurn g first m i x y
   pick true e = λ k w o p at. one_call g first i k x y (k.orders i) at (call k.world (k.orders i) (n.noted e).known)
   pick false e = stays_turn g first i m x y (n.page e)
@@ -744,13 +755,13 @@ pub each_scan_goes : EachScanGoes
 each_scan_goes g first lead from n scan table pins memory row row_new all m new parts parts_new b =
     row_goes g first from 0 (length row) m new row row_new (BeginsAt scan table pins from all memory) (b.pages refl) (omega arith)
     (λ j c x y l e t. taken_turn g first (from + (0 + j)) m x y scan (facts_there table pins (from + j)) (memory_at memory j) (from + j) (takes_page scan (all || has_memory (memory_at memory j)) (from + j) x) 0 c
-        t.part t.part_after t.becomes.taken)
+    t.part t.part_after t.becomes.taken)
 
 pub each_follow_goes : EachFollowGoes
 each_follow_goes g first lead from n scan table pins memory before row row_new m new parts parts_new b =
     row_goes g first from 0 (length row) m new row row_new (FollowsAt scan table pins from memory before) (b.pages refl) (omega arith)
     (λ j c x y l e t. taken_turn g first (from + (0 + j)) m x y scan (facts_there table pins (from + j)) (memory_at memory j) (from + j)
-        (follows scan (memory_at memory j) (seen_in (slice_index_or row (0 + j) 0)).taken (is_beside before j) (from + j) x) (slice_index_or row (0 + j) 0) c t.part t.part_after t.becomes.taken)
+    (follows scan (memory_at memory j) (seen_in (slice_index_or row (0 + j) 0)).taken (is_beside before j) (from + j) x) (slice_index_or row (0 + j) 0) c t.part t.part_after t.becomes.taken)
 
 step_turn : (g : (ℕ → Bool) → ℕ → Bool) (first i : ℕ) (m : Moment) (x y : WindowPage) (scan : Scan) (outcome : FindOutcome) (place before byte : ℕ) (part after : PartCounts) (page : Page) →
     GoesOn scan outcome place before byte x y part after → slice_get m.world.pages (first + i) ≡ Some page → (outcome.is_own ≡ true → is_bare page.view ≡ false) → CanTurn g first m i x y
@@ -765,11 +776,11 @@ each_scan_step_goes g first count lead from n scan outcomes row row_new m new pa
     let kept : IsKept first count m = history_kept g first count m h in
     row_goes g first from 0 (length row) m new row row_new (GoesOnAt scan from outcomes) (b.pages refl) (omega arith)
     (λ j c x y l e t.
-        let its : Reads m.world (first + (from + (0 + j))) (m.stored (first + (from + (0 + j)))) = kept.reads (from + (0 + j)) (omega (arith, slice_get_within m.pages (from + (0 + j)) x e, kept.many)) in
-        step_turn g first (from + (0 + j)) m x y scan (slice_index_or outcomes j no_outcome) (from + j) (slice_index_or row (0 + j) 0) c t.part t.part_after its.page t.becomes its.there
-        (λ own. so j own its.page (subst (λ v. slice_get m.world.pages (first + (from + v)) ≡ Some its.page) (zero_less j) its.there))) where
-  zero_less : (j : ℕ) → 0 + j ≡ j
-  zero_less j = omega arith
+    let its : Reads m.world (first + (from + (0 + j))) (m.stored (first + (from + (0 + j)))) = kept.reads (from + (0 + j)) (omega (arith, slice_get_within m.pages (from + (0 + j)) x e, kept.many)) in
+    step_turn g first (from + (0 + j)) m x y scan (slice_index_or outcomes j no_outcome) (from + j) (slice_index_or row (0 + j) 0) c t.part t.part_after its.page t.becomes its.there
+    (λ own. so j own its.page (subst (λ v. slice_get m.world.pages (first + (from + v)) ≡ Some its.page) (zero_less j) its.there))) where
+      zero_less : (j : ℕ) → 0 + j ≡ j
+      zero_less j = omega arith
 
 -- ---- pages that get memory of their own
 
@@ -810,13 +821,13 @@ pub each_home_move_goes : EachHomeMoveGoes
 each_home_move_goes g first lead from n m new parts parts_new c so =
     homes_go g first lead from n m new parts parts_new (λ j. HasMoved) c
     (λ j x y l e b. then_call g first (from + j) m x b.between y (home_turn g first (from + j) m Done x b.between done_is_free b.first (λ h. so j x l e h))
-        (λ pending. known_stays (first + (from + j)) m.world pending b.between y (b.second no_counts).known))
+    (λ pending. known_stays (first + (from + j)) m.world pending b.between y (b.second no_counts).known))
 
 pub each_home_copy_goes : EachHomeCopyGoes
 each_home_copy_goes g first lead from n m new parts parts_new c so =
     homes_go g first lead from n m new parts parts_new (λ j. IsCopied) c
     (λ j x y l e b. then_call g first (from + j) m x b.between y (home_turn g first (from + j) m Done x b.between done_is_free b.first (λ h. so j x l e h))
-        (λ pending. past_stops (first + (from + j)) m.world pending b.between y (b.second no_counts).known))
+    (λ pending. past_stops (first + (from + j)) m.world pending b.between y (b.second no_counts).known))
 
 -- ---- a part that gets one memory
 
@@ -841,10 +852,10 @@ pub each_one_memory_goes : EachOneMemoryGoes
 each_one_memory_goes g first count from n m new h c t =
     let kept : IsKept first count m = history_kept g first count m h in
     let heard : Reaches g first m c.between = changed_goes g first from n m c.between (λ j. Both IsForgotten HearsWritten) c.hear
-        (λ j x y l e b.
-            let its : Reads m.world (first + (from + j)) (m.stored (first + (from + j))) = kept.reads (from + j) (omega (arith, slice_get_within m.pages (from + j) x e, kept.many)) in
-            then_call g first (from + j) m x b.between y (forgotten_turn g first (from + j) m x b.between b.first)
-            (λ pending. written_call (first + (from + j)) m.world pending b.between y its.page its.there (t j l its.page its.there) b.second)) in
+    (λ j x y l e b.
+    let its : Reads m.world (first + (from + j)) (m.stored (first + (from + j))) = kept.reads (from + j) (omega (arith, slice_get_within m.pages (from + j) x e, kept.many)) in
+    then_call g first (from + j) m x b.between y (forgotten_turn g first (from + j) m x b.between b.first)
+    (λ pending. written_call (first + (from + j)) m.world pending b.between y its.page its.there (t j l its.page its.there) b.second)) in
     let after : IsKept first count heard.new = history_kept g first count heard.new (each_is_history g first count m heard.new h heard.goes) in
     let moves : RangeChanged (Uncovered true) from n heard.new.pages new = subst (λ v. RangeChanged (Uncovered true) from n v new) (sym heard.has) c.moves in
     let truly : AreTruly (Uncovered true) first from n heard.new = λ j l. subst (λ v. IsTruly (Uncovered true) (first + (from + j)) v) (sym heard.world) (t j l) in

@@ -7,7 +7,6 @@ use Rattle.page_lender.specs.Decisions.{account}
 use Rattle.page_lender.specs.Events.{done_events}
 use Rattle.page_lender.specs.declared.belief.Belief.TheVariants.{Leaving}
 use Rattle.page_lender.specs.declared.order.Order.{Order}
-use Rattle.page_lender.specs.declared.order.Order.TheVariants as Order
 use Rattle.page_lender.specs.declared.order.Outcome.{Outcome}
 use Rattle.page_lender.specs.declared.order.Outcome.TheVariants.{Done, Lent, Refused, Unknown}
 use Rattle.window_events.specs.Played.{played}
@@ -17,8 +16,8 @@ use Rattle.window_pages.specs.Bytes.{belief_of}
 use Rattle.window_pages.specs.declared.page.WindowPage.{WindowPage}
 use Rattle.lending_laws.specs.Histories as own
 use Rattle.lending_laws.specs.Histories.{Begins, CallsAt, CarriesOut, Given, History, IsToldAt, NextComes, Pending, Reads, slots_after, stored_after}
-use Rattle.lending_laws.specs.Processes.{Closes, EachPageOfAllIsRead, EachSlotIsOneWindows, EachWindowIsAlone, GivesApart, HappensBeside, IsAlone, IsToldIn, LieApart, NextForAll, NoSlotOfAllIsLost, NoneOfAllIsReleasedShown, NothingIsOpen, Opens, OthersStay, Process, ProcessHistory, Span, StaysOpen, WindowStays, begins, calls, carries_out, closes, happens, is_told, may_give, moment_of, moment_with, next_comes, opens}
-use Rattle.lending_laws.specs.Slots.{EachSlotIsOnes, slot_of}
+use Rattle.lending_laws.specs.Processes.{Closes, EachPageOfAllIsRead, EachSlotIsOneWindows, EachWindowIsAlone, GivesApart, HappensBeside, IsAlone, IsToldIn, LieApart, NoSlotOfAllIsLost, NoneOfAllIsReleasedShown, Opens, OthersStay, Process, ProcessHistory, Span, WindowStays, begins, calls, carries_out, closes, happens, is_told, may_give, moment_of, moment_with, next_comes, opens}
+use Rattle.lending_laws.specs.Slots.{slot_of}
 use Rattle.lending_laws.proofs.Kept.{differs, each_order_is_due, each_page_is_read}
 use Rattle.lending_laws.proofs.Outcomes.{Apart, apart_own, done_apart, unstored}
 use Rattle.lending_laws.proofs.Slots.{no_slot_is_lost, none_is_released_shown, releases_own, slot_at}

@@ -46,13 +46,23 @@ mod times;
 pub use budget::{CREDIT_NS, OWED_NS, SAVED_NS, WindowBudget};
 use budget::{budget_of, config_by, put};
 pub use client_session::KeptSession;
-pub use holds::{WindowRowOrder, pageshare_window_begin_row, pageshare_window_next_of_row, pageshare_window_row_again, pageshare_window_row_done};
+pub use holds::{
+    WindowRowOrder, pageshare_window_begin_row, pageshare_window_next_of_row,
+    pageshare_window_row_again, pageshare_window_row_done,
+};
 pub use laws::{limits_law, tasks_law};
-pub use lend::{pageshare_window_answered, pageshare_window_copied, pageshare_window_loaned, pageshare_window_released, pageshare_window_to_ask, pageshare_window_to_copy, pageshare_window_to_release};
-pub use look_tasks::{LookFinds, LookSteps, LookTasks, LookTimes, PartReturn, TaskOutcome};
+pub use lend::{
+    pageshare_window_answered, pageshare_window_copied, pageshare_window_loaned,
+    pageshare_window_released, pageshare_window_to_ask, pageshare_window_to_copy,
+    pageshare_window_to_release,
+};
 use look_tasks::Budget;
 use look_tasks::room::{fits, most};
-pub use looks::{WindowLook, pageshare_window_ask_at_once, pageshare_window_asked_last, pageshare_window_held, pageshare_window_set_rest, pageshare_window_wake};
+pub use look_tasks::{LookFinds, LookSteps, LookTasks, LookTimes, PartReturn, TaskOutcome};
+pub use looks::{
+    WindowLook, pageshare_window_ask_at_once, pageshare_window_asked_last, pageshare_window_held,
+    pageshare_window_set_rest, pageshare_window_wake,
+};
 pub use mappings::{pageshare_window_mappings_at, pageshare_window_mappings_new};
 pub use numbers::pageshare_window_find_numbers;
 pub use offered_ranges::{OfferedBounds, OfferedRange, Piece, Taken};
@@ -62,12 +72,29 @@ use page_lender::Outcome;
 pub use page_looks::finds::FindOutcome;
 pub use page_looks::parts::{Part, PartConfig, PartLook};
 use part::part_number;
-pub use pins::{pageshare_window_begin_transfer, pageshare_window_end_transfer, pageshare_window_pin, pageshare_window_unpin};
+pub use pins::{
+    pageshare_window_begin_transfer, pageshare_window_end_transfer, pageshare_window_pin,
+    pageshare_window_unpin,
+};
 pub use ranges::{pageshare_window_bounds, pageshare_window_is_all_left};
-pub use scan::{pageshare_window_begin_scan, pageshare_window_follow_changes, pageshare_window_glance_numbers, pageshare_window_left_over, pageshare_window_scan_done};
-pub use tables::{pageshare_window_are_movable, pageshare_window_cover, pageshare_window_detach, pageshare_window_find_facts, pageshare_window_give_up, pageshare_window_leave, pageshare_window_may_give_up, pageshare_window_may_go_on, pageshare_window_uncover, pageshare_window_unmap};
-pub use tasks::{WindowTask, pageshare_window_begin_tasks, pageshare_window_next_task, pageshare_window_task_done};
-pub use times::{pageshare_window_be_eager, pageshare_window_begin_times, pageshare_window_look_ended, pageshare_window_pause_ms};
+pub use scan::{
+    pageshare_window_begin_scan, pageshare_window_follow_changes, pageshare_window_glance_numbers,
+    pageshare_window_left_over, pageshare_window_scan_done,
+};
+pub use tables::{
+    pageshare_window_are_movable, pageshare_window_cover, pageshare_window_detach,
+    pageshare_window_find_facts, pageshare_window_give_up, pageshare_window_leave,
+    pageshare_window_may_give_up, pageshare_window_may_go_on, pageshare_window_uncover,
+    pageshare_window_unmap,
+};
+pub use tasks::{
+    WindowTask, pageshare_window_begin_tasks, pageshare_window_next_task,
+    pageshare_window_task_done,
+};
+pub use times::{
+    pageshare_window_be_eager, pageshare_window_begin_times, pageshare_window_look_ended,
+    pageshare_window_pause_ms,
+};
 pub use window_pages::{PartCounts, WindowFacts, WindowPage};
 use window_pages::{alike, choose, forget, give_back, here, next, stays, take, withdraw};
 pub use window_tables::TableFacts;
