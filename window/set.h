@@ -40,6 +40,7 @@ static inline bool is_out(const page_entry *page) { return (page->belief & PAGES
 static inline bool is_ordered(const page_entry *page) { return (page->looks & PAGESHARE_WINDOW_ORDERED) != 0; }
 static inline bool is_same(const page_entry *page) { return (page->looks & PAGESHARE_WINDOW_SAME) != 0; }
 static inline bool is_moved(const page_entry *page) { return (page->looks & PAGESHARE_WINDOW_MOVED) != 0; }
+static inline bool is_seen(const page_entry *page) { return (page->clue & PAGESHARE_WINDOW_SEEN) != 0; }
 static inline unsigned clue_in(const page_entry *page) { return page->clue & PAGESHARE_WINDOW_CLUE; }
 
 static inline unsigned looks_of(const page_entry *page) { return page->looks >> 4 & 3u; }
