@@ -73,7 +73,7 @@ one_fine first k y z pending olds news before after w c o all own i x e = pick (
       let ne : i ≡ k → ⊥ = eqb-false i k t in
       subst (λ v. IsFine (first + i) (belief_of x) (known_of x).ordered w v) (sym (o.others i ne)) (all i x (sym (c.others i ne) ∙ e))
 
-calls_kept : (first count : ℕ) (old new : Moment) (i : ℕ) → IsKept first count old → CallsAt first i old new → IsKept first count new
+pub calls_kept : (first count : ℕ) (old new : Moment) (i : ℕ) → IsKept first count old → CallsAt first i old new → IsKept first count new
 calls_kept first count old new k h c = record {
   many = c.pages.count ∙ h.many;
   fine = λ i x e. subst (λ w. IsFine (first + i) (belief_of x) (known_of x).ordered w (new.orders i)) (sym c.world)
@@ -82,7 +82,7 @@ calls_kept first count old new k h c = record {
   reads = λ i l. subst (λ w. Reads w (first + i) (new.stored (first + i))) (sym c.world) (subst (λ s. Reads old.world (first + i) (s (first + i))) (sym c.stored) (h.reads i l));
 }
 
-told_kept : (first count : ℕ) (may_give : (ℕ → Bool) → ℕ → Bool) (old new : Moment) (i : ℕ) → IsKept first count old → IsToldAt may_give i old new → IsKept first count new
+pub told_kept : (first count : ℕ) (may_give : (ℕ → Bool) → ℕ → Bool) (old new : Moment) (i : ℕ) → IsKept first count old → IsToldAt may_give i old new → IsKept first count new
 told_kept first count may_give old new k h c = record {
   many = c.pages.count ∙ h.many;
   fine = λ i x e. subst (λ w. IsFine (first + i) (belief_of x) (known_of x).ordered w (new.orders i)) (sym c.world)

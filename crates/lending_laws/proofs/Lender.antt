@@ -7,7 +7,7 @@ use Rattle.lend_steps.specs.Releases.{OrderedTo, asks, at_once, is_hold, passes,
 use Rattle.lend_steps.specs.declared.copies.CopyOutcome.{CopyOutcome}
 use Rattle.lend_steps.specs.declared.loans.LoanReply.{LoanReply}
 use Rattle.lend_steps.specs.declared.loans.LoanReply.TheVariants.{Unheard, NoFrame, NoSlot, Given as Loan}
-use Rattle.lending_laws.proofs.Kept.{IsKept, history_kept}
+use Rattle.lending_laws.proofs.Kept.{IsKept, calls_kept, history_kept, told_kept}
 use Rattle.lending_laws.proofs.Notes.{each_look_is_calls, each_note_is_a_call, given_back_keeps, given_back_lies, given_back_orders, known_stays, past_stops}
 use Rattle.lending_laws.specs.Histories.{Calls, CallsAt, CarriedOut, Given, GivesWhatItMay, History, IsTold, IsToldAt, Moment, Nothing, OneIs, Pending, Reads, calls, is_told, notes, pending_after, slots_after}
 use Rattle.lending_laws.specs.Notes.{ChangesByTwo, IsTruly}
@@ -86,13 +86,13 @@ EachIsHistory =
 -- Something is noted of many pages: the window goes there by calls.
 abbrev pub EachNoteGoes : Type 0
 EachNoteGoes =
-    (may_give : (ℕ → Bool) → ℕ → Bool) (first count lead from n : ℕ) (change : Change) (m : Moment) (new : List WindowPage) (parts parts_new : List PartCounts) → History may_give first count m →
+    (may_give : (ℕ → Bool) → ℕ → Bool) (first count lead from n : ℕ) (change : Change) (m : Moment) (new : List WindowPage) (parts parts_new : List PartCounts) → IsKept first count m →
     Notes change lead from n true m.pages new parts parts_new → AreTruly change first from n m → Reaches may_give first m new
 
 -- A part gets one memory: its pages' lenders hear that, and other memory is noted of them.
 abbrev pub EachOneMemoryGoes : Type 0
 EachOneMemoryGoes =
-    (may_give : (ℕ → Bool) → ℕ → Bool) (first count from n : ℕ) (m : Moment) (new : List WindowPage) → History may_give first count m → OneMemory from n m.pages new → AreTruly (Uncovered true) first from n m → Reaches may_give first m new
+    (may_give : (ℕ → Bool) → ℕ → Bool) (first count from n : ℕ) (m : Moment) (new : List WindowPage) → IsKept first count m → OneMemory from n m.pages new → AreTruly (Uncovered true) first from n m → Reaches may_give first m new
 
 -- A row begins: what came of the attempt to hold each of its pages is told.
 abbrev pub EachRowGoes : Type 0
@@ -152,7 +152,7 @@ EachScanGoes =
 -- What came of a step of each of its pages is taken.
 abbrev pub EachScanStepGoes : Type 0
 EachScanStepGoes =
-    (may_give : (ℕ → Bool) → ℕ → Bool) (first count lead from n : ℕ) (scan : Scan) (outcomes : List FindOutcome) (row row_new : List ℕ) (m : Moment) (new : List WindowPage) (parts parts_new : List PartCounts) → History may_give first count m →
+    (may_give : (ℕ → Bool) → ℕ → Bool) (first count lead from n : ℕ) (scan : Scan) (outcomes : List FindOutcome) (row row_new : List ℕ) (m : Moment) (new : List WindowPage) (parts parts_new : List PartCounts) → IsKept first count m →
     RowGoes (GoesOnAt scan from outcomes) lead from n true m.pages new parts parts_new row row_new → CopiesAreSo first from m outcomes → Reaches may_give first m new
 
 -- It follows changes to pages beside those that changed.
@@ -189,6 +189,12 @@ pub each_is_history : EachIsHistory
 each_is_history may_give first count old is h goes_stays = h
 each_is_history may_give first count old is h (goes_calls now next i g c) = calls now is i (each_is_history may_give first count old now h g) c
 each_is_history may_give first count old is h (goes_told now next i g t) = is_told now is i (each_is_history may_give first count old now h g) t
+
+-- and what is kept at each moment stays
+pub goes_kept : (may_give : (ℕ → Bool) → ℕ → Bool) (first count : ℕ) (old new : Moment) → IsKept first count old → Goes may_give first old new → IsKept first count new
+goes_kept g first count old is h goes_stays = h
+goes_kept g first count old is h (goes_calls now next i s c) = calls_kept first count now is i (goes_kept g first count old now h s) c
+goes_kept g first count old is h (goes_told now next i s t) = told_kept first count g now is i (goes_kept g first count old now h s) t
 
 -- ---- one page of a list becomes another
 
@@ -371,7 +377,7 @@ range_goes g first count from n change m new kept r t =
     one_call g first i k x y (k.orders i) at (subst (λ v. Calls (first + i) v x (k.orders i) y (k.orders i)) (sym w) (note_call first count from n change m new kept r t i (k.orders i) x y e f)))
 
 pub each_note_goes : EachNoteGoes
-each_note_goes g first count lead from n change m new parts parts_new h noted t = range_goes g first count from n change m new (history_kept g first count m h) (noted.pages refl) t
+each_note_goes g first count lead from n change m new parts parts_new kept noted t = range_goes g first count from n change m new kept (noted.pages refl) t
 
 -- ---- rows
 
@@ -772,8 +778,7 @@ step_turn g first i m x y scan outcome place before byte part after page b e t =
   pick false h = stays_turn g first i m x y (b.same h).page
 
 pub each_scan_step_goes : EachScanStepGoes
-each_scan_step_goes g first count lead from n scan outcomes row row_new m new parts parts_new h b so =
-    let kept : IsKept first count m = history_kept g first count m h in
+each_scan_step_goes g first count lead from n scan outcomes row row_new m new parts parts_new kept b so =
     row_goes g first from 0 (length row) m new row row_new (GoesOnAt scan from outcomes) (b.pages refl) (omega arith)
     (λ j c x y l e t.
     let its : Reads m.world (first + (from + (0 + j))) (m.stored (first + (from + (0 + j)))) = kept.reads (from + (0 + j)) (omega (arith, slice_get_within m.pages (from + (0 + j)) x e, kept.many)) in
@@ -849,14 +854,13 @@ reaches_then : (g : (ℕ → Bool) → ℕ → Bool) (first : ℕ) (m : Moment) 
 reaches_then g first m between new r s = record { new = s.new; goes = joined g first m r.new s.new r.goes s.goes; has = s.has; stored = s.stored ∙ r.stored; world = s.world ∙ r.world }
 
 pub each_one_memory_goes : EachOneMemoryGoes
-each_one_memory_goes g first count from n m new h c t =
-    let kept : IsKept first count m = history_kept g first count m h in
+each_one_memory_goes g first count from n m new kept c t =
     let heard : Reaches g first m c.between = changed_goes g first from n m c.between (λ j. Both IsForgotten HearsWritten) c.hear
     (λ j x y l e b.
     let its : Reads m.world (first + (from + j)) (m.stored (first + (from + j))) = kept.reads (from + j) (omega (arith, slice_get_within m.pages (from + j) x e, kept.many)) in
     then_call g first (from + j) m x b.between y (forgotten_turn g first (from + j) m x b.between b.first)
     (λ pending. written_call (first + (from + j)) m.world pending b.between y its.page its.there (t j l its.page its.there) b.second)) in
-    let after : IsKept first count heard.new = history_kept g first count heard.new (each_is_history g first count m heard.new h heard.goes) in
+    let after : IsKept first count heard.new = goes_kept g first count m heard.new kept heard.goes in
     let moves : RangeChanged (Uncovered true) from n heard.new.pages new = subst (λ v. RangeChanged (Uncovered true) from n v new) (sym heard.has) c.moves in
     let truly : AreTruly (Uncovered true) first from n heard.new = λ j l. subst (λ v. IsTruly (Uncovered true) (first + (from + j)) v) (sym heard.world) (t j l) in
     reaches_then g first m c.between new heard (range_goes g first count from n (Uncovered true) heard.new new after moves truly)
@@ -890,7 +894,7 @@ list_reaches g first lead number answer Does m new parts parts_new (is_not_there
 
 -- ---- each call
 
-call_reaches : (g : (ℕ → Bool) → ℕ → Bool) (first count : ℕ) (m : Moment) (new : List WindowPage) → History g first count m → Called g first m new → Reaches g first m new
+pub call_reaches : (g : (ℕ → Bool) → ℕ → Bool) (first count : ℕ) (m : Moment) (new : List WindowPage) → IsKept first count m → Called g first m new → Reaches g first m new
 call_reaches g first count m new h (call.notes lead from n change parts parts_new c t) = each_note_goes g first count lead from n change m new parts parts_new h c t
 call_reaches g first count m new h (call.begins_row lead from takings row row_new parts parts_new c t) = each_row_goes g first lead from takings m new parts parts_new row row_new c t
 call_reaches g first count m new h (call.orders_row lead from table pins row order parts parts_new c) = each_row_order_goes g first lead from table pins row order m new parts parts_new c
@@ -923,6 +927,6 @@ call_reaches g first count m new h (call.one_memory from n c t) = each_one_memor
 
 pub each_call_goes_on : EachCallGoesOn
 each_call_goes_on g first count m new h c =
-    let r : Reaches g first m new = call_reaches g first count m new h c in
+    let r : Reaches g first m new = call_reaches g first count m new (history_kept g first count m h) c in
     let after : History g first count r.new = each_is_history g first count m r.new h r.goes in
     record { new = r.new; history = after; has = r.has; stored = r.stored; world = r.world; reads = (history_kept g first count r.new after).reads }

@@ -7,6 +7,7 @@ pub mod Notes
 pub mod Outcomes
 pub mod Over
 pub mod Pages
+pub mod ProcessCalls
 pub mod Processes
 pub mod Slots
 pub mod Wrong

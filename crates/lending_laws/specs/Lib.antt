@@ -3,6 +3,7 @@ pub mod Holds
 pub mod Lender
 pub mod Looks
 pub mod Notes
+pub mod ProcessCalls
 pub mod Processes
 pub mod Reading
 pub mod Slots

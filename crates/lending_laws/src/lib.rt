@@ -7,6 +7,7 @@ ghost use Rattle.lending_laws.specs.Lender.{EachCallGoesOn};
 ghost use Rattle.lending_laws.specs.Histories.{CarriedOut, Given, IsTold};
 ghost use Rattle.lending_laws.specs.Holds.{EachComparisonIsTrue, EachHoldReadsTheSame, EachRowIsHeld, EachStepAgrees, EachTruthIsInBytes, EachZeroIsTrue};
 ghost use Rattle.lending_laws.specs.Looks.{EachStepReadsWhatItMay};
+ghost use Rattle.lending_laws.specs.ProcessCalls.{EachCallGoesOnInAll};
 ghost use Rattle.lending_laws.specs.Notes.{EachIsDetached, EachLookIsCalls, EachNoteIsACall, EachStepTells};
 ghost use Rattle.lending_laws.specs.Processes.{EachPageOfAllIsRead, EachSlotIsOneWindows, EachWindowIsAlone, NoSlotOfAllIsLost, NoneOfAllIsReleasedShown};
 ghost use Rattle.lending_laws.specs.Reading.{EachBeliefIsRight, EachEventKeepsReading, EachFrameIsNoted, EachOrderIsDue, EachOrderIsPossible, EachPageIsRead, StartBegins};
@@ -49,8 +50,12 @@ pub fn calls_law()
 /// *Each call that C makes for a window's pages*, in any order, leads from a moment of a history to one: by its contract, where what it says is so
 /// ([`Called`] has both). So each page reads what its guest stored last after each call, and all other laws of a history hold: beliefs are right,
 /// orders are possible, and an outcome is of the order that was given. What the system and guests do between two calls is in the history, too.
+///
+/// In a process with many windows nothing but that window changes, and the process is at a moment of its history again. A host gives each slot for one
+/// window.
 pub fn lender_law()
-    ensures { EachCallGoesOn }
+    ensures calls { EachCallGoesOn }
+    ensures windows { EachCallGoesOnInAll }
 {}
 
 /// With a host that gives only slots that it hasn't given: *each slot that it gave and hasn't got back is exactly one page's*, at each

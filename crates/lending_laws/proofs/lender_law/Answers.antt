@@ -1,5 +1,9 @@
 use Rattle.lending_laws.proofs.Lender.{each_call_goes_on}
+use Rattle.lending_laws.proofs.ProcessCalls.{each_call_goes_on_in_all}
 use Rattle.lending_laws.proofs.lender_law.Goals as goal
 
-pub returns : goal.returns
-returns c = each_call_goes_on
+pub returns-clause-calls : goal.returns-clause-calls
+returns-clause-calls c = each_call_goes_on
+
+pub returns-clause-windows : goal.returns-clause-windows
+returns-clause-windows c = each_call_goes_on_in_all
