@@ -98,7 +98,7 @@ class Table:
     def to_ask(self) -> None:
         numbers, look, most = self.numbers(), self.chance.randrange(64), self.chance.choice([7, 8, 9])
         due = [self.ask(it, look, most - 7) for it in numbers]
-        config = self.library.structs["look"](0, look, Part().turns, Part().rest_most)
+        config = self.library.structs["look"](0, 0, look, Part().turns, Part().rest_most, False)
         self.list("to_ask", [*self.facts, config, self.wholes(), 2, most, 7], numbers, [], [], due)
 
     def answer(self, number: int, fingerprint: int, is_other: int, room: list[int]) -> int:

@@ -87,16 +87,25 @@ class Table:
 
     def note(self, at: int) -> None:
         """Notes something of the page's content, or takes its order back."""
-        is_so, which, known = self.chance.random() < 0.5, self.chance.randrange(3), self.known[at]
+        is_so, which, known = self.chance.random() < 0.5, self.chance.randrange(4), self.known[at]
         if which == 0:
             self.call("give_back", at, is_so)
             known.give_back(is_so)
         elif which == 1:
+            self.see(at, is_so)
+        elif which == 2:
             self.call("forget", at)
             known.forget()
         else:
             self.library.call("withdraw", self.pages[at])
             known.ordered = False
+
+    def see(self, at: int, is_so: bool) -> None:
+        """A page was seen elsewhere or not, as `answered` notes it."""
+        known, part = self.known[at], self.part_of(at)
+        known.seen = is_so
+        self.pages[at].clue = known.bytes()[2]
+        self.parts[part].shareable = sums(self.known[:3] if part == 0 else self.known[3:])[4]
 
     def look(self, at: int) -> None:
         """What looks note of a page."""
@@ -310,7 +319,7 @@ class Table:
             self.note(at)
         elif which < 121:
             self.look(at)
-        elif which < 126:
+        elif which < 125:
             self.home(at, count)
         else:
             self.end(at, count)
