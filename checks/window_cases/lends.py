@@ -55,7 +55,7 @@ class Table:
     def call(self, name: str, *words: Any) -> Any:
         return self.library.call(name, self.pages, PAGES, self.parts, 2, LEAD, *words)
 
-    def list(self, name: str, before: list[Any], numbers: list[int], lists: list[tuple[str, list[int]]], more: list[Any], due: list[int]) -> None:
+    def call_list(self, name: str, before: list[Any], numbers: list[int], lists: list[tuple[str, list[int]]], more: list[Any], due: list[int]) -> None:
         """A call for a list of pages. Lists that are too short are refused, and nothing changes then."""
         words: list[Any] = [self.library.array("uint32_t", numbers), len(numbers)]
         for kind, values in lists:
@@ -99,7 +99,7 @@ class Table:
         numbers, look, most = self.numbers(), self.chance.randrange(64), self.chance.choice([7, 8, 9])
         due = [self.ask(it, look, most - 7) for it in numbers]
         config = self.library.structs["look"](0, 0, look, Part().turns, Part().rest_most, False)
-        self.list("to_ask", [*self.facts, config, self.wholes(), 2, most, 7], numbers, [], [], due)
+        self.call_list("to_ask", [*self.facts, config, self.wholes(), 2, most, 7], numbers, [], [], due)
 
     def answer(self, number: int, fingerprint: int, is_other: int, room: list[int]) -> int:
         """What a host's answer means. A page that may be lent takes room."""
@@ -123,7 +123,7 @@ class Table:
         seen = [self.chance.choice([0, 1, 7]) for _ in numbers]
         before = [self.wholes(), 2, room[0] + 9, 9]
         due = [self.answer(*it, room) for it in zip(numbers, prints, seen)]
-        self.list("answered", before, numbers, [("uint64_t", prints), ("uint8_t", seen)], [], due)
+        self.call_list("answered", before, numbers, [("uint64_t", prints), ("uint8_t", seen)], [], due)
 
     # ---- copies ----
 
@@ -148,7 +148,7 @@ class Table:
         prints = [self.kept(it) if self.chance.random() < 0.7 else 5 for it in numbers]
         due = [self.check_of(*it) for it in zip(numbers, there, prints)]
         before = [*self.facts, self.wholes(), 2]
-        self.list("to_copy", before, numbers, [("uint8_t", there), ("uint64_t", prints)], [], due)
+        self.call_list("to_copy", before, numbers, [("uint8_t", there), ("uint64_t", prints)], [], due)
 
     def came(self, number: int, outcome: int) -> int:
         """What came of a copy: 1 if a loan is to be asked for."""
@@ -164,7 +164,7 @@ class Table:
         numbers = self.numbers()
         outcomes = [self.chance.choice([0, 1, 1, 1, 2, 3, 4]) for _ in numbers]
         due = [self.came(*it) for it in zip(numbers, outcomes)]
-        self.list("copied", self.facts, numbers, [("uint8_t", outcomes)], [], due)
+        self.call_list("copied", self.facts, numbers, [("uint8_t", outcomes)], [], due)
 
     # ---- loans ----
 
@@ -185,7 +185,7 @@ class Table:
         slots = [self.chance.choice([slot_of(self.chance.randrange(2**32)), self.chance.randrange(2**40)]) for _ in numbers]
         frames = [self.chance.choice([FRAMES - 1, FRAMES, NO_FRAME, self.chance.randrange(FRAMES)]) for _ in numbers]
         due = [self.loan(*it, is_heard) for it in zip(numbers, slots, frames)]
-        self.list("loaned", [], numbers, [("uint64_t", slots), ("uint32_t", frames)], [FRAMES, is_heard], due)
+        self.call_list("loaned", [], numbers, [("uint64_t", slots), ("uint32_t", frames)], [FRAMES, is_heard], due)
 
     # ---- slots that are released ----
 

@@ -83,7 +83,7 @@ class Looked:
         pages, counts = made("page", [*[()] * number, values_of(self.page)]), made("counts", [()])
         table, pins = self.library.make("table_facts"), made("uint16_t", [])
         self.library.call("to_ask", pages, number + 1, counts, 1, 0, table, pins, 0, config, part, 1, 2**40, 0, made("uint32_t", [number]), 1, answer, 1)
-        return answer[0] == 3
+        return bool(answer[0] == 3)
 
     def glanced_by(self, number: int) -> int:
         library, pages = self.library, table_of(self.library)[0]
