@@ -47,7 +47,7 @@ pub fn calls_law()
     ensures looks { EachLookIsCalls }
 {}
 
-/// *Each call that C makes for a window's pages*, in any order, leads from a moment of a history to one: by its contract, where what it says is so
+/// *Each call of C for a window's pages* but `withdraw` and `detach`, in any order, leads from a moment of a history to one: by its contract, where what it says is so
 /// ([`Called`] has both). So each page reads what its guest stored last after each call, and all other laws of a history hold: beliefs are right,
 /// orders are possible, and an outcome is of the order that was given. What the system and guests do between two calls is in the history, too.
 ///
