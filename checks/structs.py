@@ -28,14 +28,14 @@ PREFIXES = ("PAGESHARE_ERROR_", "PAGESHARE_", "PAGESHARE_HOST_ERROR_", "PAGESHAR
 NOT_OF_C = {"FAULT_ANSWER"}
 # Functions that return the numbers of an enum of C, and what the header writes before each name.
 NUMBERS = {
-    r"crates/page_lender/src/packed.rt number\w*": "PAGESHARE_WINDOW_", "crates/pageshare_window_c/src/order.rt number_of": "PAGESHARE_WINDOW_",
+    r"crates/page_lender/src/packed.rt number\w*": "PAGESHARE_WINDOW_",
     "crates/pageshare_window_c/src/holds.rt step_number": "PAGESHARE_WINDOW_HOLD_",
     "crates/part_scans/src/seen.rt step_number": "PAGESHARE_WINDOW_FIND_",
     "crates/pageshare_window_c/src/part.rt part_number": "PAGESHARE_WINDOW_",
     "crates/lend_steps/src/copies.rt number": "PAGESHARE_WINDOW_CHECK_",
 }
 # The names of C that aren't spelled as the library's. What has none is no number of its own.
-SPELLED = {"Frame": "", "Off": "SHOWN", "InPlace": "HOMING_IN_PLACE", "Elsewhere": "HOMING", "TakeHome(true)": "COPY_IN_PLACE"}
+SPELLED = {"Frame": "", "Off": "SHOWN", "InPlace": "HOMING_IN_PLACE", "Elsewhere": "HOMING"}
 # Where the library for windows maps memory of its own.
 PLACES = ("APART_BEGIN", "APART_END")
 PLACES_OF_C, PLACES_OF_RATTLE = "window/kernel.c", "crates/live_memory/src/mapping.rt"

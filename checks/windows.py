@@ -69,7 +69,6 @@ class Body(typing.NamedTuple):
 ZEROED = "map_pages(window, first, count, ZEROS, PROT_READ | PROT_WRITE) == 0"
 DROPPED = "madvise(address_of(window, first), bytes_of(count), MADV_DONTNEED) == 0"
 GUARDED = "return cause == 0 ? pagemap_are_guarded(&windows->pagemap, at, PART) : cause;"
-REFUSED = "else pageshare_window_refused("
 LEAVES = "(struct pageshare_window_facts){.leaves = true}"
 WATCHED = "is_begun ? PAGESHARE_WINDOW_TAKEN_WATCHED : PAGESHARE_WINDOW_NOT_TAKEN"
 ORDERED_HOME = "pageshare_window_order_home(TABLES(window), &table, pins_of(window), pins_in(window), why, first, count);"
@@ -112,11 +111,8 @@ BODIES = {
     "notes zeros as frames": Body("pages.c", "if (is_file) pageshare", "if (is_file || is_said) pageshare", ["pages"]),
     "counts no mappings of frames": Body("pages.c", "count, frame, mappings);", "count, frame, &(size_t){0});", ["pages"]),
     "counts no mappings of a part that changes": Body("parts.c", "is_whole, &counts->mappings);", "is_whole, &counts->mappings);\n    counts->mappings -= mappings_of(window, first, PART);", ["parts"]),
-    "counts a refused order as done": Body("pages.c", REFUSED, "else pageshare_window_done(", ["pages"]),
     "counts all pages in the first part": Body("set.h", "return &window->counts[(page + window->lead) / PART];",
                                                "return &window->counts[page * 0];", ["parts"]),
-    "forgets slots to release": Body("set.h", "belief_of(page) <= PAGESHARE_WINDOW_LEAVING;",
-                                     "belief_of(page) <= PAGESHARE_WINDOW_HOMING;", ["pages"]),
     "never says that a watch ended": Body("lend.c", ENDED, ENDED.replace(".done", ".refused"), ["guards"]),
     "takes what is watched for what was refused": Body("lend.c", WATCHED, "PAGESHARE_WINDOW_NOT_TAKEN", ["guards"]),
     "takes what is guarded for aside": Body("lend.c", "hold->moves ? PAGESHARE_WINDOW_TAKEN_ASIDE :", "true ? PAGESHARE_WINDOW_TAKEN_ASIDE :", ["pages"]),
@@ -125,8 +121,8 @@ BODIES = {
     "keeps memory of what stays": Body("home.c", "if (cause != 0 || home->stays[i]) unmap_apart(", "if (home->stays[i]) unmap_apart(", ["refusals"]),
     "forgets what can't be unmapped": Body("tasks.c", "    unmap_again();\n", "", ["guards"]),
     "keeps the memory of what can't be unmapped": Body("kernel.c", "madvise(at, bytes, MADV_DONTNEED); /*", "/*", ["guards"]),
-    "gives up without a mapping left": Body("home.c", "windows->mappings_most, windows->counts.mappings);", "windows->mappings_most, 0);", ["pages"]),
-    "puts zeros without a mapping left": Body("pages.c", "windows->mappings_most, windows->counts.mappings);", "windows->mappings_most, 0);", ["pages"]),
+    "gives up without a mapping left": Body("home.c", "MAPPINGS(windows));", "windows->mappings_most, 0);", ["pages"]),
+    "puts zeros without a mapping left": Body("set.h", "(WINDOWS)->mappings_most, (WINDOWS)->counts.mappings", "(WINDOWS)->mappings_most, 0 * (WINDOWS)->counts.mappings", ["pages"]),
     "takes reserved memory for another": Body("advice.c", ".is_reserved = has(flags, \" ac\")", ".is_reserved = false && has(flags, \" ac\")", ["pages"]),
     "leaves holes in place of zeros": Body("lend.c", "if (!hold->missing[i] ||", "if (true ||", ["pages"]),
     "shows what was given up": Body("lend.c", "is_done && !hold->given_up[i];", "is_done;", ["pages"]),
@@ -152,7 +148,7 @@ BODIES = {
     "believes no copy": Body("look.c", "].is_own = is_own;", "].is_own = false;", ["pages"]),
     "reads another page": Body("look.c", "(windows->lender.salt, page_at(scan, places[at]), next);", "(windows->lender.salt, page_at(scan, 0), next);", ["pages"]),
     "copies what was given up": Body("lend.c", "    pageshare_window_to_copy(", "    memset(there, 1, count);\n    pageshare_window_to_copy(", ["leaves"]),
-    "compares what was given up": Body("lend.c", "is_hold && is_there && seems_equal(", "is_hold && (is_there || true) && seems_equal(", ["leaves"]),
+    "compares what was given up": Body("lend.c", "&& there[run] != 0 && seems_equal(", "&& seems_equal(", ["leaves"]),
     "forgets that the caller watches": Body("windows.c", "    windows->is_watched = true;\n", "", ["leaves"]),
     "leaves copies over frames apart": Body("tasks.c", "if (has_more) join_left_over(look);", "", ["leaves"]),
     "takes a watch for ended": Body("tasks.c", "if (refused == 0 && !is_any && ", "if (refused == 0 && ", ["leaves"]),
@@ -165,7 +161,7 @@ BODIES = {
     "takes a lost reply for a refusal": Body("lend.c", "if (cause == 0 || cause == ENOTCONN", "if (cause >= 0 || cause == ENOTCONN", ["pages"]),
     "asks about no page of a lost reply again": Body("windows.c", "if (windows->awaits_loans) each_part(", "if (false) each_part(", ["pages"]),
     "loses the loan of a page that has left": Body("lend.c", "slots[i] = loans[i].slot,", "slots[i] = is_out(&window->pages[batch->pages[i]]) ? UINT64_MAX : loans[i].slot,", ["tasks"]),
-    "keeps the order of a page that isn't held": Body("lend.c", "else pageshare_window_withdraw(page);", "", ["tasks"]),
+    "keeps the order of a page that isn't held": Body("lend.c", "outcomes[i] = is_left ?", "outcomes[i] = is_left && false ?", ["tasks"]),
     "takes what stays guarded for free": Body("pages.c", "page, PAGESHARE_WINDOW_PLACE_GUARDED, 0);", "page, PAGESHARE_WINDOW_PLACE_FREE, 0);", ["guards"]),
     "takes what is stuck for free": Body("lend.c", "hold->row[i], hold->scratch + i", "PAGESHARE_WINDOW_PLACE_FREE, hold->scratch + i", ["guards"]),
 }

@@ -44,7 +44,7 @@ static struct window_result give_up(struct window *window, size_t first, size_t 
     /* (what is mapped anew the caller's own userfaultfd watches no more) */
     if (is_over(&window->pages[first]) && is_watched_by_caller(window, first, count)) return result_of(WINDOW_WATCHED, EBUSY);
     unsigned by = pageshare_window_given_up_by(window->pages, window->count, PARTS(window), window->lead, first, count,
-                                               windows->is_watched, windows->mappings_most, windows->counts.mappings);
+                                               windows->is_watched, MAPPINGS(windows));
     bool is_anew = (by & PAGESHARE_WINDOW_BY_ZEROS) != 0 && map_pages(window, first, count, ZEROS, PROT_READ | PROT_WRITE) == 0;
     bool are_cleared = (by & PAGESHARE_WINDOW_BY_CLEARING) != 0 && !is_anew;
     if (!is_anew && !are_cleared && madvise(address_of(window, first), bytes_of(count), MADV_DONTNEED) < 0)

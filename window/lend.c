@@ -53,17 +53,16 @@ static uint32_t number_of(const struct hold *hold, size_t i) { return hold->wind
  * on waits.
  */
 static void guard(struct hold *hold) {
+    static const struct pageshare_window_facts nothing_more;
     struct windows *windows = hold->window->windows;
     void *at = address_of(hold->window, hold->first);
-    bool own[HOLD_MOST] = {false};
+    bool stay[HOLD_MOST] = {false}; /* (at first, whether each has memory of its own) */
     int cause = faults_protect(&windows->faults, at, hold->count);
     find_pins(windows);
-    if (cause == 0 && may_pin(windows)) cause = pagemap_find_copies(&windows->pagemap, at, hold->count, own);
+    if (cause == 0 && may_pin(windows)) cause = pagemap_find_copies(&windows->pagemap, at, hold->count, stay);
     if (cause != 0) note_failure(windows, WINDOW_NO_MAPPING, cause);
-    for (size_t i = 0; i < hold->count && cause == 0; i++) {
-        const struct pageshare_window_facts facts = facts_of(hold->window, hold->first + i);
-        hold->held[i] = !pageshare_window_stays(page_of(hold, i), &facts, own[i]);
-    }
+    find_staying(hold->window, hold->first, stay, hold->count, &nothing_more);
+    for (size_t i = 0; i < hold->count; i++) hold->held[i] = cause == 0 && !stay[i];
 }
 
 /* Takes out or guards what can be; nothing if the system refuses. Returns whether writes to any of the pages may wait since. */
@@ -335,12 +334,6 @@ static size_t find_there(const struct window *window, const uint32_t *pages, siz
     return count;
 }
 
-/* A page that was written since its bytes were copied stays private. */
-static void note_changed(struct window *window, size_t number) {
-    window->windows->counts.changed++;
-    forget_content(window, number);
-}
-
 void begin_turn(struct look *look) {
     struct turn *turn = &look->windows->turn;
     uint64_t losses = losses_of_processor(), now = look->spent_ns;
@@ -357,33 +350,43 @@ void begin_turn(struct look *look) {
 /* What a page is to become. */
 enum wish { TO_BE_SHOWN, TO_BE_GIVEN_BACK };
 
-/* Whether the system has a mapping for zeros in place of a page, if it needs one. Otherwise it is asked about again later. With the lock. */
-static bool may_give_back(struct window *window, size_t number) {
-    if (has_room_for_zeros(window, number, 1)) return true;
-    note_crowded(window->windows, 1);
-    pageshare_window_asked_last(&window->pages[number], part_counts(window, number));
-    return false;
+/* Notes of how many pages was answered that mappings are short for them. With the lock. */
+static void note_left_out(struct windows *windows, const uint8_t *answers, size_t count) {
+    size_t crowded = 0;
+    for (size_t i = 0; i < count; i++) crowded += (answers[i] & PAGESHARE_WINDOW_ASK_CROWDED) != 0 ? 1 : 0;
+    if (crowded > 0) note_crowded(windows, crowded);
 }
 
-/*
- * Orders a page to be held, if it is equal to what it is to show. All of it may have changed since it was found idle. Otherwise its loan,
- * if it has one, is to be released. With the lock.
- */
-static bool order_hold(struct window *window, size_t number, enum wish wish, bool is_there) {
-    page_entry *page = &window->pages[number];
-    const struct pageshare_window_facts facts = facts_of(window, number);
-    bool is_zeros = wish == TO_BE_GIVEN_BACK;
-    if (is_zeros && !may_give_back(window, number)) return false;
-    if (is_zeros && !pageshare_window_choose(page, part_counts(window, number), &facts, true)) return false;
-    enum pageshare_window_order order = order_of(window, number);
-    const unsigned target = is_zeros ? PAGESHARE_WINDOW_ZEROS : 0;
-    bool is_hold = order == (PAGESHARE_WINDOW_HOLD | target);
-    bool is_equal = is_hold && is_there && seems_equal(window, number);
-    if (is_equal && !part_of(window, number)->whole) return true;
-    if (is_hold) note_order(window, number, false);
-    else pageshare_window_withdraw(page);
-    if (is_hold && !is_equal) note_changed(window, number);
-    return false;
+/* Orders pages to be held. Writes 1 to `held` of each whose order that is from then on, else something else. With the lock. */
+static void order_holds(struct window *window, const uint32_t *pages, size_t count, enum wish wish, uint8_t *held) {
+    struct windows *windows = window->windows;
+    const struct pageshare_window_table_facts table = table_of(window);
+    if (wish == TO_BE_SHOWN)
+        pageshare_window_to_hold(TABLES(window), &table, PINS(window), window->parts, parts_in(window), pages, count, held, count);
+    else
+        pageshare_window_to_give_back(TABLES(window), &table, PINS(window), window->parts, parts_in(window), MAPPINGS(windows),
+                                      pages, count, held, count);
+    note_left_out(windows, held, count);
+}
+
+/* How many of the first pages are ordered to be held, are there, and equal what they are to show. With the lock. */
+static size_t equal_run(const struct window *window, const uint32_t *pages, const uint8_t *there, const uint8_t *held,
+                        size_t count) {
+    size_t run = 0;
+    while (run < count && held[run] == PAGESHARE_WINDOW_TO_HOLD && there[run] != 0 && seems_equal(window, pages[run])) run++;
+    return run;
+}
+
+/* Refuses the orders of those pages that are left: they are others than those that were found. With the lock. */
+static void refuse_holds(struct window *window, const uint32_t *pages, const uint8_t *left, size_t count) {
+    const struct pageshare_window_table_facts table = table_of(window);
+    uint8_t outcomes[HOLD_MOST], answers[HOLD_MOST];
+    for (size_t i = 0; i < count; i++) {
+        const bool is_left = left[i] == PAGESHARE_WINDOW_TO_HOLD;
+        outcomes[i] = is_left ? PAGESHARE_WINDOW_COPY_CHANGED : PAGESHARE_WINDOW_NOT_COPIED;
+        window->windows->counts.changed += is_left ? 1 : 0;
+    }
+    pageshare_window_copied(TABLES(window), &table, PINS(window), pages, count, outcomes, count, answers, count);
 }
 
 /* How many of the first pages are in a row, and all over frames or none. With the lock. */
@@ -419,19 +422,30 @@ static void add_unsaid(struct window *window, struct unsaid *unsaid, size_t firs
     unsaid->end = first + count;
 }
 
-/* Settles the first of some pages that are in a row. Returns how many are settled, or stay as they are. With the lock. */
+/* Settles pages in a row, all of which are ordered to be held. With the lock. */
+static void settle_run(struct window *window, size_t first, size_t count, struct unsaid *unsaid) {
+    struct hold hold = {.window = window, .first = first, .count = count};
+    settle(&hold);
+    if (hold.any_copies) add_unsaid(window, unsaid, first, count);
+}
+
+/*
+ * Settles the first of some pages that are in a row. Each is compared with what it is to show before it is held, since all of it may have
+ * changed since it was found idle. Returns how many are settled, or stay as they are. With the lock.
+ */
 static size_t settle_row(struct window *window, const uint32_t *pages, const uint8_t *there, size_t count, enum wish wish,
                          struct unsaid *unsaid) {
-    struct hold hold = {.window = window, .first = pages[0]};
     const size_t most = in_row(window, pages, count);
-    size_t passed = 0;
-    while (hold.count < most && passed == 0) {
-        passed = order_hold(window, pages[hold.count], wish, there[hold.count] != 0) ? 0 : 1;
-        hold.count += 1 - passed;
+    uint8_t left[HOLD_MOST] = {0};
+    order_holds(window, pages, most, wish, left);
+    for (size_t i = 0, run = 0; i < most; i += run > 0 ? run : 1) {
+        /* (while a page is stuck none is held) */
+        run = window->windows->stuck_count == 0 ? equal_run(window, pages + i, there + i, left + i, most - i) : 0;
+        if (run > 0) settle_run(window, pages[i], run, unsaid);
+        memset(left + i, 0, run);
     }
-    if (hold.count > 0) settle(&hold);
-    if (hold.any_copies) add_unsaid(window, unsaid, hold.first, hold.count);
-    return hold.count + passed;
+    refuse_holds(window, pages, left, most);
+    return most;
 }
 
 /*
@@ -484,13 +498,6 @@ void lender_failed(struct windows *windows, int cause) {
     unlock_set(windows);
 }
 
-/* Notes of how many pages was answered that mappings are short for them. With the lock. */
-static void note_left_out(struct windows *windows, const uint8_t *answers, size_t count) {
-    size_t crowded = 0;
-    for (size_t i = 0; i < count; i++) crowded += (answers[i] & PAGESHARE_WINDOW_ASK_CROWDED) != 0 ? 1 : 0;
-    if (crowded > 0) note_crowded(windows, crowded);
-}
-
 /* Leaves those pages of a batch that are to be asked about, or lent. */
 static void keep_asked(struct batch *batch, const uint8_t *answers) {
     size_t kept = 0;
@@ -508,8 +515,8 @@ static void take_answers(struct window *window, struct batch *batch, const uint8
     const size_t count = batch->count;
     uint8_t answers[WINDOW_BATCH] = {0};
     lock_for_look(windows);
-    pageshare_window_answered(TABLES(window), window->parts, parts_in(window), windows->mappings_most, windows->counts.mappings,
-                              batch->pages, count, batch->fingerprints, count, seen, count, answers, count);
+    pageshare_window_answered(TABLES(window), window->parts, parts_in(window), MAPPINGS(windows), batch->pages, count,
+                              batch->fingerprints, count, seen, count, answers, count);
     note_left_out(windows, answers, count);
     for (size_t i = 0; i < count; i++) windows->counts.seen += seen[i] != 0 ? 1 : 0;
     windows->counts.asked += count;
@@ -530,8 +537,8 @@ static void take_lendable(struct look *look, uint32_t *numbers, bool *passing) {
     lock_for_look(windows);
     const struct pageshare_window_look now = look_now(windows);
     const struct pageshare_window_table_facts table = table_of(window);
-    pageshare_window_to_ask(TABLES(window), &table, PINS(window), &now, window->parts, parts_in(window), windows->mappings_most,
-                            windows->counts.mappings, look->idle.pages, count, answers, count);
+    pageshare_window_to_ask(TABLES(window), &table, PINS(window), &now, window->parts, parts_in(window), MAPPINGS(windows),
+                            look->idle.pages, count, answers, count);
     note_left_out(windows, answers, count);
     unlock_set(windows);
     for (size_t i = 0, n = 0; i < count; i++) {

@@ -57,24 +57,6 @@ void find_staying(const struct window *window, size_t first, bool *copies, size_
     pageshare_window_find_staying(window->pages, window->count, &table, PINS(window), why, first, copies, count);
 }
 
-struct pageshare_window_facts facts_of(const struct window *window, size_t number) {
-    static const struct pageshare_window_facts nothing;
-    const struct pageshare_window_table_facts table = table_of(window);
-    struct pageshare_window_facts facts;
-    pageshare_window_find_facts(&table, PINS(window), &nothing, number, &facts);
-    return facts;
-}
-
-enum pageshare_window_order order_of(struct window *window, size_t number) {
-    const struct pageshare_window_facts facts = facts_of(window, number);
-    return (enum pageshare_window_order)pageshare_window_next(&window->pages[number], part_counts(window, number), &facts);
-}
-
-void note_order(struct window *window, size_t number, bool is_done) {
-    if (is_done) pageshare_window_done(&window->pages[number], part_counts(window, number));
-    else pageshare_window_refused(&window->pages[number], part_counts(window, number));
-}
-
 bool may_go_on(const struct window *window, size_t first, size_t count, struct pageshare_window_facts why) {
     const struct pageshare_window_table_facts table = table_of(window);
     return pageshare_window_may_go_on(window->pages, window->count, &table, PINS(window), &why, first, count);
@@ -98,10 +80,6 @@ struct pageshare_window_row_order next_of_row(struct window *window, size_t firs
 
 void note_zero(struct window *window, size_t number, bool is_zero) {
     pageshare_window_give_back(&window->pages[number], part_counts(window, number), is_zero);
-}
-
-void forget_content(struct window *window, size_t number) {
-    pageshare_window_forget(&window->pages[number], part_counts(window, number));
 }
 
 /* ---- what lies at pages' places ---- */
@@ -128,9 +106,8 @@ static const uint8_t *source_of(const struct window *window, uint32_t frame, int
 }
 
 bool has_room_for_zeros(const struct window *window, size_t first, size_t count) {
-    const struct windows *windows = window->windows;
     return pageshare_window_has_room_for_zeros(window->pages, window->count, PARTS(window), window->lead, first, count,
-                                               windows->mappings_most, windows->counts.mappings);
+                                               MAPPINGS(window->windows));
 }
 
 enum { BITS = 8 /* of `cleared` in a byte */ };

@@ -4,13 +4,12 @@
  * pages get; how many mappings may be made, and how much processor time the thread may use. They are proved, make no system call and allocate
  * nothing.
  *
- * Pages:
+ * Pages, of which nothing is lent where their table is zeros, and a list of those that are idle:
  *
- *     struct pageshare_window_page page = {0};                      a page of which nothing is lent
- *     struct pageshare_window_counts part = {0};                    the counts of the pages around it
- *     pageshare_window_choose(&page, &part, &facts, false);         it is to be lent
- *     switch (pageshare_window_next(&page, &part, &facts))          what is to be done with it now
- *     pageshare_window_done(&page, &part);                          that was done, and so on
+ *     pageshare_window_to_copy(pages, 4096, parts, 8, 0, &table, pins, 0, wholes, 8, list, 3, there, 3, prints, 3, checks, 3);
+ *     pageshare_window_copied(pages, 4096, parts, 8, 0, &table, pins, 0, list, 3, outcomes, 3, lends, 3);  once they were copied
+ *     pageshare_window_loaned(pages, 4096, parts, 8, 0, list, 3, slots, 3, given, 3, frames, true, answers, 3);  once they were lent
+ *     pageshare_window_to_hold(pages, 4096, parts, 8, 0, &table, pins, 0, wholes, 8, list, 3, held, 3);
  *
  * A budget:
  *
@@ -214,20 +213,6 @@ enum pageshare_window_belief {
     PAGESHARE_WINDOW_ZEROS = 16           /* besides, from READY to LETTING_GO: its target is zeros */
 };
 
-/* What is to be done with a page. From HOLD to LET_GO PAGESHARE_WINDOW_ZEROS is added where the page's target is zeros. */
-enum pageshare_window_order {
-    PAGESHARE_WINDOW_WAIT = 0,          /* nothing */
-    PAGESHARE_WINDOW_COPY = 1,          /* copy it to the lender's buffer */
-    PAGESHARE_WINDOW_LEND = 2,          /* ask the host for a loan of what is in the buffer */
-    PAGESHARE_WINDOW_HOLD = 3,          /* let writes wait */
-    PAGESHARE_WINDOW_COMPARE = 4,       /* compare it with its target */
-    PAGESHARE_WINDOW_MAP = 5,           /* map its frame in its place, or give its memory back; and let writes wait no longer */
-    PAGESHARE_WINDOW_LET_GO = 6,        /* let writes wait no longer: it keeps its memory */
-    PAGESHARE_WINDOW_COPY_IN_PLACE = 7, /* give it a copy of its own where it is */
-    PAGESHARE_WINDOW_TAKE_HOME = 8,     /* give it other memory of its own, with what it shows */
-    PAGESHARE_WINDOW_RELEASE = 9        /* say to the host that its slot isn't needed */
-};
-
 /*
  * A page, in 12 bytes. A struct of zeros is a page of which nothing is lent and nothing is known. The library alone writes the members; anybody
  * may read them.
@@ -276,31 +261,8 @@ struct pageshare_window_facts {
     bool ended;     /* lending has ended */
 };
 
-/* Chooses a page to be lent, or to be given back if it is zeros. Returns whether it can be: it is private, and nothing bars it. */
-bool pageshare_window_choose(struct pageshare_window_page *page, struct pageshare_window_counts *part,
-                             const struct pageshare_window_facts *facts, bool is_zeros);
-/* Gives the next order of a page: enum pageshare_window_order. While an order is open that is PAGESHARE_WINDOW_WAIT. */
-uint8_t pageshare_window_next(struct pageshare_window_page *page, struct pageshare_window_counts *part,
-                              const struct pageshare_window_facts *facts);
-/* Takes back an order with which nobody began. */
-void pageshare_window_withdraw(struct pageshare_window_page *page);
-
-/*
- * What came of the order: it was done; or it wasn't, and nothing changed. Of a comparison `done` means that they are equal. Each returns
- * false, and changes nothing, if no order is open that can have this outcome.
- */
-bool pageshare_window_done(struct pageshare_window_page *page, struct pageshare_window_counts *part);
-bool pageshare_window_refused(struct pageshare_window_page *page, struct pageshare_window_counts *part);
-
-/* Whether a page over a frame has to stay where it is, while writes to it wait: it is to get its copy there, or it has memory of its own
- * (`is_copy`) that a device may hold. */
-bool pageshare_window_stays(const struct pageshare_window_page *page, const struct pageshare_window_facts *facts, bool is_copy);
-
 /* A page was given back as zeros and has no memory; or it has memory. Nothing is noted of a page over a frame. */
 void pageshare_window_give_back(struct pageshare_window_page *page, struct pageshare_window_counts *part, bool is_zeros);
-
-/* What looks have found of a page counts no more. */
-void pageshare_window_forget(struct pageshare_window_page *page, struct pageshare_window_counts *part);
 
 /*
  * How many of these pages, from the first one on,
@@ -334,12 +296,6 @@ struct pageshare_window_table_facts {
     bool is_over;       /* nothing is lent of any window any more */
 };
 
-/*
- * Finds what is so of a page: of its window and its process, of its pins, and `why` besides. `pins` has how often each page was pinned; none was
- * where it has no entries.
- */
-void pageshare_window_find_facts(const struct pageshare_window_table_facts *table, const uint16_t *pins, size_t pins_count,
-                                 const struct pageshare_window_facts *why, size_t page, struct pageshare_window_facts *facts);
 /*
  * Of `count` pages from `first` on. Each returns false if they aren't all there.
  *
@@ -727,8 +683,7 @@ void pageshare_window_glance_numbers(const struct pageshare_window_page *pages, 
                                      const uint16_t *places, size_t places_count, uint64_t *numbers, size_t numbers_count);
 /* How many pages from the first on have copies of their own over frames, and were asked about in vain most often; or, if `are` is false, haven't. */
 size_t pageshare_window_left_over(const struct pageshare_window_page *pages, size_t count, bool are);
-/* A page can't be lent now; it is to be asked about at once; or it was to be held, and was, or wasn't. */
-void pageshare_window_asked_last(struct pageshare_window_page *page, struct pageshare_window_counts *part);
+/* A page is to be asked about at once; or it was to be held, and was, or wasn't. */
 void pageshare_window_ask_at_once(struct pageshare_window_page *page, struct pageshare_window_counts *part);
 void pageshare_window_held(struct pageshare_window_page *page, struct pageshare_window_counts *part, bool was_held);
 /* What a look found of a part: idle pages that have changed, and pages with memory of their own. Or its rest ends. */
@@ -744,6 +699,9 @@ enum pageshare_window_ask {
     PAGESHARE_WINDOW_ASK_IN_PASSING = 2, /* and others mustn't find it by the question */
     PAGESHARE_WINDOW_ASK_CROWDED = 4     /* it can't, since mappings are short, and is asked about as seldom as any */
 };
+
+/* The answer to a page that is to be held from now on: its order is open. */
+enum { PAGESHARE_WINDOW_TO_HOLD = 1 };
 
 /* How it is seen that the copy of a page is of the page that a look found. */
 enum pageshare_window_check {
@@ -778,9 +736,13 @@ enum pageshare_window_loan {
  * notes whether somebody else has a page. Answers: enum pageshare_window_ask.
  * to_copy chooses those that are to be copied, which have these fingerprints by the last look. `there` is 1 for a page that is there. Answers: enum
  * pageshare_window_check. While that isn't 0, the page's order is open.
- * copied takes what came of the copies, enum pageshare_window_copied. The answer is 1 for a page of which a loan is to be asked for.
+ * copied takes what came of the copies, enum pageshare_window_copied. The answer is 1 for a page of which a loan is to be asked for. That a page has
+ * changed it takes of one that was to be held, too.
  * loaned takes what a host said of them, if it was heard, whose file has so many frames: the slot and the frame of each loan, or UINT32_MAX as a
  * frame for none. Answers: enum pageshare_window_loan. If it wasn't heard, it has lent none of them.
+ * to_hold orders those to be held that have their loans. The loan of one that mustn't be lent now, or whose part is whole, isn't needed any more.
+ * to_give_back orders those to be held that are free, to be given back as zeros. Answers of both: PAGESHARE_WINDOW_TO_HOLD; of to_give_back also
+ * PAGESHARE_WINDOW_ASK_CROWDED, by itself, where there is no room for zeros in the page's place.
  * released takes whether the host heard that their slots aren't needed.
  */
 bool pageshare_window_to_ask(struct pageshare_window_page *pages, size_t pages_count, struct pageshare_window_counts *parts,
@@ -807,6 +769,16 @@ bool pageshare_window_loaned(struct pageshare_window_page *pages, size_t pages_c
                              size_t parts_count, size_t lead, const uint32_t *numbers, size_t numbers_count,
                              const uint64_t *slots, size_t slots_count, const uint32_t *given, size_t given_count,
                              uint32_t frames, bool is_heard, uint8_t *answers, size_t answers_count);
+bool pageshare_window_to_hold(struct pageshare_window_page *pages, size_t pages_count, struct pageshare_window_counts *parts,
+                              size_t parts_count, size_t lead, const struct pageshare_window_table_facts *table,
+                              const uint16_t *pins, size_t pins_count, const struct pageshare_window_part *wholes,
+                              size_t wholes_count, const uint32_t *numbers, size_t numbers_count, uint8_t *answers,
+                              size_t answers_count);
+bool pageshare_window_to_give_back(struct pageshare_window_page *pages, size_t pages_count, struct pageshare_window_counts *parts,
+                                   size_t parts_count, size_t lead, const struct pageshare_window_table_facts *table,
+                                   const uint16_t *pins, size_t pins_count, const struct pageshare_window_part *wholes,
+                                   size_t wholes_count, uint64_t most, uint64_t taken, const uint32_t *numbers,
+                                   size_t numbers_count, uint8_t *answers, size_t answers_count);
 bool pageshare_window_released(struct pageshare_window_page *pages, size_t pages_count, struct pageshare_window_counts *parts,
                                size_t parts_count, size_t lead, const size_t *numbers, size_t numbers_count, bool is_done);
 /*

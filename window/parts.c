@@ -198,7 +198,7 @@ static struct pageshare_window_part_look found_of(const struct window *window, s
 /* Finds out whether that is so. */
 static void find_part_facts(const struct window *window, size_t first, struct pageshare_window_part_look *look) {
     const struct windows *windows = window->windows;
-    look->has_mappings = pageshare_window_has_mappings(windows->mappings_most, windows->counts.mappings, PART);
+    look->has_mappings = pageshare_window_has_mappings(MAPPINGS(windows), PART);
     look->is_loose = may_give_up(window, first, PART);
     look->is_movable = are_movable(window, first, PART);
 }

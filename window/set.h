@@ -53,10 +53,6 @@ static inline bool is_asked_again(const page_entry *page) { return looks_of(page
 static inline bool is_lent(const page_entry *page) {
     return belief_of(page) >= PAGESHARE_WINDOW_SHOWN && belief_of(page) <= PAGESHARE_WINDOW_HOMING;
 }
-/* Whether the host counts a slot for it. */
-static inline bool has_slot(const page_entry *page) {
-    return belief_of(page) >= PAGESHARE_WINDOW_READY && belief_of(page) <= PAGESHARE_WINDOW_LEAVING;
-}
 /* Whether it shows a frame of a lender that is gone, as far as is known; or was given back as zeros, and has no memory since. */
 static inline bool shows_past(const page_entry *page) { return is_over(page) && is_same(page); }
 static inline bool is_given_back(const page_entry *page) { return !is_over(page) && is_same(page); }
@@ -234,17 +230,13 @@ struct pageshare_window_table_facts table_of(const struct window *window);
 const uint16_t *pins_of(const struct window *window);
 size_t pins_in(const struct window *window);
 #define PINS(WINDOW) pins_of(WINDOW), pins_in(WINDOW)
-/* What is so of a page. */
-struct pageshare_window_facts facts_of(const struct window *window, size_t page);
-/* Gives the next order of a page. */
-enum pageshare_window_order order_of(struct window *window, size_t page);
+/* How many mappings windows may take, and have taken. */
+#define MAPPINGS(WINDOWS) (WINDOWS)->mappings_most, (WINDOWS)->counts.mappings
 /* Orders that pages that show their frames get memory of their own. `why`: what is so of them besides, from now on. */
 void order_home(struct window *window, size_t first, size_t count, const struct pageshare_window_facts *why);
 /* Which of these pages stay where they are; `copies` says before whether each has memory of its own, as the system says. */
 void find_staying(const struct window *window, size_t first, bool *copies, size_t count,
                   const struct pageshare_window_facts *why);
-/* What came of the order of a page that is open. */
-void note_order(struct window *window, size_t page, bool is_done);
 /* Whether a call of the monitor may go on by each of these pages, of which `why` is so from then on, beside what is so already. */
 bool may_go_on(const struct window *window, size_t first, size_t count, struct pageshare_window_facts why);
 /* Whether one may that gives them up: no write to any of them waits. */
@@ -255,8 +247,6 @@ bool are_movable(const struct window *window, size_t first, size_t count);
 struct pageshare_window_row_order next_of_row(struct window *window, size_t first, const uint8_t *row, size_t count);
 /* Pages were given back as zeros, or have memory again. */
 void note_zero(struct window *window, size_t page, bool is_zero);
-/* What is known of a page's content counts no more. */
-void forget_content(struct window *window, size_t page);
 /* A slot's number of a lender, by the name in 32 bits that the library gave it. */
 uint64_t slot_number(uint32_t name);
 

@@ -214,12 +214,20 @@ static void each_part(struct windows *windows, void (*does)(struct window *windo
     windows->awaits_loans = false;
 }
 
+/* A page wasn't lent of which a lender was asked for a loan. With the lock. */
+static void refuse_loan(struct window *window, uint32_t number) {
+    const uint64_t slot = 0;
+    const uint32_t frame = WINDOW_NO_FRAME;
+    uint8_t answer;
+    pageshare_window_loaned(TABLES(window), &number, 1, &slot, 1, &frame, 1, 0, false, &answer, 1);
+}
+
 /* None of a part's pages was lent that a lender was asked to lend. Takes the lock. */
 static void refuse_part(struct window *window, size_t first) {
     const size_t behind = first + rest_of_part(window, first);
     lock_for_look(window->windows);
     for (size_t i = first; i < behind; i++)
-        if (belief_of(&window->pages[i]) == PAGESHARE_WINDOW_COPIED) note_order(window, i, false);
+        if (belief_of(&window->pages[i]) == PAGESHARE_WINDOW_COPIED) refuse_loan(window, (uint32_t)i);
     unlock_set(window->windows);
 }
 

@@ -13,6 +13,11 @@ static inline bool lasts(const page_entry *page) {
     return !is_ordered(page) && (belief == PAGESHARE_WINDOW_PRIVATE || is_loan || is_stuck);
 }
 
+/* Whether the host counts a slot for a page. */
+static inline bool has_slot(const page_entry *page) {
+    return belief_of(page) >= PAGESHARE_WINDOW_READY && belief_of(page) <= PAGESHARE_WINDOW_LEAVING;
+}
+
 /* Whether the counts of a part are those of its pages. */
 static inline bool are_counted(const struct window *window, size_t first) {
     const struct pageshare_window_counts *counts = part_counts(window, first);

@@ -820,19 +820,6 @@ static void samples(void) {
     munmap(at, MANY * PAGE);
 }
 
-/* Whether a slot of a page of which this is believed is to be released, or would be once lending has ended. */
-static bool releases(page_entry page) {
-    const struct pageshare_window_facts facts = {.ended = true};
-    struct pageshare_window_counts part = {.releases = 1, .lent = 1};
-    for (int i = 0; i < 4; i++) {
-        unsigned order = pageshare_window_next(&page, &part, &facts);
-        if (order == PAGESHARE_WINDOW_RELEASE) return true;
-        if (order == PAGESHARE_WINDOW_WAIT) return false;
-        if (!pageshare_window_done(&page, &part)) pageshare_window_refused(&page, &part);
-    }
-    return false;
-}
-
 /* Whether a call of the monitor may go on by a page of which this is so from then on. */
 static bool goes_on(const page_entry *page, struct pageshare_window_facts why) {
     const struct pageshare_window_table_facts table = {.elsewhere = 0};
@@ -840,7 +827,7 @@ static bool goes_on(const page_entry *page, struct pageshare_window_facts why) {
     return pageshare_window_may_go_on(page, 1, &table, &pins, 1, &why, 0, 1);
 }
 
-/* What C reads in a page's bytes is what the library says: which pages show a frame, have a slot, or are held. */
+/* What C reads in a page's bytes is what the library says: which pages show a frame, or are held. */
 static void beliefs(void) {
     const struct pageshare_window_facts called = {.called = true}, leaves = {.leaves = true};
     for (uint8_t belief = 0; belief <= (PAGESHARE_WINDOW_LETTING_GO | PAGESHARE_WINDOW_ZEROS); belief++) {
@@ -848,7 +835,6 @@ static void beliefs(void) {
         bool waits = !goes_on(&page, called);
         check(belief_of(&page) == belief && !is_over(&page) && !is_ordered(&page), "a belief is read as it is");
         check((waits || is_lent(&page)) == !goes_on(&page, leaves), "a page is lent where it shows a frame");
-        check(has_slot(&page) == releases(page), "a page has a slot where one is to be released");
     }
 }
 

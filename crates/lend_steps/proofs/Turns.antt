@@ -15,6 +15,7 @@ use Rattle.window_pages.specs.declared.page.WindowPage.{WindowPage}
 use Rattle.window_tables.proofs.Counts.{counted_more}
 use Rattle.window_tables.proofs.Places.{set_length, set_own}
 use Rattle.window_tables.specs.Tables.{Counted, OneChanges, has_parts, part_at}
+use Rattle.lend_steps.specs.Holds.{ToGiveBack, ToHold, is_crowded_out, is_given_back, is_kept, is_ordered, is_passed_by, is_refused}
 use Rattle.lend_steps.specs.Asks.{Answered, InVain, ToAsk, is_asked, is_crowded, is_found, is_in_vain, is_left_out, is_not_free, sees}
 use Rattle.lend_steps.specs.Copies.{CameOfCopy, ToCopy, is_chosen, is_left, is_good, is_changed, is_zeros, is_nothing}
 use Rattle.lend_steps.specs.Lists.{Deed, Followed, Told, Turn, follows, stays, is_there, is_not_there}
@@ -159,3 +160,14 @@ pub answered_follows : (whole other has_room : Bool) (fingerprint a : ℕ) (x y 
 answered_follows whole other has_room fingerprint a x y p q (is_in_vain h e v) = in_vain_follows whole other fingerprint x y p q v
 answered_follows whole other has_room fingerprint a x y p q (is_left_out h r e n) = follows x y p q (stays x p refl refl) n.counts
 answered_follows whole other has_room fingerprint a x y p q (is_found h r e b d) = stays y q b d
+
+pub to_hold_follows : (facts : WindowFacts) (is_split : Bool) (a : ℕ) (x y : WindowPage) (p q : PartCounts) → ToHold facts is_split a x y p q → Followed x p y q
+to_hold_follows facts is_split a x y p q (is_ordered order can l h e) = follows x y p q (stays x p refl refl) l.counts
+to_hold_follows facts is_split a x y p q (is_refused order between part_between can l h t e) = told_joined Refused x between y p part_between q (follows x between p part_between (stays x p refl refl) l.counts) t
+to_hold_follows facts is_split a x y p q (is_passed_by can e b d) = stays y q b d
+
+pub to_give_back_follows : (facts : WindowFacts) (is_split has_room : Bool) (a : ℕ) (x y : WindowPage) (p q : PartCounts) → ToGiveBack facts is_split has_room a x y p q → Followed x p y q
+to_give_back_follows facts is_split has_room a x y p q (is_given_back order can r c e) =
+    follows c.between y c.part_between q (follows x c.between p c.part_between (stays x p refl refl) c.chosen.counts) c.ordered.counts
+to_give_back_follows facts is_split has_room a x y p q (is_crowded_out can r e n) = follows x y p q (stays x p refl refl) n.counts
+to_give_back_follows facts is_split has_room a x y p q (is_kept can e b d) = stays y q b d

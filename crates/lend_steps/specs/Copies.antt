@@ -4,6 +4,7 @@ use Rattle.lend_steps.specs.Lists.{Deed, Told}
 use Rattle.lend_steps.specs.declared.copies.Check.{Check}
 use Rattle.lend_steps.specs.declared.copies.CopyOutcome.{CopyOutcome}
 use Rattle.page_lender.specs.Calls.{IsChosen, IsOrdered, is_free}
+use Rattle.page_lender.specs.declared.belief.Belief.{Belief}
 use Rattle.page_lender.specs.declared.belief.Belief.TheVariants.{Chosen}
 use Rattle.page_lender.specs.declared.order.Order.{Order}
 use Rattle.page_lender.specs.declared.order.Order.TheVariants.{Wait, Copy, Lend, Hold, Compare, Map, LetGo, TakeHome, Release}
@@ -21,9 +22,9 @@ use Rattle.window_tables.specs.Mappings.{is_whole}
 use Rattle.window_tables.specs.declared.facts.TableFacts.{TableFacts}
 use Rattle.page_looks.specs.declared.parts.part.Part.{Part}
 
--- a page can be copied that is there, in a part that is split, and that is free; and of which no order is open
-abbrev pub can_copy : WindowFacts → Bool → WindowPage → Bool
-can_copy facts is_ready page = is_ready && not (known_of page).ordered && is_free (lender_of facts (known_of page))
+-- a page can be chosen that is there, in a part that is split, and that is free; and of which no order is open
+abbrev pub can_choose : WindowFacts → Bool → WindowPage → Bool
+can_choose facts is_ready page = is_ready && not (known_of page).ordered && is_free (lender_of facts (known_of page))
 
 -- How it is seen that a copy is of the page that a look found, which had this fingerprint. A page over a frame has no glance, and one that is asked
 -- about again was last read long ago.
@@ -50,19 +51,19 @@ copy_answer (LetGo target) check = 0
 copy_answer (TakeHome in_place) check = 0
 copy_answer (Release slot) check = 0
 
--- The page is chosen to be lent, and then it is given this order.
-pub record ChosenFor (facts : WindowFacts) (order : Order) (old new : WindowPage) (part part_new : PartCounts) : Type 0 where
+-- The page is chosen, to be lent or to be given back, and then it is given this order.
+pub record ChosenFor (belief : Belief) (facts : WindowFacts) (order : Order) (old new : WindowPage) (part part_new : PartCounts) : Type 0 where
   pub between : WindowPage
   pub part_between : PartCounts
-  pub chosen : Lends (IsChosen Chosen) (bars_of facts (known_of old)) old between part part_between
+  pub chosen : Lends (IsChosen belief) (bars_of facts (known_of old)) old between part part_between
   pub ordered : Lends (IsOrdered order) (bars_of facts (known_of between)) between new part_between part_new
 
--- A page that can be copied is chosen, and gets its order. The answer says how it is seen that the copy is of the page that was found, or 0 where it
+-- A page that can be chosen is, and gets its order. The answer says how it is seen that the copy is of the page that was found, or 0 where it
 -- isn't to be copied. Nothing becomes of another page.
 pub data ToCopy (facts : WindowFacts) (is_ready : Bool) (fingerprint answer : ℕ) (old new : WindowPage) (part part_new : PartCounts) : Type 0 where
-  is_chosen : (order : Order) → can_copy facts is_ready old ≡ true → ChosenFor facts order old new part part_new
+  is_chosen : (order : Order) → can_choose facts is_ready old ≡ true → ChosenFor Chosen facts order old new part part_new
       → answer ≡ copy_answer order (check_of fingerprint old) → ToCopy facts is_ready fingerprint answer old new part part_new
-  is_left : can_copy facts is_ready old ≡ false → answer ≡ 0 → new ≡ old → part_new ≡ part → ToCopy facts is_ready fingerprint answer old new part part_new
+  is_left : can_choose facts is_ready old ≡ false → answer ≡ 0 → new ≡ old → part_new ≡ part → ToCopy facts is_ready fingerprint answer old new part part_new
 
 -- what is so of a page of a list
 abbrev pub facts_in : TableFacts → List ℕ → List ℕ → ℕ → WindowFacts

@@ -1,5 +1,6 @@
 pub mod Asks
 pub mod Copies
+pub mod Holds
 pub mod Lists
 pub mod Loans
 pub mod Releases

@@ -1,8 +1,9 @@
 //! Which pages are copied to the lender's buffer, and of which a loan is asked for then.
 ghost use Rattle.std.specs.Prelude.{◌≡◌, ◌&&◌, ◌<◌, ◌≤◌, length, nat_eq, nat_lt, slice_index_or, true, false};
-ghost use Rattle.lend_steps.specs.Copies.{CameOfCopy, ChangedThen, ChosenFor, CopiedAt, CopiedThen, CopiesAt, ToCopy, can_copy, check_number, check_of, copied_by, copy_answer, is_ready, lend_answer};
+ghost use Rattle.lend_steps.specs.Copies.{CameOfCopy, ChangedThen, ChosenFor, CopiedAt, CopiedThen, CopiesAt, ToCopy, can_choose, check_number, check_of, copied_by, copy_answer, is_ready, lend_answer};
 ghost use Rattle.lend_steps.specs.Lists.{Each, InTurn, Turn};
 ghost use Rattle.page_holds.specs.Rows.{PageChanges};
+ghost use Rattle.window_pages.specs.Known.{chosen_as};
 ghost use Rattle.window_tables.specs.Tables.{Counted, has_parts};
 
 use crate::tell::{NO_FACTS, is_whole, tell};
@@ -61,9 +62,9 @@ fn copied_by(number: u8) -> CopyOutcome
     }
 }
 
-// Returns whether a page can be copied.
-fn can_copy(page: &WindowPage, facts: &WindowFacts, is_ready: bool) -> bool
-    ensures { result ≡ can_copy facts.now is_ready page.now }
+// Returns whether a page can be chosen.
+pub(crate) fn can_choose(page: &WindowPage, facts: &WindowFacts, is_ready: bool) -> bool
+    ensures { result ≡ can_choose facts.now is_ready page.now }
 {
     is_ready && !page.known().ordered && is_free(page, facts)
 }
@@ -116,15 +117,20 @@ fn lend_answer(order: Order) -> u8
     }
 }
 
-// Chooses a page to be lent, and gives its order.
-fn choose_for(page: &mut WindowPage, part: &mut PartCounts, facts: &WindowFacts) -> Order
-    ensures { ChosenFor facts.now result page.old page.new part.old part.new }
+// Chooses a page to be lent, or to be given back if it is zeros, and gives its order.
+pub(crate) fn choose_for(
+    page: &mut WindowPage,
+    part: &mut PartCounts,
+    facts: &WindowFacts,
+    is_zeros: bool,
+) -> Order
+    ensures { ChosenFor (chosen_as is_zeros) facts.now result page.old page.new part.old part.new }
 {
-    choose(page, part, facts, false);
+    choose(page, part, facts, is_zeros);
     next(page, part, facts)
 }
 
-// Chooses a page that can be copied, and gives its order.
+// Chooses a page to be lent that can be chosen, and gives its order.
 fn to_copy_one(
     page: &mut WindowPage,
     part: &mut PartCounts,
@@ -134,12 +140,12 @@ fn to_copy_one(
 ) -> u8
     ensures { ToCopy facts.now is_ready fingerprint result page.old page.new part.old part.new }
 {
-    let can = can_copy(page, facts, is_ready);
+    let can = can_choose(page, facts, is_ready);
     if !can {
         return 0;
     }
     let check = check_of(page, fingerprint);
-    let order = choose_for(page, part, facts);
+    let order = choose_for(page, part, facts, false);
     copy_answer(order, check)
 }
 
@@ -367,7 +373,7 @@ fn copied_each(
 }
 
 /// Takes what came of the copies of a list's pages, one after another: 0 it wasn't to be copied; 1 the copy is of the page that was found; 2 it isn't;
-/// 3 it is zeros. Writes 1 to `answers` of each of which a loan is to be asked for, else 0. Returns false, and changes nothing, if the table has more
+/// 3 it is zeros. Of a page that was to be held 2 says that it isn't what it is to show. Writes 1 to `answers` of each of which a loan is to be asked for, else 0. Returns false, and changes nothing, if the table has more
 /// pages than its parts, or if the lists have different lengths.
 pub fn copied(
     pages: &mut [WindowPage],

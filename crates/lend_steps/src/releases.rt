@@ -15,7 +15,7 @@ use window_pages::{PartCounts, WindowFacts, WindowPage, next};
 use window_tables::{PART, TableFacts, can_note, facts_of};
 
 // Returns whether an order is to hold a page.
-fn is_hold(order: Order) -> bool
+pub(crate) fn is_hold(order: Order) -> bool
     ensures { result ≡ is_hold order }
 {
     match order {

@@ -1,7 +1,6 @@
 pub mod Budgets
 pub mod Holds
 pub mod Looks
-pub mod Pages
 pub mod Parts
 pub mod Rooms
 pub mod Sessions

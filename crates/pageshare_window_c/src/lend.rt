@@ -1,7 +1,8 @@
-//! What is asked, copied, lent and released, up to 128 pages at once.
+//! What is asked, copied, lent, held and released, up to 128 pages at once.
 ghost use Rattle.std.specs.Prelude.{◌≡◌, ◌&&◌, [], length, nat_eq};
 ghost use Rattle.lend_steps.specs.Asks.{AnsweredAt, AsksAt, takes_if_found, takes_none};
 ghost use Rattle.lend_steps.specs.Copies.{CopiedAt, CopiesAt};
+ghost use Rattle.lend_steps.specs.Holds.{GivesBackAt, HoldsAt};
 ghost use Rattle.lend_steps.specs.Lists.{Each, EachWith};
 ghost use Rattle.lend_steps.specs.Loans.{LoanedAt};
 ghost use Rattle.lend_steps.specs.Releases.{Finds, ReleasedAt};
@@ -10,7 +11,9 @@ ghost use Rattle.window_tables.specs.Tables.{can_note, has_parts};
 
 use crate::WindowLook;
 use crate::looks::config_of;
-use lend_steps::{answered, copied, loaned, released, to_ask, to_copy, to_release};
+use lend_steps::{
+    answered, copied, loaned, released, to_ask, to_copy, to_give_back, to_hold, to_release,
+};
 use page_looks::parts::Part;
 use window_pages::{PartCounts, WindowPage};
 use window_tables::TableFacts;
@@ -108,7 +111,7 @@ pub extern "C" fn pageshare_window_to_copy(
 }
 
 /// Takes what came of the copies of a list's pages, one after another: 0 it wasn't to be copied; 1 the copy is of the page that was found; 2 it isn't;
-/// 3 it is zeros. Writes 1 to `answers` of each of which a loan is to be asked for, else 0. Returns false, and changes nothing, if the table has more
+/// 3 it is zeros. Of a page that was to be held 2 says that it isn't what it is to show. Writes 1 to `answers` of each of which a loan is to be asked for, else 0. Returns false, and changes nothing, if the table has more
 /// pages than its parts, or if the lists have different lengths.
 #[unsafe(no_mangle)]
 pub extern "C" fn pageshare_window_copied(
@@ -146,6 +149,49 @@ pub extern "C" fn pageshare_window_loaned(
 {
     loaned(
         pages, parts, lead, numbers, slots, given, frames, is_heard, answers,
+    )
+}
+
+/// Orders those pages of a list to be held that have their loans, one after another. `wholes` has each part of the table. Writes 1 to `answers` of each
+/// whose order that is from then on, else 0. One that something keeps from being lent, or whose part is whole, isn't held, and its loan isn't needed
+/// any more. Returns false, and changes nothing, if the table has more pages than its parts, or if the lists have different lengths.
+#[unsafe(no_mangle)]
+pub extern "C" fn pageshare_window_to_hold(
+    pages: &mut [WindowPage],
+    parts: &mut [PartCounts],
+    lead: usize,
+    table: &TableFacts,
+    pins: &[u16],
+    wholes: &[Part],
+    numbers: &[u32],
+    answers: &mut [u8],
+) -> bool
+    ensures { Each (HoldsAt table.now pins.now lead wholes.now numbers.now) lead numbers.now (has_parts lead pages.old parts.old && nat_eq (length answers.old) (length numbers.now)) result pages.old pages.new parts.old parts.new answers.old answers.new }
+{
+    to_hold(pages, parts, lead, table, pins, wholes, numbers, answers)
+}
+
+/// Chooses those pages of a list to be given back that are free, one after another, each by itself, and orders them to be held. `wholes` has each part of
+/// the table; windows have taken so many mappings of so many. Writes to `answers`, of each: 0 it is left; 1 it is to be held; 4 there is no room for zeros
+/// in its place, and it is asked about as seldom as any. Returns false, and changes nothing, if the table has more pages than its parts, or if the
+/// lists have different lengths.
+#[unsafe(no_mangle)]
+pub extern "C" fn pageshare_window_to_give_back(
+    pages: &mut [WindowPage],
+    parts: &mut [PartCounts],
+    lead: usize,
+    table: &TableFacts,
+    pins: &[u16],
+    wholes: &[Part],
+    most: u64,
+    taken: u64,
+    numbers: &[u32],
+    answers: &mut [u8],
+) -> bool
+    ensures { EachWith (GivesBackAt table.now pins.now most lead wholes.now numbers.now) takes_none lead numbers.now taken (has_parts lead pages.old parts.old && nat_eq (length answers.old) (length numbers.now)) result pages.old pages.new parts.old parts.new answers.old answers.new }
+{
+    to_give_back(
+        pages, parts, lead, table, pins, wholes, most, taken, numbers, answers,
     )
 }
 

@@ -13,16 +13,11 @@ ghost use Rattle.look_tasks.specs.Chores.{again_at};
 ghost use Rattle.look_tasks.specs.Rooms.{fits, most_of};
 ghost use Rattle.offered_ranges.specs.Pieces.{IsFirst, meets};
 ghost use Rattle.offered_ranges.specs.Tables.{added, can_add, can_take_out, is_of, ranges_of, taken_out};
-ghost use Rattle.page_lender.specs.declared.order.Outcome.TheVariants as Outcome;
-ghost use Rattle.page_lender.specs.Calls.{IsChosen, IsOrdered, is_free, order_due};
 ghost use Rattle.page_looks.specs.Parts.{order_of, part_then};
 ghost use Rattle.window_pages.specs.Runs.{is_here_as, lies_as};
 ghost use Rattle.pageshare_window_c.specs.Budgets.{ledger_of, rates};
-ghost use Rattle.window_pages.specs.Bytes.{known_of, notes_of};
-ghost use Rattle.window_pages.specs.Changed.{Becomes, Lends, given_back};
-ghost use Rattle.window_pages.specs.Counted.{counts_then};
-ghost use Rattle.window_pages.specs.Known.{bars_of, chosen_as, lender_of, stays};
-ghost use Rattle.pageshare_window_c.specs.Pages.{Takes, number_of};
+ghost use Rattle.window_pages.specs.Bytes.{known_of};
+ghost use Rattle.window_pages.specs.Changed.{Becomes, given_back};
 ghost use Rattle.pageshare_window_c.specs.Parts.{part_number};
 
 mod budget;
@@ -33,7 +28,6 @@ mod lend;
 mod looks;
 mod mappings;
 mod numbers;
-mod order;
 mod part;
 mod pins;
 mod ranges;
@@ -54,21 +48,19 @@ pub use laws::{limits_law, tasks_law};
 pub use lend::{
     pageshare_window_answered, pageshare_window_copied, pageshare_window_loaned,
     pageshare_window_released, pageshare_window_to_ask, pageshare_window_to_copy,
-    pageshare_window_to_release,
+    pageshare_window_to_give_back, pageshare_window_to_hold, pageshare_window_to_release,
 };
 use look_tasks::Budget;
 use look_tasks::room::{fits, most};
 pub use look_tasks::{LookFinds, LookSteps, LookTasks, LookTimes, PartReturn, TaskOutcome};
 pub use looks::{
-    WindowLook, pageshare_window_ask_at_once, pageshare_window_asked_last, pageshare_window_held,
-    pageshare_window_set_rest, pageshare_window_wake,
+    WindowLook, pageshare_window_ask_at_once, pageshare_window_held, pageshare_window_set_rest,
+    pageshare_window_wake,
 };
 pub use mappings::{pageshare_window_mappings_at, pageshare_window_mappings_new};
 pub use numbers::pageshare_window_find_numbers;
 pub use offered_ranges::{OfferedBounds, OfferedRange, Piece, Taken};
 use offered_ranges::{add, is_part_left, next as next_piece, take_out};
-use order::number_of;
-use page_lender::Outcome;
 pub use page_looks::finds::FindOutcome;
 pub use page_looks::parts::{Part, PartConfig, PartLook};
 use part::part_number;
@@ -83,9 +75,8 @@ pub use scan::{
 };
 pub use tables::{
     pageshare_window_are_movable, pageshare_window_cover, pageshare_window_detach,
-    pageshare_window_find_facts, pageshare_window_give_up, pageshare_window_leave,
-    pageshare_window_may_give_up, pageshare_window_may_go_on, pageshare_window_uncover,
-    pageshare_window_unmap,
+    pageshare_window_give_up, pageshare_window_leave, pageshare_window_may_give_up,
+    pageshare_window_may_go_on, pageshare_window_uncover, pageshare_window_unmap,
 };
 pub use tasks::{
     WindowTask, pageshare_window_begin_tasks, pageshare_window_next_task,
@@ -96,7 +87,7 @@ pub use times::{
     pageshare_window_pause_ms,
 };
 pub use window_pages::{PartCounts, WindowFacts, WindowPage};
-use window_pages::{alike, choose, forget, give_back, here, next, stays, take, withdraw};
+use window_pages::{alike, give_back, here};
 pub use window_tables::TableFacts;
 pub use window_tables::pins::Transfer;
 
@@ -225,72 +216,6 @@ pub extern "C" fn pageshare_window_take_out(
     take_out(ranges, count, place, begin, end)
 }
 
-/// Chooses a page to be lent, or its memory to be given back if it is zeros. Returns whether it can be: it is private, and nothing keeps
-/// it from being lent.
-#[unsafe(no_mangle)]
-pub extern "C" fn pageshare_window_choose(
-    page: &mut WindowPage,
-    part: &mut PartCounts,
-    facts: &WindowFacts,
-    is_zeros: bool,
-) -> bool
-    ensures chosen { result ≡ is_free (lender_of facts.now (known_of page.old)) }
-    ensures page { Lends (IsChosen (chosen_as is_zeros)) (bars_of facts.now (known_of page.old)) page.old page.new part.old part.new }
-{
-    choose(page, part, facts, is_zeros)
-}
-
-/// Returns the number of what is to be done next with a page, which is an order from then on: 0 if there is nothing to do.
-#[unsafe(no_mangle)]
-pub extern "C" fn pageshare_window_next(
-    page: &mut WindowPage,
-    part: &mut PartCounts,
-    facts: &WindowFacts,
-) -> u8
-    ensures order { result ≡ number_of (order_due (lender_of facts.now (known_of page.old))) }
-    ensures page { Lends (IsOrdered (order_due (lender_of facts.now (known_of page.old)))) (bars_of facts.now (known_of page.old)) page.old page.new part.old part.new }
-{
-    number_of(next(page, part, facts))
-}
-
-/// Takes back the order of a page with which nobody began.
-#[unsafe(no_mangle)]
-pub extern "C" fn pageshare_window_withdraw(page: &mut WindowPage)
-    ensures known { known_of page.new ≡ record (known_of page.old) { ordered = false } }
-    ensures notes { notes_of page.new ≡ notes_of page.old }
-{
-    withdraw(page);
-}
-
-/// Learns that a page's order was done. Returns false, and learns nothing, if no order is open that could be.
-#[unsafe(no_mangle)]
-pub extern "C" fn pageshare_window_done(page: &mut WindowPage, part: &mut PartCounts) -> bool
-    ensures { Takes Outcome.Done result page.old page.new part.old part.new }
-{
-    take(page, part, Outcome::Done)
-}
-
-/// Learns that a page's order wasn't done, and that nothing changed. Returns false, and learns nothing, if no order is open.
-#[unsafe(no_mangle)]
-pub extern "C" fn pageshare_window_refused(page: &mut WindowPage, part: &mut PartCounts) -> bool
-    ensures { Takes Outcome.Refused result page.old page.new part.old part.new }
-{
-    take(page, part, Outcome::Refused)
-}
-
-/// Returns whether a page over a frame has to stay where it is: it is to get its copy there, or it has one that a device may hold. Writes
-/// to it wait meanwhile, and `is_copy` says whether it has memory of its own.
-#[unsafe(no_mangle)]
-pub extern "C" fn pageshare_window_stays(
-    page: &WindowPage,
-    facts: &WindowFacts,
-    is_copy: bool,
-) -> bool
-    ensures { result ≡ stays facts.now is_copy (known_of page.now) }
-{
-    stays(page, facts, is_copy)
-}
-
 /// Notes whether a page was given back as zeros and has no memory, or has memory again. Of a page over a frame nothing is noted.
 #[unsafe(no_mangle)]
 pub extern "C" fn pageshare_window_give_back(
@@ -301,14 +226,6 @@ pub extern "C" fn pageshare_window_give_back(
     ensures { Becomes (given_back is_zeros (known_of page.old)) false page.old page.new part.old part.new }
 {
     give_back(page, part, is_zeros);
-}
-
-/// Notes that what looks have found of a page counts no more.
-#[unsafe(no_mangle)]
-pub extern "C" fn pageshare_window_forget(page: &mut WindowPage, part: &mut PartCounts)
-    ensures { Becomes (known_of page.old) true page.old page.new part.old part.new }
-{
-    forget(page, part);
 }
 
 /// Returns how many pages from the first on lie as it does: over frames or not, and in the window or not.

@@ -1,6 +1,6 @@
 //! Pages and parts, as looks know them.
 ghost use Rattle.std.specs.Prelude.{◌≡◌, false};
-ghost use Rattle.page_looks.specs.Idle.{asked_last, due, held};
+ghost use Rattle.page_looks.specs.Idle.{due, held};
 ghost use Rattle.page_looks.specs.Rests.{found_then, woken};
 ghost use Rattle.page_looks.specs.Notes.{Notes, looks_of};
 ghost use Rattle.window_pages.specs.Bytes.{notes_of};
@@ -37,17 +37,6 @@ pub(crate) fn config_of(look: &WindowLook) -> LookConfig
         turns: look.turns,
         rest_most: look.rest_most,
     }
-}
-
-/// Learns that a page can't be lent now. So it is asked about as seldom as one that was asked about in vain most often.
-#[unsafe(no_mangle)]
-pub extern "C" fn pageshare_window_asked_last(page: &mut WindowPage, counts: &mut PartCounts)
-    ensures { Notes (asked_last (looks_of page.old)) (notes_of page.old).seen page.old page.new counts.old counts.new }
-{
-    let mut looks = looks_of(page);
-    looks.asked_last();
-    let seen = page.notes().seen;
-    write_looks(page, counts, &looks, seen);
 }
 
 /// Learns that a page is to be asked about at once, and doesn't count as one that could be shared.

@@ -12,24 +12,7 @@ ghost use Rattle.window_tables.specs.declared.changes.Change.TheVariants as Chan
 
 use page_looks::parts::Part;
 use window_pages::{PartCounts, WindowFacts, WindowPage};
-use window_tables::{
-    Change, TableFacts, are_movable, facts_of, may_give_up, may_go_on, note, note_kept,
-};
-
-/// Finds what is so of a page: of its window and its process, of its pins, and what is so besides (`why`). `pins` has how often each page was
-/// pinned, and is empty if none was yet.
-#[unsafe(no_mangle)]
-pub extern "C" fn pageshare_window_find_facts(
-    table: &TableFacts,
-    pins: &[u16],
-    why: &WindowFacts,
-    page: usize,
-    facts: &mut WindowFacts,
-)
-    ensures { facts.new ≡ facts_at table.now pins.now why.now page }
-{
-    *facts = facts_of(table, pins, why, page);
-}
+use window_tables::{Change, TableFacts, are_movable, may_give_up, may_go_on, note, note_kept};
 
 /// Returns whether a call of the monitor may go on by each of so many pages, of which this is so from then on: no write to any of them
 /// waits, and none that must have memory of its own shows a frame. Returns false if they aren't all there.

@@ -111,17 +111,6 @@ pub fn next(page: &mut WindowPage, part: &mut PartCounts, facts: &WindowFacts) -
     order
 }
 
-/// Takes back the order that is open, if one is.
-pub fn withdraw(page: &mut WindowPage)
-    ensures known { known_of page.new ≡ record (known_of page.old) { ordered = false } }
-    ensures notes { notes_of page.new ≡ notes_of page.old }
-{
-    *page = WindowPage {
-        looks: page.looks / 2 * 2,
-        ..*page
-    };
-}
-
 /// Takes this outcome of a page's order. Returns false, and changes nothing, if no order is open that can have it.
 pub fn take(page: &mut WindowPage, part: &mut PartCounts, outcome: Outcome) -> bool
     ensures takes { result ≡ takes outcome (known_of page.old) }

@@ -14,7 +14,7 @@ mod runs;
 
 pub use counts::PartCounts;
 pub use facts::WindowFacts;
-pub use lend::{choose, hear, is_free, is_movable, may_go_on, next, take, withdraw};
+pub use lend::{choose, hear, is_free, is_movable, may_go_on, next, take};
 pub use page::{KnownPage, PageNotes, WindowPage};
 pub use place::{
     begin, cover, detach, forget, give_back, give_up, leave, see, stays, stop_past, uncover, unmap,

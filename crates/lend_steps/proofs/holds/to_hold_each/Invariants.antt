@@ -1,0 +1,13 @@
+use Rattle.std.proofs.Common.{◌≡◌, true, length}
+use Rattle.lend_steps.specs.Holds.{HoldsAt}
+use Rattle.lend_steps.specs.Lists.{InTurn}
+use Rattle.window_tables.specs.Tables.{Counted, has_parts}
+use Rattle.lend_steps.proofs.holds.to_hold_each.Given as goal
+
+abbrev pub invariant-loop-n : goal.invariant-loop-n
+invariant-loop-n l = record {
+  turns : InTurn (HoldsAt l.table l.pins l.lead l.wholes l.numbers) l.lead l.numbers l.fn.pages l.fn.parts l.fn.answers l.n l.pages l.parts l.answers;
+  counted : Counted l.lead l.fn.pages l.fn.parts → Counted l.lead l.pages l.parts;
+  parts : has_parts l.lead l.pages l.parts ≡ true;
+  count : length l.answers ≡ length l.numbers;
+}
