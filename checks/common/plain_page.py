@@ -5,6 +5,7 @@ Numbers of beliefs, orders and outcomes are those of window/pageshare_window.h.
 from __future__ import annotations
 
 import dataclasses
+import random
 from collections.abc import Iterable
 
 PRIVATE, CHOSEN, COPIED, READY, HELD, EQUAL, LETTING_GO, SHOWN, HOMING_IN_PLACE, HOMING, LEAVING = range(11)
@@ -272,6 +273,15 @@ class Page:
         self.ordered = False
         self.belief = LETTING_GO | ZEROS if waits else PRIVATE
         self.forget()
+
+
+def some_page(chance: random.Random) -> Page:
+    """A page of any bytes."""
+    clue = chance.choice([0, 1, 2, 32767]) + chance.choice([0, 32768])
+    page = Page.of(chance.randrange(4), chance.randrange(4), clue, chance.randrange(256), chance.randrange(256))
+    if page.belief in WITH_SLOT - WITH_FRAME:
+        page.frame = 0
+    return page
 
 
 def sums(pages: Iterable[Page]) -> tuple[int, ...]:

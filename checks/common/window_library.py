@@ -2,8 +2,8 @@
 
     library = built()
     page, part = library.make("page"), library.make("counts")
-    library.call("choose", page, part, library.make("facts"), False)
-    page.belief == library.constants["CHOSEN"]
+    library.call("leave", page, 1, part, 1, 0, 0, 1)
+    page.belief == library.constants["OUT"]
 
 Names are those of the header, without what they all begin with. Structs and functions are read off the header, so a new one needs no line
 here. Which member a struct has at which place is what `checks/structs.py` compares with the library's. `built_host` is the library for
@@ -49,7 +49,7 @@ class Library:
     def __init__(self, path: pathlib.Path, header: pathlib.Path, prefix: str) -> None:
         text = COMMENT.sub("", header.read_text(encoding="utf-8"))
         self.prefix, self.handle = f"{prefix}_", prefix.rpartition("_")[2]
-        numbers = re.findall(rf"^\s*(?:#define )?{prefix.upper()}_(\w+)(?: =)? (0x[0-9a-f]+|\d+)", text, re.M)
+        numbers = re.findall(rf"^\s*(?:#define |enum \{{ )?{prefix.upper()}_(\w+)(?: =)? (0x[0-9a-f]+|\d+)", text, re.M)
         self.constants = {name: int(number, 0) for name, number in numbers}
         self.structs: dict[str, Any] = {}
         for name, inside in re.findall(rf"^struct {prefix}(?:_(\w+))? \{{(.*?)^\}};", text, re.M | re.S):

@@ -1,4 +1,4 @@
-"""Lists of pages that are asked about, copied, lent and released as chance has it, beside a plain model of each page (common/plain_page.py)."""
+"""Lists of pages that are asked about, copied, lent, held and released as chance has it, beside a plain model of each (common/plain_page.py)."""
 from __future__ import annotations
 
 import collections
@@ -7,15 +7,21 @@ from typing import Any
 
 from common.compared import Compared
 from common.plain_looks import Part
+from common.plain_mappings import Mappings, has_room
 from common.plain_page import (
     CHOSEN, COPIED, COPY, DONE, HOLD, LEAVING, LEND, LENT, PRIVATE, READY, REFUSED, RELEASE, SHOWN, WAITING, ZEROS, Facts, Page, sums,
 )
 from common.window_library import Library, values_of
 from harness import Tally
 
-# The pages of a table, of which three are in its first part; the frames of the host's file; and how often a table is made.
-PAGES, LEAD, FRAMES, ROUNDS, CALLS = 8, 509, 50, 3000, 7
+# The pages of a table, of which three are in its first part; the frames of the host's file; how often a table is made; and calls for each.
+PAGES, LEAD, FRAMES, ROUNDS, CALLS = 8, 509, 50, 5000, 8
 NO_FRAME = 2**32 - 1
+# Which answers have to come up, so that the calls are worth something.
+ENOUGH = [
+    "to_ask 1", "to_ask 3", "to_ask 4", "answered 1", "answered 4", "to_copy 1", "to_copy 2", "to_copy 3", "copied 1", "loaned 2", "loaned 9",
+    "loaned 5", "to_hold 0", "to_hold 1", "to_hold refused", "to_give_back 0", "to_give_back 1", "to_give_back 4", "found",
+]
 
 
 def slot_of(name: int) -> int:
@@ -25,10 +31,11 @@ def slot_of(name: int) -> int:
 
 def some_page(chance: random.Random) -> Page:
     """A page as it may come to a list."""
-    belief = chance.choice([*[PRIVATE] * 4, *[CHOSEN] * 3, *[COPIED] * 5, READY, READY | ZEROS, LEAVING, LEAVING, SHOWN, *WAITING])
+    belief = chance.choice([*[PRIVATE] * 4, *[CHOSEN] * 3, *[COPIED] * 5, *[READY] * 3, READY | ZEROS, LEAVING, LEAVING, SHOWN, *WAITING])
     frame = 0 if belief == LEAVING else chance.randrange(2)
     return Page(belief, chance.randrange(2), frame, chance.random() < 0.4, chance.random() < 0.3, looks=chance.choice([1, 3, 3]),
-                asks=chance.choice([0, 1, 3]), clue=chance.randrange(4), out=chance.random() < 0.05)
+                asks=chance.choice([0, 1, 3]), clue=chance.randrange(4), out=chance.random() < 0.05, moved=chance.random() < 0.7,
+                seen=chance.random() < 0.2)
 
 
 class Table:
@@ -42,7 +49,7 @@ class Table:
         self.pins = [chance.choice([0, 0, 0, 1]) for _ in range(chance.choice([0, PAGES]))]
         self.barred = chance.random() < 0.1
         self.facts = [library.make("table_facts", locked=self.barred), library.array("uint16_t", self.pins), len(self.pins)]
-        self.whole = [chance.random() < 0.2 for _ in range(2)]
+        self.mappings = Mappings(self.known, [chance.random() < 0.2 for _ in range(2)], LEAD)
         self.found: collections.Counter[str] = collections.Counter()
 
     def facts_of(self, number: int) -> Facts:
@@ -68,32 +75,18 @@ class Table:
 
     # ---- questions ----
 
-    def more(self, number: int) -> int:
-        """How many mappings more a page may take, whatever becomes of it."""
-        def begins(at: int) -> bool:
-            if at == 0:
-                return True
-            one, other = self.known[at - 1], self.known[at]
-            if one.over or other.over:
-                return not (one.over and other.over and one.past == other.past and (one.clue + 1) % 32768 == other.clue)
-            wholes = {self.whole[(LEAD + it) // 512] for it in (at - 1, at)}
-            return one.moved != other.moved or other.begins or len(wholes) > 1
-
-        places = range(number, min(number + 2, PAGES))
-        return len(places) - sum(map(begins, places))
-
     def ask(self, number: int, look: int, room: int) -> int:
         """Whether a page may be asked about."""
         if number >= PAGES or not self.known[number].is_free(self.facts_of(number)):
             return 0
-        page, whole, more = self.known[number], self.whole[(LEAD + number) // 512], self.more(number)
+        page, whole, more = self.known[number], self.mappings.is_whole(number), self.mappings.more(number)
         if not whole and more > room:
             page.asks = 3
             return 4
         return 3 if Part(whole=whole).is_in_passing(page, look, number) else 1
 
     def wholes(self) -> Any:
-        return self.library.array("part", [(it, 0, 0, 0, 0, False, False, 0) for it in self.whole])
+        return self.library.array("part", [(it, 0, 0, 0, 0, False, False, 0) for it in self.mappings.whole])
 
     def to_ask(self) -> None:
         numbers, look, most = self.numbers(), self.chance.randrange(64), self.chance.choice([7, 8, 9])
@@ -105,7 +98,7 @@ class Table:
         """What a host's answer means. A page that may be lent takes room."""
         if number >= PAGES:
             return 0
-        page, whole, more = self.known[number], self.whole[(LEAD + number) // 512], self.more(number)
+        page, whole, more = self.known[number], self.mappings.is_whole(number), self.mappings.more(number)
         if is_other and not whole:
             page.asks = page.asks if more == 0 or more <= room[0] else 3
             if more > 0 and more > room[0]:
@@ -133,7 +126,7 @@ class Table:
 
     def check_of(self, number: int, there: int, fingerprint: int) -> int:
         """How it is seen that a copy is of the page that was found, where it is to be copied; it has its order then."""
-        if number >= PAGES or not there or self.whole[(LEAD + number) // 512]:
+        if number >= PAGES or not there or self.mappings.is_whole(number):
             return 0
         page, facts = self.known[number], self.facts_of(number)
         if page.ordered or not page.is_free(facts):
@@ -187,6 +180,39 @@ class Table:
         due = [self.loan(*it, is_heard) for it in zip(numbers, slots, frames)]
         self.call_list("loaned", [], numbers, [("uint64_t", slots), ("uint32_t", frames)], [FRAMES, is_heard], due)
 
+    # ---- holds ----
+
+    def hold(self, number: int) -> int:
+        """Whether a page that has its loan is held. The loan of another one isn't needed any more."""
+        if number >= PAGES or self.known[number].ordered or self.known[number].belief != READY:
+            return 0
+        page = self.known[number]
+        if page.next(self.facts_of(number)) == HOLD and not self.mappings.is_whole(number):
+            return 1
+        page.take(REFUSED)
+        self.found["to_hold refused"] += 1
+        return 0
+
+    def to_hold(self) -> None:
+        numbers = self.numbers()
+        due = [self.hold(it) for it in numbers]
+        self.call_list("to_hold", [*self.facts, self.wholes(), 2], numbers, [], [], due)
+
+    def give_back(self, number: int, most: int, taken: int) -> int:
+        """Whether a page is held to be given back as zeros."""
+        if number >= PAGES or self.known[number].ordered or self.mappings.is_whole(number):
+            return 0
+        page, facts = self.known[number], self.facts_of(number)
+        if page.is_free(facts) and not has_room(most, taken, self.mappings.zeros_more(number, 1)):
+            page.asks = 3
+            return 4
+        return int(page.choose(facts, True) and page.next(facts) == HOLD | ZEROS)
+
+    def to_give_back(self) -> None:
+        numbers, most, taken = self.numbers(), self.chance.choice([6, 7, 8, 9]), 7
+        due = [self.give_back(it, most, taken) for it in numbers]
+        self.call_list("to_give_back", [*self.facts, self.wholes(), 2, most, taken], numbers, [], [], due)
+
     # ---- slots that are released ----
 
     def is_to_release(self, number: int) -> bool:
@@ -220,7 +246,8 @@ class Table:
 
     def go_on(self) -> None:
         """A call, after which the pages and the counts of their parts are as they are known."""
-        call = self.chance.choice([self.to_ask, self.answered, self.to_copy, self.copied, self.loaned, self.to_release])
+        lists = [self.to_ask, self.answered, self.to_copy, self.copied, self.loaned, self.to_hold, self.to_give_back]
+        call = self.chance.choice([*lists, self.to_release])
         call()
         self.seen.equal(f"the pages after {call.__name__}", values_of(self.pages), tuple(page.bytes() for page in self.known))
         self.seen.equal(f"the counts after {call.__name__}", values_of(self.parts), (sums(self.known[:3]), sums(self.known[3:])))
@@ -235,6 +262,6 @@ def run(tally: Tally, library: Library) -> None:
         for _ in range(CALLS):
             table.go_on()
         found.update(table.found)
-    for name in ("to_ask 1", "to_ask 3", "to_ask 4", "answered 1", "answered 4", "to_copy 1", "to_copy 2", "to_copy 3", "copied 1", "loaned 2", "loaned 9", "loaned 5", "found"):
+    for name in ENOUGH:
         seen.holds(f"enough of {name}", found[name] >= 50)
     seen.close()

@@ -1,4 +1,4 @@
-"""Lives of a table of pages: orders, outcomes, facts and others' events come as chance has it, and the events of each outcome are played.
+"""Lives of a table of pages: lists, rows, ways home, facts and others' events come as chance has it, and the events of what is done are played.
 
 The library says what is done with each page. Each event for which an order stands must be possible by the protocol of windows
 (common/plain_windows.py), and after each move what is believed of each page is right of it, and is what the host has for it.
@@ -6,27 +6,27 @@ The library says what is done with each page. Each event for which an order stan
 from __future__ import annotations
 
 import collections
+import dataclasses
 import random
 from typing import Any, Optional
 
 from common.compared import Compared
 from common.plain_page import (
-    CHOSEN, COMPARE, COPIED, COPY_IN_PLACE, EQUAL, FACTS, HELD, HOLD, HOMING, HOMING_IN_PLACE, LEND, LET_GO, LETTING_GO, MAP, PRIVATE, READY,
-    RELEASE, SHOWING, SHOWN, TAKE_HOME, WITH_FRAME, WITH_SLOT, ZEROS, Facts,
+    CHOSEN, COPIED, EQUAL, FACTS, HELD, HOMES, HOMING, HOMING_IN_PLACE, LEAVING, LETTING_GO, PRIVATE, READY, SHOWING, SHOWN, WITH_FRAME, WITH_SLOT,
+    ZEROS, Facts,
 )
 from common.plain_windows import Event, Window, Windows
 from common.window_library import Library
 from harness import Tally
+from window_cases.held import ASIDE, COMPARE, COMPARE_ZEROS, END_WATCH, GIVE_BACK, MAP, NOT_TAKEN, OVER, STUCK, TAKEN, TAKEN_ASIDE, WATCHED
 
-# The table's pages are 1 to 4. Page 0 has another lender.
-PAGES, FIRST = 4, 1
+# The table's pages are 1 to 4. Page 0 has another lender. A host's file has two frames for them.
+PAGES, FIRST, FRAMES, NO_FRAME = 4, 1, 2, 2**32 - 1
 SEEDS, MOVES = 4, 20_000
-# The events for which an order stands, where that is done.
-EVENTS = {
-    HOLD: ["guard"], HOLD | ZEROS: ["guard"], MAP: ["map"], LET_GO: ["unguard"], LET_GO | ZEROS: ["unguard"], RELEASE: ["release"],
-    COMPARE | ZEROS: ["copy"],
+LEAST = {
+    "mapped": 50, "released": 100, "given back": 50, "home": 10, "refused at once": 50, "in vain": 80, "crowded": 10, "stuck": 20, "lost": 50,
+    "goes on": 100, "splits": 10, "wholes": 10,
 }
-LEAST = {"mapped": 50, "released": 100, "given back": 20, "home": 10, "withdrawn": 50, "in vain": 100, "splits": 10, "wholes": 10}
 
 
 def is_right(belief: int, frame: int, page: Window) -> bool:
@@ -44,18 +44,30 @@ def is_right(belief: int, frame: int, page: Window) -> bool:
     return not page.is_bare() and (belief == LETTING_GO or not page.guarded)
 
 
+@dataclasses.dataclass(eq=False)
+class Row:
+    """Pages that are held: the first one, how many they are, and the library's byte of each."""
+
+    first: int
+    count: int
+    bytes: Any
+
+
 class Life:
     """A table of pages in one part, a host's own account of each, and what the pages show."""
 
     def __init__(self, library: Library, seen: Compared, seed: int) -> None:
         self.library, self.seen, self.chance = library, seen, random.Random(seed)
         self.pages, self.counts = library.array("page", [()] * PAGES), library.make("counts")
-        self.facts = [Facts()] * PAGES
+        self.table, self.pins, self.why = library.make("table_facts"), library.array("uint16_t", [0] * PAGES), Facts()
         # what the host has given for each page: a slot with a frame
         self.given: list[Optional[tuple[int, int]]] = [None] * PAGES
         self.slots = 0
+        self.rows: list[Row] = []
         self.windows = Windows([1] * (PAGES + 1), [0, 1, 1])
         self.part, self.config = library.make("part", whole=True), library.make("part_config", huge_from=16, alone_part=4, alone=2, pause=3)
+        self.mappings = library.make("size_t")
+        self.mappings.value = library.call("mappings_at", self.pages, PAGES, self.part, 1, 0, 0, PAGES)
         self.tally: collections.Counter[str] = collections.Counter()
 
     def belief(self, place: int) -> int:
@@ -64,135 +76,271 @@ class Life:
     def window(self, place: int) -> Window:
         return self.windows.pages[FIRST + place]
 
+    def shown(self, place: int) -> int:
+        return self.windows.shown(FIRST + place)
+
+    def is_over(self, place: int) -> bool:
+        """Whether a frame lies under a page, for all that is known."""
+        return bool(self.pages[place].belief & 32)
+
+    def some(self) -> list[int]:
+        """Some pages, one after another."""
+        return [place for place in range(PAGES) if self.chance.random() < 0.75]
+
+    # ---- calls ----
+
+    def facts(self) -> tuple[Any, Any, int]:
+        return self.table, self.pins, PAGES
+
     def given_facts(self, facts: Facts) -> Any:
         return self.library.make("facts", **{name: getattr(facts, name) for name in FACTS})
 
-    def call(self, name: str, place: int, *words: Any) -> Any:
-        return self.library.call(name, self.pages[place], self.counts, *words)
+    def call(self, name: str, *words: Any) -> Any:
+        return self.library.call(name, self.pages, PAGES, self.counts, 1, 0, *words)
 
-    def note(self, name: str, place: int, *words: Any) -> None:
-        """A call for pages in a row, of which there is one here."""
-        kept = name in ("cover", "uncover", "detach", "one_memory")
-        given = [self.library.array("part", [()]), 1] if kept else []
-        taken = [self.library.make("size_t")] if kept else []
-        self.seen.holds(name, self.library.call(name, self.pages, PAGES, self.counts, 1, 0, *given, place, 1, *words, *taken))
+    def call_list(self, name: str, before: list[Any], places: list[int], lists: list[tuple[str, list[int]]], *more: Any) -> list[int]:
+        """A call for a list of pages. Returns its answers."""
+        made, words = self.library.array, list[Any]()
+        for kind, values in [("uint32_t", places), *lists]:
+            words += [made(kind, values), len(values)]
+        answers = made("uint8_t", [0] * len(places))
+        self.seen.holds(name, self.call(name, *before, *words, *more, answers, len(places)))
+        return list(answers)[: len(places)]
 
-    def must(self, event: Event) -> None:
+    def note(self, name: str, place: int, *words: Any, count: int = 1) -> None:
+        """A call for pages in a row."""
+        self.seen.holds(name, self.call(name, place, count, *words))
+
+    def put(self, name: str, place: int, *words: Any, count: int = 1) -> None:
+        """The same where other memory comes to their places. Then as many mappings are taken as there are."""
+        self.seen.holds(name, self.call(name, self.part, 1, place, count, *words, self.mappings))
+        taken = self.library.call("mappings_at", self.pages, PAGES, self.part, 1, 0, 0, PAGES)
+        self.seen.equal(f"mappings after {name}", self.mappings.value, taken)
+
+    def must(self, word: str, place: int, *more: int) -> None:
+        """An event of a page that must be possible."""
+        event: Event = (word, FIRST + place, *more)
         self.seen.holds(f"{event} is possible", self.windows.apply(event))
 
-    # ---- orders ----
+    # ---- loans ----
 
-    def carry_out(self, place: int, order: int) -> None:
-        """The events of an order, each of which must be possible, and what was put at the page's place."""
-        number, frame = FIRST + place, self.pages[place].frame
-        shown = self.windows.shown(number)
-        for word in EVENTS.get(order, []):
-            self.must((word, number))
-        if order == COMPARE:
-            self.must(("copy", number))
-            self.must(("lend", number, frame))
-        elif order == MAP:
-            self.note("cover", place, frame)
-        elif order in (COPY_IN_PLACE, TAKE_HOME):
-            self.must(("write", number, shown))
-            if order == TAKE_HOME:
-                self.note("uncover", place, False)
-        elif order == MAP | ZEROS:
-            self.must(("discard", number))
-            self.call("give_back", place, True)
-        self.seen.equal(f"what the page shows after {order}", self.windows.shown(number), shown)
+    def copy(self) -> None:
+        """Pages are copied to the lender's buffer; some are others than those that were found."""
+        places = self.some()
+        there, prints = [int(self.chance.random() < 0.9) for _ in places], [0 for _ in places]
+        checks = self.call_list("to_copy", [*self.facts(), self.part, 1], places, [("uint8_t", there), ("uint64_t", prints)])
+        self.others()
+        outcomes = [self.chance.choice([1, 1, 1, 1, 2, 3]) if check else 0 for check in checks]
+        answers = self.call_list("copied", [*self.facts()], places, [("uint8_t", outcomes)])
+        self.seen.equal("loans that are to be asked for", answers, [int(it == 1) for it in outcomes])
 
-    def can(self, place: int, order: int) -> bool:
-        """Whether an order can be done: a comparison finds a guarded page equal, and what replaces a page stood guarded since."""
-        page, shown = self.window(place), self.windows.shown(FIRST + place)
-        frame = self.pages[place].frame
-        if order == COMPARE:
-            return page.guarded and self.windows.frames[frame] == shown
-        if order == COMPARE | ZEROS:
-            return page.guarded and shown == 0
-        return {MAP: page.frame_fresh, MAP | ZEROS: page.copy_fresh}.get(order, True)
-
-    def lends(self, place: int) -> bool:
-        """A question for a loan, and what came of it. If its reply is lost the order stays open until the host has no loan for the page."""
-        if self.chance.random() < 0.75:
-            self.slots += 1
-            self.given[place] = (self.slots, self.chance.randrange(2))
-        if self.chance.random() < 0.25:
+    def lend(self) -> None:
+        """A host is asked for loans of what was copied. If its reply is lost the orders stay open until it has no loan for the pages."""
+        places, is_heard = [it for it in range(PAGES) if self.belief(it) == COPIED], self.chance.random() < 0.75
+        for place in places:
+            if self.chance.random() < 0.75:
+                self.slots += 1
+                alike = [it for it in range(FRAMES) if self.windows.frames[it] == self.shown(place)]
+                self.given[place] = (self.slots, self.chance.choice([*range(FRAMES), *alike * 2]))
+        if not is_heard:
             self.others()
-            self.given[place] = None
-        given = self.given[place]
-        if given:
-            made, answer = self.library.array, self.library.array("uint8_t", [0])
-            lists = (made("uint32_t", [place]), 1, made("uint64_t", [given[0]]), 1, made("uint32_t", [given[1]]), 1)
-            self.seen.holds("loaned", self.library.call("loaned", self.pages, PAGES, self.counts, 1, 0, *lists, 2, True, answer, 1))
-            self.seen.equal("the loan", answer[0], 9)
-        else:
-            self.seen.holds("refused", self.call("refused", place))
-        return True
+            for place in places:
+                self.tally["lost"] += self.given[place] is not None
+                self.given[place] = None
+        loans = [self.given[place] or (0, NO_FRAME) for place in places]
+        lists = [("uint64_t", [slot for slot, _ in loans]), ("uint32_t", [frame for _, frame in loans])]
+        answers = self.call_list("loaned", [], places, lists, FRAMES, is_heard)
+        self.seen.equal("the loans", answers, [(9 if self.given[place] else 2) if is_heard else 0 for place in places])
 
-    def releases(self, place: int) -> None:
-        """A slot is released, or the host has it still. If the reply is lost the order stays open until one comes."""
-        self.seen.equal("the slot", self.given[place] and self.given[place][0], self.pages[place].slot)  # type: ignore[index]
-        is_gone = self.chance.random() < 0.5
-        if is_gone:
-            self.given[place] = None
-            self.carry_out(place, RELEASE)
+    def release(self) -> None:
+        """Slots are released, or the host has them still. If the reply is lost the orders stay open until one comes."""
+        room, ready = self.chance.randrange(1, PAGES + 1), self.ready()
+        numbers, is_gone = self.library.array("size_t", [0] * room), self.chance.random() < 0.5
+        found = self.call("to_release", *self.facts(), 0, PAGES, numbers, room)
+        self.refused(ready)
+        for place in numbers[:found]:
+            self.seen.equal("the slot", self.given[place] and self.given[place][0], self.pages[place].slot)
+            if is_gone:
+                self.given[place] = None
+                self.must("release", place)
         if self.chance.random() < 0.3:
             self.others()
-        self.seen.holds("a release", self.call("done" if is_gone else "refused", place))
-        self.tally["released"] += is_gone
+        self.seen.holds("released", self.call("released", numbers, found, is_gone))
+        self.tally["released"] += found if is_gone else 0
 
-    def finish(self, place: int, order: int) -> bool:
-        """Carries out an order or not. Returns whether it was done."""
-        if order == LEND:
-            return self.lends(place)
-        if order == RELEASE:
-            self.releases(place)
-            return False
-        can = self.can(place, order)
-        if not can or self.chance.random() < 0.125:
-            self.tally["in vain"] += order == COMPARE and not can
-            self.seen.holds("refused", self.call("refused", place))
-            return False
-        self.carry_out(place, order)
-        self.seen.holds("done", self.call("done", place))
-        name = {MAP: "mapped", MAP | ZEROS: "given back", TAKE_HOME: "home", COPY_IN_PLACE: "home"}.get(order)
-        self.tally[name or "other"] += 1
-        return True
+    # ---- pages that are held ----
 
-    def go_on_with(self, place: int) -> None:
-        """Gives the next order of a page and carries it out at once, or later, or takes it back."""
-        order = self.call("next", place, self.given_facts(self.facts[place]))
-        if not order:
-            return
-        which = self.chance.randrange(16)
-        if which == 0:
-            self.library.call("withdraw", self.pages[place])
-            self.tally["withdrawn"] += 1
-            return
-        if which < 6:
+    def ready(self) -> list[int]:
+        return [place for place in range(PAGES) if self.belief(place) == READY]
+
+    def refused(self, ready: list[int]) -> None:
+        """These pages had their loans. Counts those that aren't needed any more."""
+        self.tally["refused at once"] += sum(self.belief(place) == LEAVING for place in ready)
+
+    def show(self) -> None:
+        """Pages that have their loans are held, to show their frames."""
+        places, ready = self.some(), self.ready()
+        answers = self.call_list("to_hold", [*self.facts(), self.part, 1], places, [])
+        for place, answer in zip(places, answers):
+            self.seen.holds("a loan is held or isn't needed", place not in ready or answer == 1 or self.belief(place) == LEAVING)
+        self.refused(ready)
+        self.hold(places, answers)
+
+    def give_back(self) -> None:
+        """Pages are held, to be given back as zeros. For some of them there is no room, maybe."""
+        places, most = self.some(), self.mappings.value + self.chance.choice([0, 9])
+        answers = self.call_list("to_give_back", [*self.facts(), self.part, 1, most, self.mappings.value], places, [])
+        self.tally["crowded"] += answers.count(4)
+        self.hold(places, answers)
+
+    def hold(self, places: list[int], answers: list[int]) -> None:
+        """Pages are held that are to be. Some of those that aren't what they are to show are refused before."""
+        if self.chance.random() < 0.3:
             self.others()
-        self.finish(place, order)
+        ordered = [place for place, answer in zip(places, answers) if answer == 1]
+        kept = [place for place in ordered if self.chance.random() < (0.9 if self.seems_equal(place) else 0.75)]
+        for place in ordered:
+            self.seen.holds("what is to be held may be lent", not self.part.whole and not self.is_barred(place))
+        self.call_list("copied", [*self.facts()], places, [("uint8_t", [2 if it in ordered and it not in kept else 0 for it in places])])
+        self.tally["refused at once"] += len(ordered) - len(kept)
+        while kept:
+            count = next((n for n in range(len(kept)) if kept[n] != kept[0] + n), len(kept))
+            self.begin(kept[0], count)
+            kept = kept[count:]
+
+    def seems_equal(self, place: int) -> bool:
+        content = 0 if self.belief(place) & ZEROS else self.windows.frames[self.pages[place].frame]
+        return bool(self.shown(place) == content)
+
+    def begin(self, first: int, count: int) -> None:
+        """Pages in a row are held, or aren't, and then writes to them may wait all the same. Only what has no frame under it is moved aside."""
+        row, takings = self.library.array("uint8_t", [0] * count), list[int]()
+        for place in range(first, first + count):
+            taking = self.chance.choice([NOT_TAKEN, WATCHED, *[TAKEN] * 5, *[TAKEN_ASIDE] * 5])
+            if taking >= TAKEN or (taking == WATCHED and self.chance.random() < 0.5):
+                self.must("guard", place)
+            takings.append(TAKEN if taking == TAKEN_ASIDE and self.is_over(place) else taking)
+        self.seen.holds("begin_row", self.call("begin_row", first, row, count, self.library.array("uint8_t", takings), count))
+        self.rows.append(Row(first, count, row))
+
+    def can(self, place: int, step: int, byte: int) -> bool:
+        """Whether a step can be done: a comparison finds a guarded page equal, and what replaces a page stood guarded since."""
+        page, frame = self.window(place), self.pages[place].frame
+        if step == COMPARE:
+            return page.guarded and self.windows.frames[frame] == self.shown(place)
+        if step == COMPARE_ZEROS:
+            return page.guarded and self.shown(place) == 0
+        if step == GIVE_BACK or (step == END_WATCH and byte == ASIDE):
+            return page.copy_fresh
+        return page.frame_fresh if step == MAP else True
+
+    def carry_out(self, place: int, step: int, byte: int) -> None:
+        """The events of a step, each of which must be possible, and what was put at the page's place."""
+        frame, belief, shown = self.pages[place].frame, self.belief(place), self.shown(place)
+        if step in (COMPARE, COMPARE_ZEROS):
+            self.must("copy", place)
+        if step == COMPARE:
+            self.must("lend", place, frame)
+        elif step == MAP:
+            self.must("map", place)
+            self.put("cover", place, frame)
+        elif step == GIVE_BACK or (step == END_WATCH and byte == ASIDE):
+            self.must("discard", place)
+        elif step == END_WATCH and belief & ~ZEROS == LETTING_GO:
+            self.must("unguard", place)
+        if step == GIVE_BACK:
+            self.put("put_zeros", place, True)
+        if step == END_WATCH and belief == EQUAL | ZEROS:
+            self.library.call("give_back", self.pages[place], self.counts, True)
+            self.tally["given back"] += 1
+        self.tally["mapped"] += step == MAP
+        self.seen.equal(f"what the page shows after {step}", self.shown(place), shown)
+
+    def go_on_with(self, row: Row) -> None:
+        """Carries out the next order of a row with some of its pages. Once it is over each page that is stuck is in a row of its own."""
+        order, chance = self.library.make("row_order"), self.chance
+        self.call("next_of_row", *self.facts(), row.first, row.bytes, row.count, order)
+        if order.step == OVER:
+            self.rows.remove(row)
+            for behind, byte in enumerate(row.bytes[: row.count]):
+                if byte & STUCK:
+                    self.rows.append(Row(row.first + behind, 1, self.library.array("uint8_t", [self.library.call("row_again", byte)])))
+                    self.tally["stuck"] += 1
+            return
+        if chance.random() < 0.3:
+            self.others()
+        if chance.random() < 0.1:
+            self.write_anew(row.first + order.first)
+        done = 0
+        for behind in range(order.first, order.first + order.count):
+            can = self.can(row.first + behind, order.step, row.bytes[behind])
+            self.tally["in vain"] += order.step == COMPARE and not can
+            if not can or chance.random() < 0.125:
+                break
+            self.carry_out(row.first + behind, order.step, row.bytes[behind])
+            done += 1
+        refused = chance.randint(0, order.count - done)
+        self.seen.holds("row_done", self.call("row_done", row.first, row.bytes, row.count, order, done, refused))
+
+    # ---- ways home ----
+
+    def order_home(self, place: int) -> None:
+        """Pages from one on are to get memory of their own, if something says so."""
+        self.seen.holds("order_home", self.call("order_home", *self.facts(), self.given_facts(self.why), place, PAGES - place))
+
+    def come_home(self) -> None:
+        """Pages that are to get memory of their own get it, or don't. What has to stay where it is gets it there."""
+        copies = [self.is_over(place) and not self.window(place).is_bare() for place in range(PAGES)]
+        stays = self.library.array("bool", copies)
+        why = self.given_facts(self.why)
+        self.seen.holds("find_staying", self.library.call("find_staying", self.pages, PAGES, *self.facts(), why, 0, stays, PAGES))
+        for place in range(PAGES):
+            self.seen.holds("a copy that a device may hold stays", stays[place] or not copies[place] or not self.pins[place])
+            if self.belief(place) not in HOMES:
+                continue
+            if self.chance.random() < 0.125:
+                self.note("refused_home", place)
+                continue
+            self.must("write", place, self.shown(place))
+            if not stays[place]:
+                self.put("uncover", place, True)
+            self.note("copied_home" if stays[place] else "moved_home", place)
+            self.tally["home"] += 1
 
     # ---- what else happens ----
 
-    def set_facts(self, place: int, facts: Facts) -> None:
-        """Where a call may go on that these are for no write to the page waits, and if it must not show a frame it shows none."""
-        self.facts[place] = facts
-        table, none = self.library.make("table_facts"), (self.library.array("uint16_t", []), 0)
-        if not self.library.call("may_go_on", self.pages, PAGES, table, *none, self.given_facts(facts), place, 1):
-            return
-        page = self.window(place)
-        must_own = facts.pinned or facts.inherited or facts.locked or facts.ended
-        self.seen.holds("no write waits", not page.guarded)
-        self.seen.holds("a page that must own its memory", not must_own or not page.is_bare())
+    def is_barred(self, place: int) -> bool:
+        """Something that the lender was told keeps a page from being lent, but for a call of the monitor."""
+        table = self.table
+        return bool(self.pins[place] or table.inherited or table.locked or table.ends or table.is_over)
+
+    def set_facts(self, place: int) -> None:
+        """Other things are so from now on, of all pages or of those from one on; and a call of the monitor comes, or ends."""
+        number = self.chance.randrange(40)
+        self.table = self.library.make(
+            "table_facts", elsewhere=number == 5, may_pin=number in (21, 37), inherited=number in (2, 3), locked=number == 4, ends=number == 7,
+            is_over=number == 8)
+        for at in range(place, PAGES):
+            self.pins[at] = number in (1, 2)
+        self.why = Facts(called=number == 0, leaves=number in (9, 10), pinned=number == 11)
+
+    def may_go_on(self) -> None:
+        """Where the call may go on by a page no write to that waits, and if it must not show a frame it shows none."""
+        why = self.given_facts(self.why)
+        for place in range(PAGES):
+            if not self.library.call("may_go_on", self.pages, PAGES, *self.facts(), why, place, 1):
+                continue
+            page, must_own = self.window(place), self.is_barred(place) or self.why.leaves or self.why.pinned
+            self.seen.holds("no write waits", not page.guarded)
+            self.seen.holds("a page that must own its memory", not must_own or not page.is_bare())
+            self.tally["goes on"] += must_own
 
     def hear(self, place: int) -> None:
         """The lender hears what is so: the page shows no frame itself."""
         if self.window(place).is_bare():
             return
         if self.chance.random() < 0.5:
-            self.note("one_memory", place)
+            self.put("one_memory", place)
         else:
             self.note("give_up", place)
 
@@ -206,13 +354,18 @@ class Life:
         ]
         self.windows.apply(chance.choice(events))
 
+    def write_anew(self, place: int) -> None:
+        """A guest gives a page up, which no lender hears, so that it may write to it."""
+        self.windows.apply(("discard", FIRST + place))
+        self.windows.apply(("write", FIRST + place, self.chance.randrange(2)))
+
     def look(self) -> None:
         """A look at the part. Where it is to change no write to a page waits; where it is made whole its pages get memory of their own."""
-        movable = [self.is_movable(place, self.facts[place]) for place in range(PAGES)]
-        loose = [self.is_movable(place, Facts(), True) for place in range(PAGES)]
+        is_loose = self.library.call("may_give_up", self.pages, PAGES, 0, PAGES)
+        is_movable = self.library.call("are_movable", self.pages, PAGES, *self.facts(), 0, PAGES)
         odds = (0.5, 1, 1, 0.75, 0.25)
         bits = [self.chance.random() < it for it in odds]
-        look = self.library.structs["part_look"](508 + self.chance.randrange(5), self.chance.randrange(32), *bits, all(loose), all(movable))
+        look = self.library.structs["part_look"](508 + self.chance.randrange(5), self.chance.randrange(32), *bits, is_loose, is_movable)
         order = self.library.call("next_of_part", self.part, self.config, look)
         if not order:
             return
@@ -222,17 +375,11 @@ class Life:
             return
         self.part.whole = order == 2
         self.tally["wholes" if order == 2 else "splits"] += 1
-        for place in range(PAGES if order == 2 else 0):
-            if self.window(place).is_bare():
-                self.must(("write", FIRST + place, self.windows.shown(FIRST + place)))
-            self.note("one_memory", place)
-
-    def is_movable(self, place: int, facts: Facts, only_held: bool = False) -> bool:
-        if only_held:
-            return bool(self.library.call("may_give_up", self.pages, PAGES, place, 1))
-        table = self.library.make("table_facts", may_pin=facts.may_pin, inherited=facts.inherited, locked=facts.locked, ends=facts.ended)
-        pins = self.library.array("uint16_t", [facts.pinned] * PAGES)
-        return not facts.called and bool(self.library.call("are_movable", self.pages, PAGES, table, pins, PAGES, place, 1))
+        if order == 2:
+            for place in range(PAGES):
+                if self.window(place).is_bare():
+                    self.must("write", place, self.shown(place))
+            self.put("one_memory", 0, count=PAGES)
 
     def next_lender(self) -> None:
         """The lender goes and another comes, with frames of its own. Each page shows what it showed, and most writes that waited wait still."""
@@ -240,37 +387,48 @@ class Life:
         self.windows = Windows([before.shown(it) for it in range(PAGES + 1)], [self.chance.randrange(2), 1, 0])
         for place in range(PAGES):
             if before.pages[FIRST + place].guarded and self.chance.random() < 0.75:
-                self.must(("guard", FIRST + place))
-            self.note("detach", place)
+                self.must("guard", place)
+            self.put("detach", place)
             self.given[place] = None
 
     def go_on(self) -> None:
-        """Does one thing or another."""
+        """Does one thing or another. While pages are held no others are held."""
         which, place = self.chance.randrange(256), self.chance.randrange(PAGES)
         if which == 0:
             self.next_lender()
-        elif which < 32:
-            number = self.chance.randrange(40)
-            facts = Facts(number == 0, number in (1, 2), number % 16 == 5, number in (2, 3), number == 4, False, number == 7)
-            for at in range(place, PAGES):
-                self.set_facts(at, facts)
-        elif which < 64:
-            is_zeros = self.chance.random() < 0.25
-            for at in range(place, PAGES):
-                self.call("choose", at, self.given_facts(self.facts[at]), is_zeros)
-        elif which < 96:
+        elif which < 16:
+            self.set_facts(place)
+        elif which < 28:
+            self.may_go_on()
+        elif which < 56:
+            self.copy()
+        elif which < 76:
+            self.lend()
+        elif which < 88:
             self.others()
-        elif which < 112:
+        elif which < 104:
             self.look()
-        elif which < 124:
+        elif which < 110:
             self.hear(place)
+        elif which < 118:
+            self.release()
+        elif which < 132:
+            self.order_home(place)
+        elif which < 142:
+            self.come_home()
+        elif self.rows:
+            self.go_on_with(self.chance.choice(self.rows))
+        elif which < 244:
+            self.show()
         else:
-            self.go_on_with(place)
+            self.give_back()
 
     def check(self) -> None:
-        """What is believed of each page is right of it, and is what the host has."""
+        """What is believed of each page is right of it, and is what the host has; and somebody carries out each order that is open."""
+        held = {row.first + behind for row in self.rows for behind in range(row.count)}
         for place in range(PAGES):
             belief, page, given = self.belief(place), self.pages[place], self.given[place]
+            self.seen.holds(f"an order at {belief}", belief == COPIED or belief in HOMES or place in held or not page.looks & 1)
             self.seen.holds(f"{belief} of {self.window(place)}", is_right(belief, page.frame, self.window(place)))
             self.seen.holds("no page shows a frame unknown", belief in SHOWING or not self.window(place).is_bare())
             if belief in WITH_FRAME:

@@ -5,10 +5,10 @@ import functools
 import random
 from typing import Any
 
-from common import plain_looks
+from common import plain_looks, plain_page
 from common.compared import Compared
 from common.plain_looks import COUNT, GLANCE, IDLE, KEEP, OVER, READ, TAKEN, TO_READ, ZEROS, Part, Scan
-from common.plain_page import WITH_FRAME, WITH_SLOT, Facts, Page
+from common.plain_page import Facts, Page
 from common.window_library import Library, values_of
 from harness import Tally
 
@@ -71,19 +71,40 @@ class Looked:
         given = self.library.array("find_outcome", [outcome])
         return self.scan("scan_done", look, number, 0, (number, given, 1), step) & 7
 
+    def facts(self) -> tuple[Any, Any, int]:
+        """Nothing is so that keeps it from being lent."""
+        return self.library.make("table_facts"), self.library.array("uint16_t", []), 0
+
     def asked(self) -> None:
         """It was asked about in vain."""
         made = self.library.array
         lists = (made("uint32_t", [0]), 1, made("uint64_t", [0]), 1, made("uint8_t", [0]), 1, made("uint8_t", [0]), 1)
         self.library.call("answered", self.page, 1, self.counts, 1, 0, made("part", [()]), 1, 0, 0, *lists)
 
+    def changed(self) -> None:
+        """It isn't what was found: that counts no more."""
+        made = self.library.array
+        lists = (made("uint32_t", [0]), 1, made("uint8_t", [2]), 1, made("uint8_t", [0]), 1)
+        self.library.call("copied", self.page, 1, self.counts, 1, 0, *self.facts(), *lists)
+
+    def ask(self, pages: Any, number: int, look: int, most: int) -> int:
+        """The answer to whether a page of a table may be asked about, where windows may take so many mappings."""
+        made, answer, (config, part) = self.library.array, self.library.array("uint8_t", [0]), self.structs(look)
+        words = (*self.facts(), config, part, 1, most, 0, made("uint32_t", [number]), 1, answer, 1)
+        self.library.call("to_ask", pages, len(pages), self.counts, 1, 0, *words)
+        return int(answer[0])
+
     def is_in_passing(self, look: int, number: int) -> bool:
         """A question about it isn't to be noted, where it is free and has this number."""
-        made, answer, (config, part) = self.library.array, self.library.array("uint8_t", [0]), self.structs(look)
-        pages, counts = made("page", [*[()] * number, values_of(self.page)]), made("counts", [()])
-        table, pins = self.library.make("table_facts"), made("uint16_t", [])
-        self.library.call("to_ask", pages, number + 1, counts, 1, 0, table, pins, 0, config, part, 1, 2**40, 0, made("uint32_t", [number]), 1, answer, 1)
-        return bool(answer[0] == 3)
+        return self.ask(self.library.array("page", [*[()] * number, values_of(self.page)]), number, look, 2**40) == 3
+
+    def crowded(self) -> bool:
+        """It is in a mapping with the page behind it, and windows may take none more: it is asked about as seldom as any."""
+        behind = Page(over=bool(self.page.belief & 32), clue=(self.page.clue + 1) % 32768)
+        pages = self.library.array("page", [values_of(self.page), behind.bytes()])
+        answer = self.ask(pages, 0, 0, 0)
+        self.page = type(self.page).from_buffer_copy(pages[0])
+        return answer == 4
 
     def glanced_by(self, number: int) -> int:
         library, pages = self.library, table_of(self.library)[0]
@@ -94,12 +115,10 @@ class Looked:
 
 
 def some_page(chance: random.Random) -> Page:
-    """A page of any bytes, of which each second or so is private."""
-    page = Page.of(chance.randrange(4), chance.randrange(4), chance.choice([0, 1, 32768, 32769]), chance.randrange(256), chance.randrange(256))
+    """A page of any bytes, of which most are private."""
+    page = plain_page.some_page(chance)
     if chance.random() < 0.6:
-        page.belief = 0
-    if page.belief in WITH_SLOT - WITH_FRAME:
-        page.frame = 0
+        page.belief = plain_page.PRIVATE
     return page
 
 
@@ -248,7 +267,7 @@ def is_idle_by_reads(library: Library, seen: Compared, over: bool) -> None:
         seen.equal("a read", step == IDLE, alike)
         which = chance.randrange(16)
         if which == 0:
-            library.call("forget", looked.page, looked.counts)
+            looked.changed()
             reads = []
         elif which == 1:
             library.call("held", looked.page, looked.counts, True)
@@ -257,7 +276,7 @@ def is_idle_by_reads(library: Library, seen: Compared, over: bool) -> None:
             if chance.random() < 0.5:
                 looked.asked()
             else:
-                library.call("asked_last", looked.page, looked.counts)
+                seen.holds("it is crowded", looked.crowded())
         elif which == 3 and over:
             # (one that couldn't be held: its last read counts still)
             library.call("held", looked.page, looked.counts, False)

@@ -2,15 +2,16 @@
 from __future__ import annotations
 
 import collections
+import dataclasses
 import random
 from collections.abc import Callable
 from typing import Any
 
 from common.compared import Compared
-from common.plain_page import DONE, FACTS, LENT, REFUSED, Facts, Page, sums
+from common.plain_mappings import Mappings, has_room
+from common.plain_page import FACTS, REFUSED, Facts, Page, some_page, sums
 from common.window_library import Library, values_of
 from harness import Tally
-from window_cases.lends import slot_of
 
 # The pages of a table, of which three are in its first part. They are made anew so many times, and each time there are so many calls.
 PAGES, LEAD = 8, 509
@@ -20,9 +21,8 @@ LEAST = (5000, 2000, 1000, 300, 5000)
 
 
 def some_facts(chance: random.Random) -> Facts:
-    """Facts, of which most keep no page from being lent."""
-    which = chance.randrange(128)
-    return Facts(which == 0, which in (1, 2), which % 8 == 3, which in (2, 4), which == 5, which == 6, which == 7)
+    """Facts, of which few are so."""
+    return Facts(*[chance.random() < 0.1 for _ in FACTS])
 
 
 class Table:
@@ -40,9 +40,20 @@ class Table:
     def facts(self, facts: Facts) -> Any:
         return self.library.make("facts", **{name: getattr(facts, name) for name in FACTS})
 
+    def sums(self) -> tuple[tuple[int, ...], tuple[int, ...]]:
+        """The counts of the parts."""
+        return (sums(self.known[:3]), sums(self.known[3:]))
+
     def call(self, name: str, at: int, *words: Any) -> Any:
         """A call for one page, which takes its part's counts."""
         return self.library.call(name, self.pages[at], self.parts[self.part_of(at)], *words)
+
+    def call_list(self, name: str, before: list[Any], lists: list[tuple[str, int]]) -> int:
+        """A call for a list of one page, of which each list has an entry. Returns the answer."""
+        made, answer = self.library.array, self.library.array("uint8_t", [9])
+        words = [word for kind, entry in lists for word in (made(kind, [entry]), 1)]
+        self.seen.holds(name, self.library.call(name, self.pages, PAGES, self.parts, 2, LEAD, *before, *words, answer, 1))
+        return int(answer[0])
 
     def call_many(self, name: str, first: int, count: int, *words: Any) -> None:
         """A call for pages in a row."""
@@ -61,62 +72,53 @@ class Table:
 
     # ---- calls for one page ----
 
-    def choose(self, at: int) -> None:
-        facts, is_zeros = some_facts(self.chance), self.chance.random() < 0.5
-        self.seen.equal("choose", self.call("choose", at, self.facts(facts), is_zeros), self.known[at].choose(facts, is_zeros))
-
-    def order(self, at: int) -> None:
-        facts = some_facts(self.chance)
-        self.seen.equal("next", self.call("next", at, self.facts(facts)), self.known[at].next(facts))
-
-    def take(self, at: int) -> None:
-        """Takes an outcome, which the page's order may have or not."""
-        known, which = self.known[at], self.chance.randrange(16)
-        if which <= 4:
-            self.loan(at, self.chance.randrange(2**32), self.chance.randrange(2**32 - 1))
-        else:
-            outcome = REFUSED if which == 5 else DONE
-            self.seen.equal(outcome, self.call(outcome, at), known.take(outcome))
-
-    def loan(self, at: int, slot: int, frame: int) -> None:
-        """A host has lent a page, where its file has no frame."""
-        made, answer = self.library.array, self.library.array("uint8_t", [0])
-        lists = (made("uint32_t", [at]), 1, made("uint64_t", [slot_of(slot)]), 1, made("uint32_t", [frame]), 1)
-        self.seen.holds("loaned", self.library.call("loaned", self.pages, PAGES, self.parts, 2, LEAD, *lists, 0, True, answer, 1))
-        self.seen.equal("the loan", answer[0], 4 + self.known[at].take(LENT, slot, frame))
+    def become(self, at: int, page: Page) -> None:
+        """A page is another one from now on, and is counted as that."""
+        self.known[at] = page
+        self.pages[at] = self.library.structs["page"](*page.bytes())
+        part = self.part_of(at)
+        self.parts[part] = self.library.structs["counts"](*self.sums()[part])
 
     def note(self, at: int) -> None:
-        """Notes something of the page's content, or takes its order back."""
-        is_so, which, known = self.chance.random() < 0.5, self.chance.randrange(4), self.known[at]
-        if which == 0:
+        """Notes something of the page's content."""
+        is_so, known = self.chance.random() < 0.5, self.known[at]
+        if self.chance.random() < 0.5:
             self.call("give_back", at, is_so)
             known.give_back(is_so)
-        elif which == 1:
-            self.see(at, is_so)
-        elif which == 2:
-            self.call("forget", at)
-            known.forget()
         else:
-            self.library.call("withdraw", self.pages[at])
-            known.ordered = False
+            self.become(at, dataclasses.replace(known, seen=is_so))
 
-    def see(self, at: int, is_so: bool) -> None:
-        """A page was seen elsewhere or not, as `answered` notes it."""
-        known, part = self.known[at], self.part_of(at)
-        known.seen = is_so
-        self.pages[at].clue = known.bytes()[2]
-        self.parts[part].shareable = sums(self.known[:3] if part == 0 else self.known[3:])[4]
+    def changed(self, at: int) -> None:
+        """It isn't what was found of it: its order is refused, and that counts no more."""
+        given, _ = self.some_table()
+        self.seen.equal("copied", self.call_list("copied", given, [("uint32_t", at), ("uint8_t", 2)]), 0)
+        self.known[at].take(REFUSED)
+        self.known[at].forget()
+
+    def give_back(self, at: int) -> None:
+        """It is to be given back as zeros, where there is room for them, or is asked about as seldom as any."""
+        (parts, whole), (given, facts_of), known = self.some_parts(), self.some_table(), self.known[at]
+        most, taken, facts = self.chance.randrange(6), self.chance.randrange(6), facts_of(at, Facts())
+        mappings = Mappings(self.known, whole, LEAD)
+        can = known.is_free(facts) and not known.ordered and not mappings.is_whole(at)
+        can_hold = can and has_room(most, taken, mappings.zeros_more(at, 1))
+        found = self.call_list("to_give_back", [*given, parts, 2, most, taken], [("uint32_t", at)])
+        self.seen.equal("to_give_back", found, 1 if can_hold else 4 if can else 0)
+        if can_hold:
+            known.choose(facts, True)
+            known.next(facts)
+        elif can:
+            known.asks = 3
 
     def look(self, at: int) -> None:
         """What looks note of a page."""
         known, was_held = self.known[at], self.chance.random() < 0.5
-        which = self.chance.choice(["asked_last", "ask_at_once", "held"])
-        self.call(which, at, *([was_held] if which == "held" else []))
-        known.asks = {"asked_last": 3, "ask_at_once": 0, "held": 0 if was_held else 3}[which]
-        if which == "held":
-            known.looks = 0 if was_held else 1
-        if which == "ask_at_once":
-            known.seen = False
+        if self.chance.random() < 0.5:
+            self.call("held", at, was_held)
+            known.looks, known.asks = (0, 0) if was_held else (1, 3)
+        else:
+            self.call("ask_at_once", at)
+            known.asks, known.seen = 0, False
 
     # ---- calls for pages in a row ----
 
@@ -204,13 +206,9 @@ class Table:
         self.seen.equal("find_coming", (said, values_of(found)[:count]), (is_there, tuple(due)))
 
     def ask(self, first: int, count: int) -> None:
-        """What changes nothing: of each page by its own facts, and of pages in a row."""
-        chance, library = self.chance, self.library
-        given, facts_of = self.some_table()
-        why = some_facts(chance)
-        found = library.make("facts")
-        library.call("find_facts", *given, self.facts(why), first, found)
-        self.seen.equal("find_facts", values_of(found), tuple(getattr(facts_of(first, why), name) for name in FACTS))
+        """What changes nothing, of pages in a row."""
+        library, (given, facts_of) = self.library, self.some_table()
+        why = some_facts(self.chance)
         all_of, is_there = range(first, min(first + count, PAGES)), first + count <= PAGES
         due = is_there and all(self.known[it].may_go_on(facts_of(it, why)) for it in all_of)
         self.seen.equal("may_go_on", library.call("may_go_on", self.pages, PAGES, *given, self.facts(why), first, count), due)
@@ -218,8 +216,6 @@ class Table:
         self.seen.equal("are_movable", library.call("are_movable", self.pages, PAGES, *given, first, count), due)
         due = is_there and all(self.known[it].may_go_on(Facts()) for it in all_of)
         self.seen.equal("may_give_up", library.call("may_give_up", self.pages, PAGES, first, count), due)
-        is_copy = chance.random() < 0.5
-        self.seen.equal("stays", library.call("stays", self.pages[first], self.facts(why), is_copy), self.known[first].stays(why, is_copy))
 
     def ask_runs(self) -> None:
         """How far what is so of the first page goes on."""
@@ -236,60 +232,35 @@ class Table:
         whole = [self.chance.random() < 0.5 for _ in range(2)]
         return self.library.array("part", [(it, 0, 0, 0, 0, False, False, 0) for it in whole]), whole
 
-    def begun(self, whole: list[bool]) -> list[bool]:
-        """At which pages a mapping begins."""
-
-        def are_one(at: int) -> bool:
-            one, other = self.known[at - 1], self.known[at]
-            if one.over != other.over:
-                return False
-            if one.over:
-                return one.past == other.past and (one.clue + 1) % 32768 == other.clue
-            return one.moved == other.moved and not other.begins and whole[self.part_of(at - 1)] == whole[self.part_of(at)]
-
-        return [at == 0 or not are_one(at) for at in range(PAGES)]
-
     def mappings(self, first: int, count: int) -> None:
         """How many mappings the pages take, where some parts are whole."""
         parts, whole = self.some_parts()
-        due = sum(self.begun(whole)[first : first + count + 1])
         words = (self.pages, PAGES, parts, 2, LEAD, first, count)
-        self.seen.equal("mappings_at", self.library.call("mappings_at", *words), due)
+        self.seen.equal("mappings_at", self.library.call("mappings_at", *words), Mappings(self.known, whole, LEAD).begun(first, count))
 
     def zeros(self, first: int, count: int) -> None:
         """Whether there is room for zeros in place of pages, and how they are given up. Then zeros are put there, if the pages are there."""
         chance, (parts, whole) = self.chance, self.some_parts()
+        mappings = Mappings(self.known, whole, LEAD)
         words = (self.pages, PAGES, parts, 2, LEAD, first, count)
         behind, most, taken, is_watched = first + count, chance.randrange(6), chance.randrange(6), chance.random() < 0.5
         is_there = behind <= PAGES
-
-        def may_join(at: int) -> bool:
-            page = self.known[at]
-            return not page.over and not page.out and whole[self.part_of(at)] == whole[self.part_of(first)]
-
-        def joins(at: int) -> bool:
-            return may_join(at) and not self.known[at].moved
-
-        before = sum(self.begun(whole)[first : behind + 1])
-        after = int(first == 0 or not joins(first - 1)) + int(behind < PAGES and not joins(behind))
-        more = max(0, after - before)
-        has_room = is_there and (more == 0 or taken + more <= most)
-        self.seen.equal("has_room_for_zeros", self.library.call("has_room_for_zeros", *words, most, taken), has_room)
+        before = mappings.begun(first, count)
+        is_room = is_there and has_room(most, taken, mappings.zeros_more(first, count))
+        self.seen.equal("has_room_for_zeros", self.library.call("has_room_for_zeros", *words, most, taken), is_room)
         over = self.known[first].over
-        due = int((over or (not is_watched and before > 2)) and has_room) + 2 * int(over)
+        due = int((over or (not is_watched and before > 2)) and is_room) + 2 * int(over)
         self.seen.equal("given_up_by", self.library.call("given_up_by", *words, is_watched, most, taken), due)
-        is_said, mappings = chance.random() < 0.5, self.library.make("size_t")
-        mappings.value = before
-        called = self.library.call("put_zeros", self.pages, PAGES, self.parts, 2, LEAD, parts, 2, first, count, is_said, mappings)
+        is_said, taken_by = chance.random() < 0.5, self.library.make("size_t")
+        taken_by.value = before
+        called = self.library.call("put_zeros", self.pages, PAGES, self.parts, 2, LEAD, parts, 2, first, count, is_said, taken_by)
         if is_there:
-            alone = not (first > 0 and may_join(first - 1)) and not (behind < PAGES and may_join(behind))
-            moved = alone or not is_said
+            moved = mappings.are_alone(first, count) or not is_said
             for at, page in enumerate(self.known[first:behind]):
                 page.uncover(moved, moved and at == 0)
             if count and behind < PAGES:
                 self.known[behind].begin()
-        due = sum(self.begun(whole)[first : behind + 1])
-        self.seen.equal("put_zeros", (called, mappings.value), (is_there, due))
+        self.seen.equal("put_zeros", (called, taken_by.value), (is_there, mappings.begun(first, count)))
 
     # ---- all of them ----
 
@@ -297,38 +268,38 @@ class Table:
         """A call, after which the pages and the counts of their parts are as they are known."""
         at, which = self.chance.randrange(PAGES), self.chance.randrange(128)
         count = min(self.chance.randrange(PAGES + 1 - at), self.chance.choice([1, 2, 2, 8]))
-        if which < 12:
-            self.choose(at)
-        elif which < 50:
-            self.order(at)
-        elif which < 100:
-            self.take(at)
-        elif which < 102:
-            self.one_memory(at, count)
-        elif which < 106:
-            self.ask(at, self.chance.randrange(PAGES + 2))
+        if which < 40:
+            self.become(at, some_page(self.chance))
+        elif which < 52:
+            self.home(at, count)
+        elif which < 64:
+            self.ask(at, self.chance.choice([1, 1, 2, self.chance.randrange(PAGES + 2)]))
             self.ask_home(at, self.chance.randrange(PAGES + 2))
-        elif which < 108:
+        elif which < 68:
             self.mappings(at, self.chance.randrange(PAGES + 2))
             self.ask_runs()
-        elif which < 110:
+        elif which < 80:
             self.put(at, count)
-        elif which < 111:
+        elif which < 84:
+            self.one_memory(at, count)
+        elif which < 90:
             self.zeros(at, self.chance.randrange(PAGES + 2 - at))
-        elif which < 117:
+        elif which < 98:
             self.note(at)
-        elif which < 121:
+        elif which < 102:
+            self.changed(at)
+        elif which < 110:
+            self.give_back(at)
+        elif which < 114:
             self.look(at)
-        elif which < 125:
-            self.home(at, count)
         else:
             self.end(at, count)
         self.check(which)
 
     def check(self, which: int) -> None:
         self.seen.equal(f"the pages after {which}", values_of(self.pages), tuple(page.bytes() for page in self.known))
-        counts = [sums(self.known[:3]), sums(self.known[3:])]
-        self.seen.equal(f"the counts after {which}", values_of(self.parts), tuple(counts))
+        counts = self.sums()
+        self.seen.equal(f"the counts after {which}", values_of(self.parts), counts)
         self.kinds.update(kind for kind in range(5) if counts[0][kind] or counts[1][kind])
 
 
