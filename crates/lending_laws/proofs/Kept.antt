@@ -24,7 +24,7 @@ use Rattle.window_pages.specs.Changed.{left_alone}
 use Rattle.window_pages.specs.Laws.{new_page}
 use Rattle.window_pages.specs.Lives.{IsOthers, OneChanges, WasDetached, left_page}
 use Rattle.window_pages.specs.declared.page.WindowPage.{WindowPage}
-use Rattle.lending_laws.specs.Histories.{Begins, CallsAt, CarriedOut, CarriesOut, Given, Happens, History, IsToldAt, Moment, NextComes, Nothing, OneIs, Pending, Reads, begins, calls, carries_out, happens, is_told, next_comes}
+use Rattle.lending_laws.specs.Histories.{Begins, CallsAt, CarriedOut, CarriesOut, DetachesAt, Given, Happens, History, IsToldAt, LeftBeside, Moment, NextComes, Nothing, OneIs, Pending, Reads, begins, calls, carries_out, detaches, happens, is_told, left_beside, next_comes}
 use Rattle.lending_laws.specs.Reading.{EachBeliefIsRight, EachOrderIsDue, EachOrderIsPossible, EachPageIsRead, StartBegins}
 use Rattle.lending_laws.proofs.Pages.{event_reads, reads_right}
 use Rattle.lending_laws.proofs.Beliefs.{IsFine, at, call_fine, carried_fine, fine_moved, told_fine}
@@ -102,7 +102,7 @@ differs p q ne = pick (nat_eq p q) refl where
 given_fine : (p : ℕ) (b : Belief) (ordered : Bool) (w : Mappings) (pending : Pending) (order : Order) → pending ≡ Given order → IsFine p b ordered w pending → IsFine p b ordered w (Given order)
 given_fine p b ordered w pending order e f = subst (λ v. IsFine p b ordered w v) e f
 
-some_page : (pages : List WindowPage) (i : ℕ) → i < length pages → (x : WindowPage) × (slice_get pages i ≡ Some x)
+pub some_page : (pages : List WindowPage) (i : ℕ) → i < length pages → (x : WindowPage) × (slice_get pages i ≡ Some x)
 some_page [] i l = absurd (omega (arith, l))
 some_page (x ∷ pages) zero l = (x, refl)
 some_page (x ∷ pages) (suc i) l = some_page pages i (omega (arith, l))
@@ -219,12 +219,75 @@ next_kept first count old new h c = record {
       (left_is_right old.world.frames new.world.frames (c.world.stands i) r.page r.right) r.last);
 }
 
+-- ---- the lender of one page goes
+
+reads_same : (p x : ℕ) (now next : Mappings) → slice_get next.pages p ≡ slice_get now.pages p → next.frames ≡ now.frames → Reads now p x → Reads next p x
+reads_same p x now next e f r = reads_right next p x r.page (e ∙ r.there) (subst (λ v. IsRight v r.page) (sym f) r.right) r.last
+
+believes_same : (p : ℕ) (b : Belief) (now next : Mappings) → slice_get next.pages p ≡ slice_get now.pages p → Believes b now p → Believes b next p
+believes_same p b now next e r = record { page = r.page; there = e ∙ r.there; fits = r.fits }
+
+pub detached_kept : (first count k : ℕ) (old new : Moment) → IsKept first count old → DetachesAt first count k old new → IsKept first count new
+detached_kept first count k old new h c = record { many = c.pages.count ∙ h.many; fine = fine; reads = λ i l. subst (λ s. Reads new.world (first + i) (s (first + i))) (sym c.stored) (reads i l) } where
+  there : (i : ℕ) → (i ≡ k → ⊥) → slice_get new.world.pages (first + i) ≡ slice_get old.world.pages (first + i)
+  there i ne = c.world.others (first + i) (λ s. ne (omega (arith, s)))
+
+  right : Believes (belief_of c.before) old.world (first + k)
+  right = fine_right (first + k) (belief_of c.before) (known_of c.before).ordered old.world (old.orders k) (λ order s. c.told order s) (h.fine k c.before c.pages.before)
+
+  own : IsFine (first + k) (belief_of c.after) (known_of c.after).ordered new.world Nothing
+  own =
+      let d : WasDetached k old.pages c.after = record { page = c.before; before = c.pages.before; part = c.part; after = c.part_after; becomes = c.becomes } in
+      (ap (λ v. v.ordered) c.becomes.known, left_right (first + k) k old.pages c.after old.world new.world c.world.stands d c.world.page right)
+
+  fine : (i : ℕ) (x : WindowPage) → slice_get new.pages i ≡ Some x → IsFine (first + i) (belief_of x) (known_of x).ordered new.world (new.orders i)
+  fine i x e = pick (nat_eq i k) refl where
+    pick : (t : Bool) → nat_eq i k ≡ t → IsFine (first + i) (belief_of x) (known_of x).ordered new.world (new.orders i)
+    pick true t =
+        let is : i ≡ k = eqb-true i k t in
+        let its : slice_get new.pages k ≡ Some x = ap (λ j. slice_get new.pages j) (sym is) ∙ e in
+        let placed : slice_get new.pages k ≡ Some c.after = c.pages.after in
+        let same : c.after ≡ x = cc in
+        let at_k : IsFine (first + k) (belief_of x) (known_of x).ordered new.world (new.orders k) =
+        subst (λ v. IsFine (first + k) (belief_of v) (known_of v).ordered new.world (new.orders k)) same (subst (λ v. IsFine (first + k) (belief_of c.after) (known_of c.after).ordered new.world v) (sym c.orders.own) own) in
+        subst (λ j. IsFine (first + j) (belief_of x) (known_of x).ordered new.world (new.orders j)) (sym is) at_k
+    pick false t =
+        let ne : i ≡ k → ⊥ = eqb-false i k t in
+        subst (λ v. IsFine (first + i) (belief_of x) (known_of x).ordered new.world v) (sym (c.orders.others i ne))
+        (fine_moved (first + i) (belief_of x) (known_of x).ordered old.world new.world (old.orders i) (λ b r. believes_same (first + i) b old.world new.world (there i ne) r) (h.fine i x (sym (c.pages.others i ne) ∙ e)))
+
+  reads : (i : ℕ) → i < count → Reads new.world (first + i) (old.stored (first + i))
+  reads i l = pick (nat_eq i k) refl where
+    pick : (t : Bool) → nat_eq i k ≡ t → Reads new.world (first + i) (old.stored (first + i))
+    pick true t =
+        let r : Reads old.world (first + k) (old.stored (first + k)) = h.reads k c.within in
+        let placed : slice_get new.world.pages (first + k) ≡ Some (left_page old.world.frames c.world.stands r.page) = c.world.page ∙ ap (option_map (left_page old.world.frames c.world.stands)) r.there in
+        let at_k : Reads new.world (first + k) (old.stored (first + k)) =
+        reads_right new.world (first + k) (old.stored (first + k)) (left_page old.world.frames c.world.stands r.page) placed (left_is_right old.world.frames new.world.frames c.world.stands r.page r.right) r.last in
+        subst (λ j. Reads new.world (first + j) (old.stored (first + j))) (sym (eqb-true i k t)) at_k
+    pick false t = reads_same (first + i) (old.stored (first + i)) old.world new.world (there i (eqb-false i k t)) c.world.frames (h.reads i l)
+
+beside_kept : (first count : ℕ) (old new : Moment) → IsKept first count old → LeftBeside first count old new → IsKept first count new
+beside_kept first count old new h c = record {
+  many = ap length c.pages ∙ h.many;
+  fine = λ i x e.
+      let its : slice_get old.pages i ≡ Some x = subst (λ v. slice_get v i ≡ Some x) c.pages e in
+      let n : i < count = omega (arith, slice_get_within old.pages i x its, h.many) in
+      subst (λ o. IsFine (first + i) (belief_of x) (known_of x).ordered new.world (o i)) (sym c.orders)
+      (fine_moved (first + i) (belief_of x) (known_of x).ordered old.world new.world (old.orders i) (λ b r. believes_same (first + i) b old.world new.world (there i n) r) (h.fine i x its));
+  reads = λ i l. subst (λ s. Reads new.world (first + i) (s (first + i))) (sym c.stored) (reads_same (first + i) (old.stored (first + i)) old.world new.world (there i l) c.world.frames (h.reads i l));
+} where
+  there : (i : ℕ) → i < count → slice_get new.world.pages (first + i) ≡ slice_get old.world.pages (first + i)
+  there i n = c.world.others (first + i) (λ s. c.others i n s)
+
 pub history_kept : (may_give : (ℕ → Bool) → ℕ → Bool) (first count : ℕ) (m : Moment) → History may_give first count m → IsKept first count m
 history_kept may_give first count m (begins its b) = begins_kept first count its b
 history_kept may_give first count m (calls old new i h c) = calls_kept first count old new i (history_kept may_give first count old h) c
 history_kept may_give first count m (carries_out old new i h c) = carried_kept first count old new i (history_kept may_give first count old h) c
 history_kept may_give first count m (is_told old new i h c) = told_kept first count may_give old new i (history_kept may_give first count old h) c
 history_kept may_give first count m (happens old new h c) = happens_kept first count old new (history_kept may_give first count old h) c
+history_kept may_give first count m (detaches old new i h c) = detached_kept first count i old new (history_kept may_give first count old h) c
+history_kept may_give first count m (left_beside old new h c) = beside_kept first count old new (history_kept may_give first count old h) c
 history_kept may_give first count m (next_comes old new h c) = next_kept first count old new (history_kept may_give first count old h) c
 
 -- ---- the law

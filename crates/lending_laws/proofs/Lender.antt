@@ -1,6 +1,7 @@
 -- Calls for many pages at once are calls of a history, one page after another.
 use Rattle.lend_steps.specs.Copies.{CameOfCopy, ChosenFor, ToCopy, is_changed, is_chosen, is_good, is_left, is_nothing, is_zeros}
 use Rattle.lend_steps.specs.Asks.{Answered, InVain, ToAsk, is_asked as is_question, is_crowded, is_found, is_in_vain, is_left_out, is_not_free, sees}
+use Rattle.lend_steps.specs.Holds.{ToGiveBack, ToHold, can_hold, has_loan, is_crowded_out, is_given_back, is_kept, is_ordered, is_passed_by, is_refused}
 use Rattle.lend_steps.specs.Lists.{Deed, Told, is_not_there, is_there, Turn}
 use Rattle.lend_steps.specs.Loans.{CameOfLoan, NotLent, is_given, is_unheard, is_without_frame, is_without_slot}
 use Rattle.lend_steps.specs.Releases.{OrderedTo, asks, at_once, is_hold, passes, refused_first, FindsAt}
@@ -20,7 +21,7 @@ use Rattle.page_holds.specs.declared.place.Taking.{Taking}
 use Rattle.page_holds.specs.declared.place.Taking.TheVariants.{Refused as NotTaken, Watched, Guarded as TakenGuarded, Aside as TakenAside}
 use Rattle.page_holds.specs.declared.rows.run.RowOrder.{RowOrder}
 use Rattle.page_lender.specs.Calls.{IsDone, IsOrdered, order_due}
-use Rattle.page_lender.specs.Decisions.{is_busy, shows, waiting}
+use Rattle.page_lender.specs.Decisions.{is_busy, is_given as is_order, shows, waiting}
 use Rattle.page_lender.specs.declared.bars.Bars.{Bars}
 use Rattle.page_lender.specs.declared.belief.Belief.{Belief}
 use Rattle.page_lender.specs.declared.belief.Target.TheVariants.{Frame}
@@ -35,7 +36,7 @@ use Rattle.page_looks.specs.declared.finds.step.Memory.{Memory}
 use Rattle.part_scans.specs.Scans.{BeginsAt, FollowsAt, GoesOn, GoesOnAt, IsTaken, follows, is_beside, memory_at, no_outcome, sight_at, takes as takes_page, RowGoes}
 use Rattle.part_scans.specs.Seen.{has_step, seen_in}
 use Rattle.part_scans.specs.declared.scan.Scan.{Scan}
-use Rattle.std.proofs.Common.{◌≡◌, ◌∙◌, ℕ, zero, suc, ◌+◌, ◌-◌, ◌<◌, ◌≤◌, ◌⊎◌, inl, inr, Bool, true, false, ◌&&◌, ◌||◌, cond, List, [], ◌∷◌, ◌++◌, length, Some, None, refl, ap, sym, subst, arith}
+use Rattle.std.proofs.Common.{◌≡◌, ◌∙◌, ℕ, zero, suc, ◌+◌, ◌-◌, ◌<◌, ◌≤◌, ◌⊎◌, inl, inr, Bool, true, false, not, ◌&&◌, ◌||◌, cond, List, [], ◌∷◌, ◌++◌, length, Some, None, refl, ap, sym, subst, arith}
 use Rattle.std.proofs.Math.Seq.{set-append_seam}
 use Rattle.std.proofs.lemmas.Bool.{cases_lt, eqb-false, eqb-true, leb-true}
 use Rattle.std.proofs.lemmas.Option.{slice_get-get_or, slice_get_within}
@@ -45,7 +46,7 @@ use Rattle.window_events.specs.declared.page.Page.{Page}
 use Rattle.window_pages.specs.Bytes.{belief_of, known_of}
 use Rattle.window_pages.specs.Changed.{given_back, lender_with, Lends}
 use Rattle.window_pages.specs.Counted.{counts_then}
-use Rattle.window_pages.specs.Known.{bars_of, lender_of, no_bars, takes}
+use Rattle.window_pages.specs.Known.{bars_of, chosen_as, lender_of, no_bars, takes}
 use Rattle.window_pages.specs.Laws.{no_counts}
 use Rattle.window_pages.specs.Lives.{OneChanges}
 use Rattle.window_pages.specs.declared.counts.PartCounts.{PartCounts}
@@ -216,7 +217,7 @@ own_pending i pending before = pick (nat_eq i i) refl where
   pick true e = refl
   pick false e = absurd (eqb-false i i e refl)
 
-other_pending : (i j : ℕ) (pending before : Pending) → (j ≡ i → ⊥) → cond (nat_eq j i) pending before ≡ before
+pub other_pending : (i j : ℕ) (pending before : Pending) → (j ≡ i → ⊥) → cond (nat_eq j i) pending before ≡ before
 other_pending i j pending before n = pick (nat_eq j i) refl where
   pick : (b : Bool) → nat_eq j i ≡ b → cond b pending before ≡ before
   pick true e = absurd (n (eqb-true j i e))
@@ -647,16 +648,17 @@ told_of g first i m x y its part after e t so = pick (takes its (known_of x)) re
   pick true is = told_now g first i m x y its part after (so x e is) (t.done is) e
   pick false is = stays_now g first i m x y e (ap known_of (t.page is))
 
-chosen_turn : (g : (ℕ → Bool) → ℕ → Bool) (first i : ℕ) (m : Moment) (x y : WindowPage) (facts : WindowFacts) (order : Order) (part after : PartCounts) → slice_get m.pages i ≡ Some x → ChosenFor facts order x y part after → Turns g first m i y
-chosen_turn g first i m x y facts order part after e c =
+chosen_turn : (g : (ℕ → Bool) → ℕ → Bool) (first i : ℕ) (m : Moment) (x y : WindowPage) (facts : WindowFacts) (zeros : Bool) (order : Order) (part after : PartCounts) → slice_get m.pages i ≡ Some x → ChosenFor (chosen_as zeros) facts order x y part after →
+    Turns g first m i y
+chosen_turn g first i m x y facts zeros order part after e c =
     let t : Turns g first m i c.between = one_call g first i m x c.between (m.orders i) e
-    (made.chooses x c.between part c.part_between false (bars_of facts (known_of x)) (m.orders i) c.chosen) in
+    (made.chooses x c.between part c.part_between zeros (bars_of facts (known_of x)) (m.orders i) c.chosen) in
     and_then g first i m x c.between y e t (order_turn g first i t.new c.between y c.part_between after order (bars_of facts (known_of c.between)) c.ordered)
 
 pub each_choice_goes : EachChoiceGoes
 each_choice_goes g first lead number fingerprint answer facts is_ready m new parts parts_new (is_there c) = turn_reaches g first number m c.after new (turn c.becomes) c.changed where
   turn : ToCopy facts is_ready fingerprint answer c.before c.after c.part c.part_after → Turns g first m number c.after
-  turn (is_chosen order can chosen said) = chosen_turn g first number m c.before c.after facts order c.part c.part_after c.is_there chosen
+  turn (is_chosen order can chosen said) = chosen_turn g first number m c.before c.after facts false order c.part c.part_after c.is_there chosen
   turn (is_left can said same counts) = stays_now g first number m c.before c.after c.is_there (ap known_of same)
 each_choice_goes g first lead number fingerprint answer facts is_ready m new parts parts_new (is_not_there l said same counts) = none_reaches g first m new same
 
@@ -730,6 +732,65 @@ pub each_release_order_goes : EachReleaseOrderGoes
 each_release_order_goes g first lead place room count count_new facts pins m new parts parts_new places places_new (passes p n same counts said) = none_reaches g first m new same
 each_release_order_goes g first lead place room count count_new facts pins m new parts parts_new places places_new (asks is l p c n said) =
     turn_reaches g first place m c.after new (ordered_to_turn g first place m c.before c.after facts c.becomes.order c.part c.part_after c.is_there c.becomes.ordered) c.changed
+
+-- ---- pages that are held
+
+-- an order that was given is pending
+given_order : (order : Order) (before : Pending) → is_order order ≡ true → pending_after order before ≡ Given order
+given_order Order.Wait before e = cc
+given_order Order.Copy before e = refl
+given_order Order.Lend before e = refl
+given_order (Order.Hold target) before e = refl
+given_order (Order.Compare target) before e = refl
+given_order (Order.Map target) before e = refl
+given_order (Order.LetGo target) before e = refl
+given_order (Order.TakeHome in_place) before e = refl
+given_order (Order.Release slot) before e = refl
+
+-- the order that a page just got may be refused at once
+refused_so : (g : (ℕ → Bool) → ℕ → Bool) (i : ℕ) (m : Moment) (x one : WindowPage) (facts : WindowFacts) (order : Order) (part part_one : PartCounts) → slice_get m.pages i ≡ Some x → (known_of x).ordered ≡ false →
+    Lends (IsOrdered order) (bars_of facts (known_of x)) x one part part_one → IsSoOf g (after_call m i one (pending_after order (m.orders i))) i Refused
+refused_so g i m x one facts order part part_one e free l z at k = pick (is_order order) refl where
+  then : Moment
+  then = after_call m i one (pending_after order (m.orders i))
+
+  is : z ≡ one
+  is = some_same z one (sym at ∙ set_own m.pages i x one e)
+
+  first_of : (a b : Bool) → (a && b) ≡ true → a ≡ true
+  first_of true b h = refl
+  first_of false b h = cc
+
+  not_both : (b : Bool) → b ≡ true → b ≡ false → ⊥
+  not_both b h f = cc
+
+  ordered : (known_of one).ordered ≡ true
+  ordered = subst (λ v. (known_of v).ordered ≡ true) is (first_of (known_of z).ordered _ k)
+
+  pick : (b : Bool) → is_order order ≡ b → IsSo g then i z Refused
+  pick true h =
+      let given : then.orders i ≡ Given order = own_pending i (pending_after order (m.orders i)) (m.orders i) ∙ given_order order (m.orders i) h in
+      record { order = order; told = given; noted = λ slot n c. absurd (not_carried order (Map (Frame slot n)) (sym given ∙ c)); gives = tt }
+  pick false h = absurd (not_both (known_of one).ordered ordered (l.lender.ordered ∙ ap (λ v. v || is_order order) free ∙ h))
+
+hold_turn : (g : (ℕ → Bool) → ℕ → Bool) (first i : ℕ) (m : Moment) (x y : WindowPage) (facts : WindowFacts) (is_split : Bool) (answer : ℕ) (part after : PartCounts) → slice_get m.pages i ≡ Some x →
+    ToHold facts is_split answer x y part after → Turns g first m i y
+hold_turn g first i m x y facts is_split answer part after e (is_ordered order can l h said) = order_turn g first i m x y part after order (bars_of facts (known_of x)) l m refl refl refl e
+hold_turn g first i m x y facts is_split answer part after e (is_refused order one part_one can l h t said) =
+    let pending : Pending = pending_after order (m.orders i) in
+    let then : Moment = after_call m i one pending in
+    call_then g first i m x one y pending e (made.orders x one part part_one order (bars_of facts (known_of x)) (m.orders i) l)
+    (told_of g first i then one y Refused part_one after (set_own m.pages i x one e) t (refused_so g i m x one facts order part part_one e (not_ordered (known_of x).ordered (has_loan (known_of x).belief) can) l)) where
+      not_ordered : (a b : Bool) → (not a && b) ≡ true → a ≡ false
+      not_ordered true b h = cc
+      not_ordered false b h = refl
+hold_turn g first i m x y facts is_split answer part after e (is_passed_by can said same counts) = stays_now g first i m x y e (ap known_of same)
+
+give_back_turn : (g : (ℕ → Bool) → ℕ → Bool) (first i : ℕ) (m : Moment) (x y : WindowPage) (facts : WindowFacts) (is_split has_room : Bool) (answer : ℕ) (part after : PartCounts) → slice_get m.pages i ≡ Some x →
+    ToGiveBack facts is_split has_room answer x y part after → Turns g first m i y
+give_back_turn g first i m x y facts is_split has_room answer part after e (is_given_back order can r c said) = chosen_turn g first i m x y facts true order part after e c
+give_back_turn g first i m x y facts is_split has_room answer part after e (is_crowded_out can r said n) = stays_now g first i m x y e n.known
+give_back_turn g first i m x y facts is_split has_room answer part after e (is_kept can said same counts) = stays_now g first i m x y e (ap known_of same)
 
 -- ---- scans
 
@@ -900,7 +961,6 @@ call_reaches g first count m new h (call.begins_row lead from takings row row_ne
 call_reaches g first count m new h (call.orders_row lead from table pins row order parts parts_new c) = each_row_order_goes g first lead from table pins row order m new parts parts_new c
 call_reaches g first count m new h (call.row_done lead from begin done refused row row_new parts parts_new c t) = each_row_step_goes g first lead from begin done refused m new parts parts_new row row_new c t
 call_reaches g first count m new h (call.of_page i x y pending e n c) = turn_reaches g first i m y new (one_call g first i m x y pending e c) n
-call_reaches g first count m new h (call.told_of_page i x y outcome part part_new e n d t) = turn_reaches g first i m y new (told_now g first i m x y outcome part part_new t d e) n
 call_reaches g first count m new h (call.to_ask lead number answer facts has_room is_passing parts parts_new c) =
     list_reaches g first lead number answer (λ said x y p q. ToAsk facts has_room is_passing said x y p q) m new parts parts_new c
     (λ x y part after e d. asked_turn g first number m x y facts has_room is_passing answer part after e d)
@@ -910,6 +970,11 @@ call_reaches g first count m new h (call.answered lead number fingerprint answer
 call_reaches g first count m new h (call.to_copy lead number fingerprint answer facts is_ready parts parts_new c) = each_choice_goes g first lead number fingerprint answer facts is_ready m new parts parts_new c
 call_reaches g first count m new h (call.copied lead number answer facts came parts parts_new c t) = each_copy_goes g first lead number answer facts came m new parts parts_new c t
 call_reaches g first count m new h (call.loaned lead number frames answer reply parts parts_new c t) = each_loan_goes g first lead number frames answer reply m new parts parts_new c t
+call_reaches g first count m new h (call.to_hold lead number answer facts is_split parts parts_new c) =
+    list_reaches g first lead number answer (ToHold facts is_split) m new parts parts_new c (λ x y part after e d. hold_turn g first number m x y facts is_split answer part after e d)
+call_reaches g first count m new h (call.to_give_back lead number answer facts is_split has_room parts parts_new c) =
+    list_reaches g first lead number answer (ToGiveBack facts is_split has_room) m new parts parts_new c
+    (λ x y part after e d. give_back_turn g first number m x y facts is_split has_room answer part after e d)
 call_reaches g first count m new h (call.to_release lead place room n n_new facts pins places places_new parts parts_new c) =
     each_release_order_goes g first lead place room n n_new facts pins m new parts parts_new places places_new c
 call_reaches g first count m new h (call.released lead number answer outcome parts parts_new c t) = each_release_goes g first lead number answer outcome m new parts parts_new c t

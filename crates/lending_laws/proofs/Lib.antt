@@ -1,4 +1,5 @@
 pub mod Beliefs
+pub mod Ends
 pub mod Holds
 pub mod Kept
 pub mod Lender

@@ -19,7 +19,7 @@ use Rattle.page_lender.proofs.Kept.{set_own}
 use Rattle.window_pages.specs.Bytes.{belief_of, known_of}
 use Rattle.window_pages.specs.Lives.{IsOthers, OneChanges, WasDetached, left_page}
 use Rattle.window_pages.specs.declared.page.WindowPage.{WindowPage}
-use Rattle.lending_laws.specs.Histories.{Begins, Calls, CallsAt, CarriedOut, CarriesOut, Given, Happens, History, IsToldAt, Moment, NextComes, Nothing, Pending, begins, calls, carries_out, chooses, gives_up, happens, hears, is_told, next_comes, notes, orders}
+use Rattle.lending_laws.specs.Histories.{Begins, Calls, CallsAt, CarriedOut, CarriesOut, DetachesAt, Given, Happens, History, IsToldAt, LeftBeside, Moment, NextComes, Nothing, Pending, begins, calls, carries_out, chooses, detaches, gives_up, happens, hears, is_told, left_beside, next_comes, notes, orders}
 use Rattle.lending_laws.specs.Reading.{EachFrameIsNoted}
 use Rattle.lending_laws.proofs.Beliefs.{IsFine, call_unmoved}
 use Rattle.lending_laws.proofs.Kept.{IsKept, differs, history_kept}
@@ -341,12 +341,36 @@ next_noted first count old new k c = record {
       absurd (bare_page new.world (first + i) (left_page old.world.frames (c.world.stands i) r.page) there refl s);
 }
 
+bare_same : (p : ℕ) (now next : Mappings) → slice_get next.pages p ≡ slice_get now.pages p → bare_at next p ≡ bare_at now p
+bare_same p now next e = ap (λ o. option_map_or (λ page. is_bare page.view) o false) e
+
+detached_noted : (first count k : ℕ) (old new : Moment) → IsKept first count old → AreNoted first old → DetachesAt first count k old new → AreNoted first new
+detached_noted first count k old new f h c = record { noted = λ i x e s n. pick i x e s n (nat_eq i k) refl } where
+  pick : (i : ℕ) (x : WindowPage) → slice_get new.pages i ≡ Some x → bare_at new.world (first + i) ≡ true → IsNotMapped (new.orders i) → (t : Bool) → nat_eq i k ≡ t → (known_of x).over ≡ true
+  pick i x e s n true t =
+      let r = f.reads k c.within in
+      let there : slice_get new.world.pages (first + k) ≡ Some (left_page old.world.frames c.world.stands r.page) = c.world.page ∙ ap (option_map (left_page old.world.frames c.world.stands)) r.there in
+      absurd (bare_page new.world (first + k) (left_page old.world.frames c.world.stands r.page) there refl (subst (λ j. bare_at new.world (first + j) ≡ true) (eqb-true i k t) s))
+  pick i x e s n false t =
+      let ne : i ≡ k → ⊥ = eqb-false i k t in
+      h.noted i x (sym (c.pages.others i ne) ∙ e) (sym (bare_same (first + i) old.world new.world (c.world.others (first + i) (λ f. ne (omega (arith, f))))) ∙ s) (subst (λ v. IsNotMapped v) (c.orders.others i ne) n)
+
+beside_noted : (first count : ℕ) (old new : Moment) → IsKept first count old → AreNoted first old → LeftBeside first count old new → AreNoted first new
+beside_noted first count old new f h c = record {
+  noted = λ i x e s n.
+      let its : slice_get old.pages i ≡ Some x = subst (λ v. slice_get v i ≡ Some x) c.pages e in
+      let l : i < count = omega (arith, slice_get_within old.pages i x its, f.many) in
+      h.noted i x its (sym (bare_same (first + i) old.world new.world (c.world.others (first + i) (λ q. c.others i l q))) ∙ s) (subst (λ o. IsNotMapped (o i)) c.orders n);
+}
+
 are_noted : (may_give : (ℕ → Bool) → ℕ → Bool) (first count : ℕ) (m : Moment) → History may_give first count m → AreNoted first m
 are_noted may_give first count m (begins its b) = begins_noted first count its (history_kept may_give first count its (begins its b)) b
 are_noted may_give first count m (calls old new i h c) = calls_noted first count i old new (history_kept may_give first count old h) (are_noted may_give first count old h) c
 are_noted may_give first count m (carries_out old new i h c) = carried_noted first count i old new (are_noted may_give first count old h) c
 are_noted may_give first count m (is_told old new i h c) = told_noted may_give first i old new (are_noted may_give first count old h) c
 are_noted may_give first count m (happens old new h c) = happens_noted first count old new (history_kept may_give first count old h) (are_noted may_give first count old h) c
+are_noted may_give first count m (detaches old new i h c) = detached_noted first count i old new (history_kept may_give first count old h) (are_noted may_give first count old h) c
+are_noted may_give first count m (left_beside old new h c) = beside_noted first count old new (history_kept may_give first count old h) (are_noted may_give first count old h) c
 are_noted may_give first count m (next_comes old new h c) = next_noted first count old new (history_kept may_give first count old h) c
 
 pub each_frame_is_noted : EachFrameIsNoted

@@ -34,16 +34,16 @@ of_others {A} j k own before n = pick (nat_eq j k) refl where
   pick true e = absurd (n (eqb-true j k e))
   pick false e = refl
 
-is_there : (k : ℕ) (m : Moment) (x : Process) → moment_of k (with_window k m x) ≡ m
+pub is_there : (k : ℕ) (m : Moment) (x : Process) → moment_of k (with_window k m x) ≡ m
 is_there k m x = pick (nat_eq k k) refl where
   pick : (b : Bool) → nat_eq k k ≡ b → record { pages = cond b m.pages (x.pages k); orders = cond b m.orders (x.orders k); slots = cond b m.slots (x.slots k); stored = m.stored; world = m.world } ≡ m
   pick true e = refl
   pick false e = absurd (eqb-false k k e refl)
 
-others_stay : (k : ℕ) (m : Moment) (x : Process) → OthersStay k x (with_window k m x)
+pub others_stay : (k : ℕ) (m : Moment) (x : Process) → OthersStay k x (with_window k m x)
 others_stay k m x j n = record { is_open = refl; pages = of_others j k m.pages (x.pages j) n; orders = of_others j k m.orders (x.orders j) n; slots = of_others j k m.slots (x.slots j) n }
 
-both_stay : (k : ℕ) (a b c : Process) → OthersStay k a b → OthersStay k b c → OthersStay k a c
+pub both_stay : (k : ℕ) (a b c : Process) → OthersStay k a b → OthersStay k b c → OthersStay k a c
 both_stay k a b c s t j n = record {
   is_open = (t j n).is_open ∙ (s j n).is_open;
   pages = (t j n).pages ∙ (s j n).pages;
@@ -101,12 +101,12 @@ told_in f k i x old new g h s t = record {
 -- ---- what a window goes through
 
 -- The process is at a moment of its history, where window k is at this one.
-record ProcessAt (f : Bool) (spans : ℕ → Span) (k : ℕ) (old : Process) (m : Moment) : Type 0 where
-  new : Process
-  history : ProcessHistory f spans new
-  at : moment_of k new ≡ m
-  is_open : new.is_open k ≡ true
-  others : OthersStay k old new
+pub record ProcessAt (f : Bool) (spans : ℕ → Span) (k : ℕ) (old : Process) (m : Moment) : Type 0 where
+  pub new : Process
+  pub history : ProcessHistory f spans new
+  pub at : moment_of k new ≡ m
+  pub is_open : new.is_open k ≡ true
+  pub others : OthersStay k old new
 
 window_goes : (f : Bool) (spans : ℕ → Span) (k : ℕ) (x : Process) (g : (ℕ → Bool) → ℕ → Bool) (m : Moment) → ProcessHistory f spans x → x.is_open k ≡ true → GivesFor f k x g →
     Goes g (spans k).first (moment_of k x) m → ProcessAt f spans k x m
@@ -137,7 +137,7 @@ window_goes f spans k x g m h o a (goes_told now next i s t) =
     }
 
 -- what is kept of window k alone is kept of it in the process
-kept_in : (f : Bool) (spans : ℕ → Span) (k : ℕ) (x : Process) → ProcessHistory f spans x → x.is_open k ≡ true → IsKept (spans k).first (spans k).count (moment_of k x)
+pub kept_in : (f : Bool) (spans : ℕ → Span) (k : ℕ) (x : Process) → ProcessHistory f spans x → x.is_open k ≡ true → IsKept (spans k).first (spans k).count (moment_of k x)
 kept_in f spans k x h o =
     let alone : IsAlone f spans k x = each_window_is_alone f spans k x h o in
     let kept : IsKept (spans k).first (spans k).count (moment_with k alone.stored x) = history_kept (may_give f) (spans k).first (spans k).count (moment_with k alone.stored x) alone.history in

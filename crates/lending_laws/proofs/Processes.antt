@@ -15,8 +15,8 @@ use Rattle.window_events.specs.declared.event.Event.{Event}
 use Rattle.window_pages.specs.Bytes.{belief_of}
 use Rattle.window_pages.specs.declared.page.WindowPage.{WindowPage}
 use Rattle.lending_laws.specs.Histories as own
-use Rattle.lending_laws.specs.Histories.{Begins, CallsAt, CarriesOut, Given, History, IsToldAt, NextComes, Pending, Reads, slots_after, stored_after}
-use Rattle.lending_laws.specs.Processes.{Closes, EachPageOfAllIsRead, EachSlotIsOneWindows, EachWindowIsAlone, GivesApart, HappensBeside, IsAlone, IsToldIn, LieApart, NoSlotOfAllIsLost, NoneOfAllIsReleasedShown, Opens, OthersStay, Process, ProcessHistory, Span, WindowStays, begins, calls, carries_out, closes, happens, is_told, may_give, moment_of, moment_with, next_comes, opens}
+use Rattle.lending_laws.specs.Histories.{Begins, CallsAt, CarriesOut, DetachesAt, Given, History, IsToldAt, NextComes, Pending, Reads, slots_after, stored_after}
+use Rattle.lending_laws.specs.Processes.{Closes, EachPageOfAllIsRead, EachSlotIsOneWindows, EachWindowIsAlone, GivesApart, HappensBeside, IsAlone, IsToldIn, LieApart, NoSlotOfAllIsLost, NoneOfAllIsReleasedShown, Opens, OthersStay, Process, ProcessHistory, Span, WindowStays, begins, calls, carries_out, closes, detaches, happens, is_told, may_give, moment_of, moment_with, next_comes, opens}
 use Rattle.lending_laws.specs.Slots.{slot_of}
 use Rattle.lending_laws.proofs.Kept.{differs, each_order_is_due, each_page_is_read}
 use Rattle.lending_laws.proofs.Outcomes.{Apart, apart_own, done_apart, unstored}
@@ -156,6 +156,43 @@ alone_happens f spans k old new o c a = record {
   });
 }
 
+alone_detaches : (f : Bool) (spans : ℕ → Span) (k i : ℕ) (old new : Process) → DetachesAt (spans k).first (spans k).count i (moment_of k old) (moment_of k new) → IsAlone f spans k old → IsAlone f spans k new
+alone_detaches f spans k i old new c a = record {
+  stored = a.stored;
+  agrees = λ n l. a.agrees n l ∙ ap (λ v. v ((spans k).first + n)) (sym c.stored);
+  history = own.detaches (moment_with k a.stored old) (moment_with k a.stored new) i a.history (record {
+    within = c.within;
+    told = c.told;
+    before = c.before;
+    after = c.after;
+    part = c.part;
+    part_after = c.part_after;
+    pages = c.pages;
+    becomes = c.becomes;
+    orders = c.orders;
+    slots = c.slots;
+    stored = refl;
+    world = c.world;
+  });
+}
+
+-- the lender of a page of window k goes, beside window j
+alone_left : (f : Bool) (spans : ℕ → Span) (k j i : ℕ) (old new : Process) → WindowStays j old new → LieApart (spans k) (spans j) →
+    DetachesAt (spans k).first (spans k).count i (moment_of k old) (moment_of k new) → IsAlone f spans j old → IsAlone f spans j new
+alone_left f spans k j i old new s d c a = record {
+  stored = a.stored;
+  agrees = λ n l. a.agrees n l ∙ ap (λ v. v ((spans j).first + n)) (sym c.stored);
+  history = own.left_beside (moment_with j a.stored old) (moment_with j a.stored new) a.history (record {
+    p = (spans k).first + i;
+    others = λ n l e. d i n c.within l (sym e);
+    pages = s.pages;
+    orders = s.orders;
+    slots = s.slots;
+    stored = refl;
+    world = c.world;
+  });
+}
+
 alone_next : (f : Bool) (spans : ℕ → Span) (k : ℕ) (old new : Process) → NextComes (spans k).first (spans k).count (moment_of k old) (moment_of k new) → IsAlone f spans k old → IsAlone f spans k new
 alone_next f spans k old new c a = record {
   stored = a.stored;
@@ -207,6 +244,7 @@ open_apart f spans x (calls old new m i h o s c) = fewer_apart spans old new (λ
 open_apart f spans x (carries_out old new m i h o s c) = fewer_apart spans old new (λ j. was_open m j old new o.before s) (open_apart f spans old h)
 open_apart f spans x (is_told old new m i h o s c) = fewer_apart spans old new (λ j. was_open m j old new o.before s) (open_apart f spans old h)
 open_apart f spans x (happens old new h c) = fewer_apart spans old new (λ j o. sym (c.windows j).is_open ∙ o) (open_apart f spans old h)
+open_apart f spans x (detaches old new m i h o s c) = fewer_apart spans old new (λ j. was_open m j old new o.before s) (open_apart f spans old h)
 open_apart f spans x (next_comes old new h c) = fewer_apart spans old new (λ j o. sym (c.is_open j) ∙ o) (open_apart f spans old h)
 
 -- ---- each is alone
@@ -242,6 +280,10 @@ each_window_is_alone f spans k x (is_told old new m i h b s c) o =
 each_window_is_alone f spans k x (happens old new h c) o =
     let was : old.is_open k ≡ true = sym (c.windows k).is_open ∙ o in
     alone_happens f spans k old new was c (each_window_is_alone f spans k old h was)
+each_window_is_alone f spans k x (detaches old new m i h b s c) o =
+    either f spans k m new (alone_detaches f spans m i old new c (each_window_is_alone f spans m old h b.before))
+    (λ ne. alone_left f spans m k i old new (s k ne) (open_apart f spans old h m k (λ e. ne (sym e)) b.before (sym (s k ne).is_open ∙ o)) c
+    (each_window_is_alone f spans k old h (sym (s k ne).is_open ∙ o)))
 each_window_is_alone f spans k x (next_comes old new h c) o =
     let was : old.is_open k ≡ true = sym (c.is_open k) ∙ o in
     alone_next f spans k old new (c.each k was) (each_window_is_alone f spans k old h was)
@@ -328,6 +370,12 @@ after_had slots m s (Order.Release slot) outcome g e = inl (released_had (slots 
 told_had : (m i : ℕ) (old new : Process) → IsToldIn true m i old new → HadOrFree m old new
 told_had m i old new c slot e = after_had old.slots m slot c.told.order c.told.outcome c.apart (ap (λ v. v slot) (sym c.told.slots) ∙ e)
 
+detached_had : (m i : ℕ) (spans : ℕ → Span) (old new : Process) → DetachesAt (spans m).first (spans m).count i (moment_of m old) (moment_of m new) → HadOrFree m old new
+detached_had m i spans old new c slot e = inl (pick (account (belief_of c.before)) (ap (λ v. v slot) (sym c.slots) ∙ e)) where
+  pick : (o : Option ℕ) → own.without_account o (old.slots m) slot ≡ true → old.slots m slot ≡ true
+  pick None e = e
+  pick (Some its) e = released_had (old.slots m) its slot Done e
+
 free_apart : (x : Process) → ((k s : ℕ) → x.slots k s ≡ false) → SlotsApart x
 free_apart x free = record {
   apart = λ j k slot e g. let none : x.slots j slot ≡ false = free j slot in cc;
@@ -351,6 +399,7 @@ slots_apart spans x (calls old new m i h o s c) = window_apart m old new s (same
 slots_apart spans x (carries_out old new m i h o s c) = window_apart m old new s (same_had m old new c.slots) (λ slot e. o.after) (slots_apart spans old h)
 slots_apart spans x (is_told old new m i h o s c) = window_apart m old new s (told_had m i old new c) (λ slot e. o.after) (slots_apart spans old h)
 slots_apart spans x (happens old new h c) = all_stay_apart old new c.windows (slots_apart spans old h)
+slots_apart spans x (detaches old new m i h o s c) = window_apart m old new s (detached_had m i spans old new c) (λ slot e. o.after) (slots_apart spans old h)
 slots_apart spans x (next_comes old new h c) = free_apart new c.free
 
 pub no_slot_of_all_is_lost : NoSlotOfAllIsLost

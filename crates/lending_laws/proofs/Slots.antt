@@ -26,7 +26,7 @@ use Rattle.window_pages.specs.Known.{chosen_as}
 use Rattle.window_pages.specs.Laws.{new_page}
 use Rattle.window_pages.specs.Lives.{OneChanges, WasDetached}
 use Rattle.window_pages.specs.declared.page.WindowPage.{WindowPage}
-use Rattle.lending_laws.specs.Histories.{Begins, Calls, CallsAt, CarriedOut, Given, GivesWhatItMay, IsTold, IsToldAt, Moment, NextComes, Pending, begins, calls, carries_out, chooses, gives_up, happens, hears, is_told, next_comes, notes, only_free, orders, slots_after, with_slot, without_slot}
+use Rattle.lending_laws.specs.Histories.{Begins, Calls, CallsAt, CarriedOut, DetachesAt, Given, GivesWhatItMay, IsTold, IsToldAt, Moment, NextComes, Pending, begins, calls, carries_out, chooses, detaches, gives_up, happens, hears, is_told, left_beside, next_comes, notes, only_free, orders, slots_after, with_slot, without_account, without_slot}
 use Rattle.lending_laws.specs.Slots.{EachSlotIsOnes, NoSlotIsLost, NoneIsReleasedShown, slot_of}
 use Rattle.lending_laws.proofs.Beliefs.{IsFine, fits_at, turning_touches}
 use Rattle.lending_laws.proofs.Kept.{IsKept, history_kept}
@@ -253,6 +253,19 @@ next_ones first count old new c = no_ones new.pages new.slots (λ i. pick i (sli
       let d : WasDetached i old.pages x = c.pages.each i x e in
       slot_at new.pages i x e ∙ ap (λ k. account k.belief) d.becomes.known ∙ left_account (belief_of d.page)
 
+-- the page's slot counts no more
+detached_ones : (first count k : ℕ) (old new : Moment) → EachSlotIsOnes old.pages old.slots → DetachesAt first count k old new → EachSlotIsOnes new.pages new.slots
+detached_ones first count k old new h c = turned_ones k old.pages new.pages old.slots new.slots (one_turned k c.before c.after old.pages new.pages c.pages) (pick (account (belief_of c.before)) refl) h where
+  none : slot_of new.pages k ≡ None
+  none = slot_at new.pages k c.after c.pages.after ∙ ap (λ v. account v.belief) c.becomes.known ∙ left_account (belief_of c.before)
+
+  was : slot_of old.pages k ≡ account (belief_of c.before)
+  was = slot_at old.pages k c.before c.pages.before
+
+  pick : (o : Option ℕ) → account (belief_of c.before) ≡ o → Turns (slot_of old.pages k) (slot_of new.pages k) old.slots new.slots
+  pick None e = stays (none ∙ sym (was ∙ e)) (c.slots ∙ ap (λ o. without_account o old.slots) e)
+  pick (Some its) e = loses its (was ∙ e) none (c.slots ∙ ap (λ o. without_account o old.slots) e)
+
 begins_ones : (first count : ℕ) (m : Moment) → Begins first count m → EachSlotIsOnes m.pages m.slots
 begins_ones first count m b = no_ones m.pages m.slots (λ i. subst (λ v. slot_of v i ≡ None) (sym b.pages) (new_slot count i)) b.slots
 
@@ -265,6 +278,8 @@ no_slot_is_lost first count m (calls old new i h c) = calls_ones first i old new
 no_slot_is_lost first count m (carries_out old new i h c) = same_ones old.pages new.pages old.slots new.slots c.pages c.slots (no_slot_is_lost first count old h)
 no_slot_is_lost first count m (is_told old new i h c) = told_ones first count i old new (history_kept only_free first count old h) (no_slot_is_lost first count old h) c
 no_slot_is_lost first count m (happens old new h c) = same_ones old.pages new.pages old.slots new.slots c.pages c.slots (no_slot_is_lost first count old h)
+no_slot_is_lost first count m (detaches old new i h c) = detached_ones first count i old new (no_slot_is_lost first count old h) c
+no_slot_is_lost first count m (left_beside old new h c) = same_ones old.pages new.pages old.slots new.slots c.pages c.slots (no_slot_is_lost first count old h)
 no_slot_is_lost first count m (next_comes old new h c) = next_ones first count old new c
 
 -- ---- a release

@@ -1,6 +1,6 @@
 -- Histories of one window: calls for its pages, what the system did, what was said to have come of it, and what guests and others did.
-use Rattle.std.specs.Prelude.{◌≡◌, ℕ, ◌+◌, ◌<◌, nat_eq, Bool, true, false, not, if◌then◌else◌, List, replicate, is_some, unwrap_or, Some, slice_get, ◌⊎◌}
-use Rattle.page_lender.specs.Decisions.{can_be_done, is_busy, is_given}
+use Rattle.std.specs.Prelude.{◌≡◌, ℕ, ◌+◌, ◌<◌, nat_eq, Bool, true, false, not, if◌then◌else◌, List, replicate, is_some, unwrap_or, Some, slice_get, ◌⊎◌, Option, None, option_map}
+use Rattle.page_lender.specs.Decisions.{account, can_be_done, is_busy, is_given}
 use Rattle.page_lender.specs.Events.{Believes, Done_is_true, HeardRightly, done_events}
 use Rattle.page_lender.specs.declared.bars.Bars.{Bars}
 use Rattle.page_lender.specs.declared.belief.Belief.TheVariants.{Private}
@@ -17,10 +17,10 @@ use Rattle.window_events.specs.declared.event.Event.{Event}
 use Rattle.window_events.specs.declared.page.Page.{Page}
 use Rattle.page_lender.specs.Calls.{IsChosen, IsDone, IsHeard, IsOrdered}
 use Rattle.window_pages.specs.Bytes.{belief_of, known_of}
-use Rattle.window_pages.specs.Changed.{Lends, discarded, lender_with}
+use Rattle.window_pages.specs.Changed.{Becomes, Lends, detached, discarded, lender_with}
 use Rattle.window_pages.specs.Known.{chosen_as, no_bars}
 use Rattle.window_pages.specs.Laws.{new_page}
-use Rattle.window_pages.specs.Lives.{AllDetached, IsOthers, NextLender, OneChanges}
+use Rattle.window_pages.specs.Lives.{AllDetached, IsOthers, NextLender, OneChanges, left_page}
 use Rattle.window_pages.specs.declared.counts.PartCounts.{PartCounts}
 use Rattle.window_pages.specs.declared.page.WindowPage.{WindowPage}
 
@@ -198,7 +198,45 @@ pub record Happens (first count : ℕ) (old new : Moment) : Type 0 where
   pub stored : (p : ℕ) → new.stored p ≡ stored_after old.world event p (old.stored p)
   pub world : new.world ≡ unwrap_or (step old.world event) old.world
 
--- The lender goes, where all that was carried out is told, and another one comes, whose host has given nothing.
+-- The lender of a page goes: what the page shows is memory of its own from then on, over whatever frames. Its guard stands still, or has gone. Other
+-- pages stay.
+pub record LeftAt (p : ℕ) (old new : Mappings) : Type 0 where
+  pub stands : Bool
+  pub page : slice_get new.pages p ≡ option_map (left_page old.frames stands) (slice_get old.pages p)
+  pub others : (q : ℕ) → (q ≡ p → ⊥) → slice_get new.pages q ≡ slice_get old.pages q
+  pub frames : new.frames ≡ old.frames
+
+-- the slots without that of a page, if it has one
+abbrev pub without_account : Option ℕ → (ℕ → Bool) → ℕ → Bool
+without_account None slots = slots
+without_account (Some slot) slots = without_slot slot slots
+
+-- The lender of the page at place i goes, by the contract of `detach`, where all that was carried out of its order is told. Its slot counts no more.
+pub record DetachesAt (first count i : ℕ) (old new : Moment) : Type 0 where
+  pub within : i < count
+  pub told : (order : Order) → old.orders i ≡ CarriedOut order → ⊥
+  pub before : WindowPage
+  pub after : WindowPage
+  pub part : PartCounts
+  pub part_after : PartCounts
+  pub pages : OneChanges i before after old.pages new.pages
+  pub becomes : Becomes (detached (known_of before)) true before after part part_after
+  pub orders : OneIs i Nothing old.orders new.orders
+  pub slots : new.slots ≡ without_account (account (belief_of before)) old.slots
+  pub stored : new.stored ≡ old.stored
+  pub world : LeftAt (first + i) old.world new.world
+
+-- That of a page of another window goes.
+pub record LeftBeside (first count : ℕ) (old new : Moment) : Type 0 where
+  pub p : ℕ
+  pub others : (i : ℕ) → i < count → first + i ≡ p → ⊥
+  pub pages : new.pages ≡ old.pages
+  pub orders : new.orders ≡ old.orders
+  pub slots : new.slots ≡ old.slots
+  pub stored : new.stored ≡ old.stored
+  pub world : LeftAt p old.world new.world
+
+-- The lender goes from all pages, where all that was carried out is told, and another one comes, whose host has given nothing.
 pub record NextComes (first count : ℕ) (old new : Moment) : Type 0 where
   pub told : (i : ℕ) (order : Order) → old.orders i ≡ CarriedOut order → ⊥
   pub pages : AllDetached old.pages new.pages
@@ -225,4 +263,6 @@ pub data History (may_give : (ℕ → Bool) → ℕ → Bool) (first count : ℕ
   carries_out : (old new : Moment) (i : ℕ) → History may_give first count old → CarriesOut first count i old new → History may_give first count new
   is_told : (old new : Moment) (i : ℕ) → History may_give first count old → IsToldAt may_give i old new → History may_give first count new
   happens : (old new : Moment) → History may_give first count old → Happens first count old new → History may_give first count new
+  detaches : (old new : Moment) (i : ℕ) → History may_give first count old → DetachesAt first count i old new → History may_give first count new
+  left_beside : (old new : Moment) → History may_give first count old → LeftBeside first count old new → History may_give first count new
   next_comes : (old new : Moment) → History may_give first count old → NextComes first count old new → History may_give first count new

@@ -2,6 +2,7 @@
 use Rattle.std.specs.Prelude.{◌≡◌, ℕ, ◌+◌, ◌<◌, Bool, true, nat_lt, List, length, Option, Some, slice_get, slice_index_or, slice_set}
 use Rattle.lend_steps.specs.Asks.{Answered, ToAsk}
 use Rattle.lend_steps.specs.Copies.{CameOfCopy, ToCopy}
+use Rattle.lend_steps.specs.Holds.{ToGiveBack, ToHold}
 use Rattle.lend_steps.specs.Lists.{Told, Turn}
 use Rattle.lend_steps.specs.Loans.{CameOfLoan}
 use Rattle.lend_steps.specs.Releases.{FindsAt}
@@ -13,15 +14,13 @@ use Rattle.page_holds.specs.Orders.{OrdersNext}
 use Rattle.page_holds.specs.Rows.{RowBegins, RowCameOut, taking_at}
 use Rattle.page_holds.specs.Steps.{asks_for, outcome_for}
 use Rattle.page_holds.specs.declared.rows.run.RowOrder.{RowOrder}
-use Rattle.page_lender.specs.Calls.{IsDone}
 use Rattle.page_lender.specs.declared.belief.Target.TheVariants.{Frame}
 use Rattle.page_lender.specs.declared.order.Order.{Order}
 use Rattle.page_lender.specs.declared.order.Order.TheVariants.{Map}
 use Rattle.page_lender.specs.declared.order.Outcome.{Outcome}
 use Rattle.page_lender.specs.declared.order.Outcome.TheVariants.{Done, Lent, Refused}
 use Rattle.window_pages.specs.Bytes.{belief_of, known_of}
-use Rattle.window_pages.specs.Changed.{Lends}
-use Rattle.window_pages.specs.Known.{no_bars, takes}
+use Rattle.window_pages.specs.Known.{takes}
 use Rattle.window_pages.specs.declared.counts.PartCounts.{PartCounts}
 use Rattle.window_pages.specs.declared.facts.WindowFacts.{WindowFacts}
 use Rattle.window_pages.specs.declared.page.WindowPage.{WindowPage}
@@ -85,7 +84,7 @@ abbrev pub HomesAreSo : ((ℕ → Bool) → ℕ → Bool) → Moment → ℕ →
 HomesAreSo may_give m from n outcome = (j : ℕ) (x : WindowPage) → j < n → slice_get m.pages (from + j) ≡ Some x → hears outcome x ≡ true → IsSo may_give m (from + j) x outcome
 
 -- A call of the lender for pages of a window, by its contract, where what it says is so: the window's pages become these. A call for a list of pages is
--- one such call for each of them, one after another. A call for one page is a call of a history, or says what came of the page's order.
+-- one such call for each of them, one after another. A call for one page is a call of a history.
 pub data Called (may_give : (ℕ → Bool) → ℕ → Bool) (first : ℕ) (m : Moment) (new : List WindowPage) : Type 0 where
   notes : (lead from n : ℕ) (change : Change) (parts parts_new : List PartCounts) → Notes change lead from n true m.pages new parts parts_new
       → AreTruly change first from n m → Called may_give first m new
@@ -97,8 +96,6 @@ pub data Called (may_give : (ℕ → Bool) → ℕ → Bool) (first : ℕ) (m : 
       → AreSo may_give m from begin (done + refused) (row_outcome row begin done) → Called may_give first m new
   of_page : (i : ℕ) (x y : WindowPage) (pending : Pending) → slice_get m.pages i ≡ Some x → new ≡ slice_set m.pages i y
       → Calls (first + i) m.world x (m.orders i) y pending → Called may_give first m new
-  told_of_page : (i : ℕ) (x y : WindowPage) (outcome : Outcome) (part part_new : PartCounts) → slice_get m.pages i ≡ Some x → new ≡ slice_set m.pages i y
-      → Lends (IsDone outcome) no_bars x y part part_new → IsSo may_give m i x outcome → Called may_give first m new
   to_ask : (lead number answer : ℕ) (facts : WindowFacts) (has_room is_passing : Bool) (parts parts_new : List PartCounts)
       → Turn (λ said x y p q. ToAsk facts has_room is_passing said x y p q) lead number answer m.pages new parts parts_new → Called may_give first m new
   answered : (lead number fingerprint answer : ℕ) (is_whole is_other has_room : Bool) (parts parts_new : List PartCounts)
@@ -109,6 +106,10 @@ pub data Called (may_give : (ℕ → Bool) → ℕ → Bool) (first : ℕ) (m : 
       → Turn (λ said x y p q. CameOfCopy facts said x y p q came) lead number answer m.pages new parts parts_new → CopyIsSo may_give m number came → Called may_give first m new
   loaned : (lead number frames answer : ℕ) (reply : LoanReply) (parts parts_new : List PartCounts)
       → Turn (λ said x y p q. CameOfLoan frames said x y p q reply) lead number answer m.pages new parts parts_new → LoanIsSo may_give m number reply → Called may_give first m new
+  to_hold : (lead number answer : ℕ) (facts : WindowFacts) (is_split : Bool) (parts parts_new : List PartCounts)
+      → Turn (ToHold facts is_split) lead number answer m.pages new parts parts_new → Called may_give first m new
+  to_give_back : (lead number answer : ℕ) (facts : WindowFacts) (is_split has_room : Bool) (parts parts_new : List PartCounts)
+      → Turn (ToGiveBack facts is_split has_room) lead number answer m.pages new parts parts_new → Called may_give first m new
   to_release : (lead place room count count_new : ℕ) (facts : WindowFacts) (pins places places_new : List ℕ) (parts parts_new : List PartCounts)
       → FindsAt facts pins lead place room count count_new m.pages new parts parts_new places places_new → Called may_give first m new
   released : (lead number answer : ℕ) (outcome : Outcome) (parts parts_new : List PartCounts) → Turn (λ said x y p q. Told outcome x y p q) lead number answer m.pages new parts parts_new

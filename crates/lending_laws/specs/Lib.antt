@@ -1,3 +1,4 @@
+pub mod Ends
 pub mod Histories
 pub mod Holds
 pub mod Lender

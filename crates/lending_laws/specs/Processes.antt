@@ -8,7 +8,7 @@ use Rattle.window_events.specs.declared.event.Event.{Event}
 use Rattle.window_events.specs.declared.page.Page.{Page}
 use Rattle.window_pages.specs.Lives.{IsOthers}
 use Rattle.window_pages.specs.declared.page.WindowPage.{WindowPage}
-use Rattle.lending_laws.specs.Histories.{Begins, CallsAt, CarriesOut, Given, History, IsToldAt, Moment, NextComes, Pending, Reads, any_slot, only_free, stored_after}
+use Rattle.lending_laws.specs.Histories.{Begins, CallsAt, CarriesOut, DetachesAt, Given, History, IsToldAt, Moment, NextComes, Pending, Reads, any_slot, only_free, stored_after}
 use Rattle.lending_laws.specs.Slots.{EachSlotIsOnes, slot_of}
 
 -- the pages of a window: the number of the first one, and how many there are
@@ -122,6 +122,8 @@ pub data ProcessHistory (is_fair : Bool) (spans : ℕ → Span) : Process → Ty
   is_told : (old new : Process) (k i : ℕ) → ProcessHistory is_fair spans old → StaysOpen k old new → OthersStay k old new
       → IsToldIn is_fair k i old new → ProcessHistory is_fair spans new
   happens : (old new : Process) → ProcessHistory is_fair spans old → HappensBeside spans old new → ProcessHistory is_fair spans new
+  detaches : (old new : Process) (k i : ℕ) → ProcessHistory is_fair spans old → StaysOpen k old new → OthersStay k old new
+      → DetachesAt (spans k).first (spans k).count i (moment_of k old) (moment_of k new) → ProcessHistory is_fair spans new
   next_comes : (old new : Process) → ProcessHistory is_fair spans old → NextForAll spans old new → ProcessHistory is_fair spans new
 
 -- ---- the laws

@@ -3,6 +3,7 @@
 //! The laws hold for every history. The functions do nothing: the contract is all there is.
 #![tactic(auto)]
 
+ghost use Rattle.lending_laws.specs.Ends.{EachEndIsWell, EachEndIsWellInAll};
 ghost use Rattle.lending_laws.specs.Lender.{EachCallGoesOn};
 ghost use Rattle.lending_laws.specs.Histories.{CarriedOut, Given, IsTold};
 ghost use Rattle.lending_laws.specs.Holds.{EachComparisonIsTrue, EachHoldReadsTheSame, EachRowIsHeld, EachStepAgrees, EachTruthIsInBytes, EachZeroIsTrue};
@@ -47,15 +48,17 @@ pub fn calls_law()
     ensures looks { EachLookIsCalls }
 {}
 
-/// *Each call of C for a window's pages* but `withdraw` and `detach`, in any order, leads from a moment of a history to one: by its contract, where what it says is so
+/// *Each call of C for a window's pages*, in any order, leads from a moment of a history to one: by its contract, where what it says is so
 /// ([`Called`] has both). So each page reads what its guest stored last after each call, and all other laws of a history hold: beliefs are right,
 /// orders are possible, and an outcome is of the order that was given. What the system and guests do between two calls is in the history, too.
 ///
 /// In a process with many windows nothing but that window changes, and the process is at a moment of its history again. A host gives each slot for one
-/// window.
+/// window. A lender's end ([`Ends`]) may be noted of one part of a window after another. Then all that was carried out of its pages' orders is told.
 pub fn lender_law()
     ensures calls { EachCallGoesOn }
     ensures windows { EachCallGoesOnInAll }
+    ensures ends { EachEndIsWell }
+    ensures ends_in_all { EachEndIsWellInAll }
 {}
 
 /// With a host that gives only slots that it hasn't given: *each slot that it gave and hasn't got back is exactly one page's*, at each
