@@ -32,6 +32,7 @@ import client_cases  # noqa: E402
 import cut_cases  # noqa: E402
 import device_cases  # noqa: E402
 import file_cases  # noqa: E402
+import gain_cases  # noqa: E402
 import guest_cases  # noqa: E402
 import parts_cases  # noqa: E402
 import pausing_cases  # noqa: E402
@@ -43,8 +44,8 @@ import ways_cases  # noqa: E402
 from runner import cases_in, main  # noqa: E402
 
 CASES = cases_in([
-    client_cases, bounds_cases, file_cases, breaker_cases, reach_cases, parts_cases, raw_cases, device_cases, size_cases, guest_cases, system_cases,
-    ways_cases, check_cases, pausing_cases, cut_cases,
+    client_cases, bounds_cases, file_cases, breaker_cases, reach_cases, parts_cases, raw_cases, device_cases, size_cases, gain_cases, guest_cases,
+    system_cases, ways_cases, check_cases, pausing_cases, cut_cases,
 ])
 LONG = ("soak",)
 # What `make check` runs, and the seconds that each case has. A new case that needs no guest belongs here, but for those that time something.

@@ -4,21 +4,17 @@ from __future__ import annotations
 import dataclasses
 import json
 import os
-import pathlib
-import statistics
 import subprocess
 import threading
 import time
-from collections.abc import Callable
 from typing import Any, Sequence
 
 from harness import StrPath
-from places import AS_NOBODY, CC, FLAGS, HERE, OUT, TOP, WINDOW_LIBRARY, Host, compile_c, in_time, must, preloaded, until
+from places import AS_NOBODY, CC, FLAGS, HERE, OUT, TOP, WINDOW_LIBRARY, Host, compile_c, in_time, must, preloaded
 from qemu_guests import read
 
 PAGE, SPARES, PRELOAD = 4096, 2000, TOP / "host/preload"
 LIMIT = int(read("/proc/sys/vm/max_map_count") or 65530)
-QUIET = 0.25  # (of a processor, which others may take while memory is compared)
 
 
 @dataclasses.dataclass(frozen=True)
@@ -148,9 +144,7 @@ def huge_pages_stay(rows: list[Counts]) -> None:
 
 
 def case_size() -> None:
-    """Stand-ins for guests of a real size (SIZES=MIB,..), with and without huge pages, at the limit of mappings; and what `net` does."""
-    if not HERE.is_short:
-        case_net()
+    """Stand-ins for guests of a real size (SIZES=MIB,..), with and without huge pages, and at the limit of mappings."""
     compile_c("size")
     sizes = [512] if HERE.is_short else [int(it) for it in os.environ.get("SIZES", "1024,2048,4096,8192").split(",")]
     seconds = int(os.environ.get("SECONDS", "20" if HERE.is_short else "60"))
@@ -179,164 +173,6 @@ def case_size() -> None:
     table["runs of 1"] = {"rows": rows, "host": state}
     OUT.mkdir(parents=True, exist_ok=True)
     (OUT / "size.json").write_text(json.dumps(table, indent=1))
-
-
-def taken_bytes() -> int:
-    """All memory of the system that isn't available."""
-    of = {it.split(":")[0]: int(it.split()[1]) for it in read("/proc/meminfo").splitlines()}
-    return (of["MemTotal"] - of["MemAvailable"]) << 10
-
-
-class Group:
-    """A memory cgroup for processes, which the system charges with their memory, page tables and slabs. `folder` is None where none can be made."""
-
-    def __init__(self) -> None:
-        of = {it.split(":")[1]: it.split(":")[2] for it in read("/proc/self/cgroup").splitlines()}
-        above = pathlib.Path(f"/sys/fs/cgroup/memory{of['memory']}" if "memory" in of else "/sys/fs/cgroup")
-        folder = above / f"pageshare-{os.getpid()}"
-        self.folder: pathlib.Path | None = folder
-        self.file = folder / ("memory.usage_in_bytes" if "memory" in of else "memory.current")
-        try:
-            folder.mkdir()
-        except OSError:
-            self.folder = None
-        if self.folder and not self.file.exists():
-            self.remove()
-
-    def inside(self) -> list[StrPath]:
-        """Words before those of a program that is to be in it."""
-        return ["sh", "-c", 'echo $$ > "$0/cgroup.procs" && exec "$@"', self.folder] if self.folder else []
-
-    def used(self) -> int:
-        """The bytes that are in use: of the group, or all that the system hasn't available."""
-        return int(self.file.read_text()) if self.folder else taken_bytes()
-
-    def remove(self) -> None:
-        if self.folder:
-            processes = self.folder / "cgroup.procs"
-            must(until(20, lambda: not read(processes), 0.1)[0], "the group has processes still")
-            self.folder.rmdir()
-        self.folder = None
-
-
-def uses(kind: Kind, mib: int, is_shared: bool) -> tuple[bool, float, float]:
-    """Two processes of this kind, some time after they were filled: whether by a group of their own, the bytes that they use, and the net gain."""
-    group = Group()
-    try:
-        is_own = group.folder is not None
-        host = Host("--lent", "4G", memory="1G", before=group.inside()) if is_shared else None
-        made = [Guest(number, mib, kind, 120, host, before=group.inside()) for number in range(2)]
-        must(until(100, lambda: all("filled" in it.said for it in made), 0.2)[0], "they aren't filled")
-        time.sleep(45)
-        samples = []
-        for _ in range(12):
-            samples.append((group.used(), host.status()["net_bytes"] if host else 0))
-            time.sleep(0.5)
-        if host:
-            state = host.status()
-            print(f"    {state['lent_bytes'] >> 20} MiB lent, {state['zero_bytes'] >> 20} of zeros; page tables {state['table_bytes'] >> 20}, mappings "
-                  f"{state['mapping_bytes'] / (1 << 20):.1f}, the library's {state['library_bytes'] / (1 << 20):.1f}, the host {state['host_bytes'] >> 20}")
-        used, net = (sum(it[i] for it in samples) / len(samples) for i in (0, 1))
-        return is_own, used, net
-    finally:
-        HERE.place.clean()
-        group.remove()
-
-
-def case_gain() -> None:
-    """The net gain beside what the system says: the memory, slabs and page tables that the same processes and the host use with sharing and without."""
-    compile_c("size")
-    mib = int(os.environ.get("SIZES", "512"))
-    for name, kind in (("runs of 16", Kind(40, 10, 16, 1)), ("runs of 1", Kind(40, 10, 1, 1))):
-        is_own, used, net = uses(kind, mib, True)
-        _, alone, _ = uses(kind, mib, False)
-        gain, load = alone - used, os.getloadavg()[0]
-        print(f"  {name}: net gain {net / (1 << 20):.1f} MiB, and {gain / (1 << 20):.1f} MiB by {'their memory cgroup' if is_own else 'MemAvailable'}: "
-              f"{100 * (net - gain) / gain:+.1f} %; load {load:.1f}", flush=True)
-        # (what other processes take meanwhile counts where there is no group)
-        in_time(abs(net - gain) <= 0.02 * gain or load > 1 and not is_own, "the net gain isn't the system's within 2 %")
-
-
-def busy_seconds() -> float:
-    """The processor time that all have taken, since the system began."""
-    times = [int(it) for it in read("/proc/stat").split("\n", 1)[0].split()[1:9]]
-    return (sum(times) - times[3] - times[4]) / os.sysconf("SC_CLK_TCK")
-
-
-def median_of(reads: Callable[[], Sequence[int]]) -> list[float]:
-    """The median of each of some numbers, which are read nine times."""
-    samples = []
-    for _ in range(9):
-        samples.append(reads())
-        time.sleep(0.3)
-    return [statistics.median(it) for it in zip(*samples)]
-
-
-def is_settled(host: Host) -> bool:
-    """Waits until no more is shared than some seconds before, at most half a minute."""
-    shared = [0]
-
-    def has_ended() -> bool:
-        state = host.status()
-        shared.append(state["lent_bytes"] + state["zero_bytes"])
-        return len(shared) > 8 and shared[-1] > 0 and shared[-1] <= 1.001 * shared[-8]
-
-    return until(30, has_ended, 0.6)[0]
-
-
-@dataclasses.dataclass(frozen=True)
-class Taken:
-    """What two processes and their host take: of the system's memory, and by Pss; the net gain; and how many processors others took before."""
-
-    memory: float
-    pss: float
-    net: float
-    others: float
-
-
-def taken_by(kind: Kind, mib: int, is_shared: bool) -> Taken:
-    begun, busy = time.time(), busy_seconds()
-    (before,) = median_of(lambda: (taken_bytes(),))
-    others = (busy_seconds() - busy) / (time.time() - begun)
-    host = Host("--lent", "4G", memory="1G") if is_shared else None
-    made = [Guest(number, mib, kind, 300, host, percent=100) for number in range(2)]
-    must(until(100, lambda: all("filled" in it.said for it in made), 0.2)[0], "they aren't filled")
-    if host and not is_settled(host):
-        print("    more is shared still when it is measured")
-    time.sleep(1)
-    its = [it.process.pid for it in made] + ([host.process.pid] if host else [])
-
-    def reads() -> tuple[int, int, int]:
-        pss = sum(int(line.split()[1]) << 10 for it in its for line in read(f"/proc/{it}/smaps_rollup").splitlines() if line.startswith("Pss:"))
-        return taken_bytes(), pss, host.status()["net_bytes"] if host else 0
-
-    memory, pss, net = median_of(reads)
-    HERE.place.clean()
-    for it in made:
-        it.process.wait(20)
-    return Taken(memory - before, pss, net, others)
-
-
-def case_net() -> None:
-    """The net gain beside all memory that the system has available, and beside Pss: by medians, with sharing and without, in turn (SIZES=MIB)."""
-    compile_c("size")
-    begun = time.time()
-    for number, (name, run) in enumerate((("runs of 16", 16), ("runs of 1", 1))):
-        kind, end = Kind(40, 10, run, 1), begun + 110 * (number + 1)
-        rounds: list[list[Taken]] = []
-        while len(rounds) < 3 and (not rounds or time.time() < end - 40):
-            rounds.append([taken_by(kind, int(os.environ.get("SIZES", "512").split(",")[0]), it) for it in (False, True)])
-        net = statistics.median(shared.net for _, shared in rounds)
-        gains = sorted(alone.memory - shared.memory for alone, shared in rounds)
-        gain, pss = statistics.median(gains), statistics.median(alone.pss - shared.pss for alone, shared in rounds)
-        apart = statistics.median((shared.net - alone.memory + shared.memory) / (alone.memory - shared.memory) for alone, shared in rounds)
-        others, load = max(it.others for both in rounds for it in both), os.getloadavg()[0]
-        print(f"  {name}, {len(rounds)} rounds: net gain {net / (1 << 20):.1f} MiB; by MemAvailable {gain / (1 << 20):.1f} "
-              f"({gains[0] / (1 << 20):.1f} to {gains[-1] / (1 << 20):.1f}), {100 * apart:+.1f} %; by Pss {pss / (1 << 20):.1f}; "
-              f"others took {others:.2f} processors, load {load:.1f}", flush=True)
-        if others > QUIET:
-            print("  (others used the computer meanwhile, so that says little)")
-        in_time(abs(apart) <= 0.02 or others > QUIET, "the net gain isn't the system's within 2 %")
 
 
 def case_runs() -> None:
