@@ -167,7 +167,8 @@ out/host/pageshare-host: $(HOST_SOURCES) $(HOST_HEADERS) $(HOST_LIBRARY)
 	@mkdir -p $(@D)
 	$(CC) $(HOST_FLAGS) $(HOST_LINK) -o $@ $(HOST_SOURCES) $(HOST_LIBRARY)
 
-WINDOW_LINK = -Wl,-soname,$(@F) -Wl,-z,relro,-z,now -Wl,--exclude-libs,ALL
+# (so that its own calls of `syscall` aren't taken for the monitor's: host/preload/raw_calls.c)
+WINDOW_LINK = -Wl,--wrap=syscall -Wl,-soname,$(@F) -Wl,-z,relro,-z,now -Wl,--exclude-libs,ALL
 out/host/libpageshare-window.so: $(WINDOW_SOURCES) $(HOST_HEADERS) $(WINDOW_LIBRARY)
 	@mkdir -p $(@D)
 	$(CC) $(HOST_FLAGS) -fPIC -shared -fvisibility=hidden $(WINDOW_LINK) -o $@ $(WINDOW_SOURCES) $(WINDOW_LIBRARY) -ldl

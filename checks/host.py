@@ -56,7 +56,7 @@ IN_GATE = {
     "ranges": 60, "names": 60, "counts": 60, "refused": 60, "kvm": 300, "ends": 600, "postcopy": 240, "remote": 60, "cuts": 240, "losses": 240,
     "waits": 180, "uncached": 120, "reach": 240,
     "closed": 60, "malloc": 120, "lines": 60, "read-late": 60, "flags": 120, "policies": 120, "no-memory": 120,
-    "filter": 480, "filter-by-itself": 60, "scans": 180, "guarded": 120, "said-early": 60,
+    "filter": 480, "numbers": 480, "filter-by-itself": 60, "scans": 180, "guarded": 120, "said-early": 60,
     "ways": 120,
     "check": 120, "check-guest": 60, "check-denied": 60, "check-wrong": 180, "check-refused": 300, "pause": 240, "pause-busy": 120, "pause-guarded": 120,
     "limit": 120, "account": 180, "shares-nothing": 240,

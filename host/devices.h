@@ -34,7 +34,7 @@ enum devices devices_open(void);
 bool devices_of_process(unsigned long long process, enum devices *devices);
 /*
  * As devices_open. It takes some microseconds if no descriptor was opened or closed since the last call of either, and some more for each
- * io_uring. What a raw call of the system opened in the place of what another one closed is seen by devices_open alone.
+ * io_uring. What a call past the C library opened in the place of what another one closed is seen by devices_open alone.
  */
 enum devices devices_still_open(void);
 /* Notes that the process may call io_submit from now on; and that it may have an io_uring, even if there is no descriptor of one. */

@@ -11,7 +11,7 @@ import time
 from collections.abc import Callable, Iterable, Mapping, Sequence
 
 from harness import StrPath
-from places import AS_NOBODY, CC, FLAGS, HERE, TOP, WINDOW_LIBRARY, Host, LeftOut, all_released, compile_shim, in_time, must, preloaded, sources
+from places import AS_NOBODY, CC, FLAGS, HERE, TOP, Host, LeftOut, all_released, build_library, compile_shim, in_time, must, preloaded
 
 BESIDE = 4  # so many run at once, with contents that others have, too
 HUGE = ("--huge", "--pages", "1536")
@@ -34,10 +34,7 @@ def compile_folder(name: str, more: Sequence[StrPath] = ()) -> pathlib.Path:
 def sanitized() -> dict[str, str]:
     """What is preloaded for a library that is built with the sanitizers of addresses and undefined behaviour."""
     library = HERE.place.room / "sanitized" / HERE.library.name
-    library.parent.mkdir(exist_ok=True)
-    words: list[StrPath] = [CC, *FLAGS, *SANITIZE, "-fPIC", "-shared", "-fvisibility=hidden", *(f"-I{TOP / it}" for it in ("lib/include", "window", "host"))]
-    words += ["-o", library, *sources("preload"), *sorted((TOP / "window").glob("*.c")), WINDOW_LIBRARY, "-ldl"]
-    if subprocess.run(words).returncode != 0:
+    if not build_library(library, *SANITIZE):
         raise LeftOut(f"{CC} doesn't build with {SANITIZE[0]}")
     first = subprocess.run([CC, "-print-file-name=libasan.so"], capture_output=True, text=True, check=True).stdout.strip()
     return {"LD_PRELOAD": f"{first} {library}", "ASAN_OPTIONS": "detect_leaks=0"}
@@ -120,11 +117,13 @@ REFUSE_EACH = 61  # (a prime, so that calls that come again and again are refuse
 
 def case_refusals() -> None:
     """Each call of the system by the library is refused in turn, and each 61st one after it: SEEDS=N first ones."""
-    program, host, shim = compile_folder("breaker"), Host(memory="256M"), compile_shim("refuse_in_monitor")
+    program, host = compile_folder("breaker"), Host(memory="256M")
+    before, behind = compile_shim("refuse_in_monitor"), compile_shim("refuse_syscalls")
     firsts, seconds = int(os.environ.get("SEEDS", "16")), int(os.environ.get("SECONDS", "6"))
 
     def refuse(seed: int, filter_is_on: str = "0") -> dict[str, str]:
-        return {"LD_PRELOAD": f"{shim} {HERE.library}", "REFUSE_FIRST": str(seed), "REFUSE_EACH": str(REFUSE_EACH), "PAGESHARE_FILTER": filter_is_on}
+        return {"LD_PRELOAD": f"{before} {HERE.library} {behind}", "REFUSE_FIRST": str(seed), "REFUSE_EACH": str(REFUSE_EACH),
+                "PAGESHARE_FILTER": filter_is_on}
 
     said = in_fours(program, host, range(1, firsts + 1), seconds, ("--refusals",), refuse)
     said += in_fours(program, host, range(1, firsts // 2 + 1), seconds, ("--refusals",), lambda seed: refuse(seed, "1"))

@@ -5,6 +5,7 @@
  */
 #define _GNU_SOURCE
 #include "breaker/ring.h"
+#include "instruction.h"
 #include "offered.h"
 #include <aio.h>
 #include <alloca.h>
@@ -515,7 +516,7 @@ static void said_once(void) {
     int said = memfd_create("said", MFD_CLOEXEC);
     if (dup2(said, STDERR_FILENO) < 0) exit(2);
     for (unsigned i = 0; i < 4; i++) {
-        if (syscall(SYS_mlock, at, PAGE) != 0) return left_out("no memory can be locked"); /* (past the library) */
+        if (by_instruction(SYS_mlock, at, PAGE) != 0) return left_out("no memory can be locked"); /* (past the library) */
         usleep(600000);
         syscall(SYS_munlock, at, PAGE);
         usleep(600000);
@@ -834,7 +835,7 @@ static bool set_own_flags(void) {
         snprintf(path, sizeof path, "/proc/self/fd/%d", file);
         ssize_t length = readlink(path, target, sizeof target - 1);
         target[length > 0 ? length : 0] = 0;
-        if (strncmp(target, "/memfd:pageshare-frames", 23) == 0) return syscall(SYS_fcntl, file, F_SETFL, O_DIRECT) == 0;
+        if (strncmp(target, "/memfd:pageshare-frames", 23) == 0) return by_instruction(SYS_fcntl, file, F_SETFL, O_DIRECT) == 0;
     }
     return false;
 }

@@ -202,3 +202,11 @@ def sources(role: str) -> list[pathlib.Path]:
     """The sources in host/ of one of the two programs, `daemon` or `preload`, and what the daemon has besides."""
     beside = [TOP / "window/lines.c", TOP / "window/lender/bus.c", *(TOP / "host/check").glob("*.c")] if role == "daemon" else []
     return sorted([*(TOP / "host").glob("*.c"), *(TOP / "host" / role).glob("*.c"), *beside])
+
+
+def build_library(to: pathlib.Path, *more: str) -> bool:
+    """Builds the library that monitors preload, with some more flags. Answers whether it was built."""
+    words: list[StrPath] = [CC, *FLAGS, *more, "-fPIC", "-shared", "-fvisibility=hidden", "-Wl,--wrap=syscall", "-o", to]
+    words += [*(f"-I{TOP / it}" for it in ("lib/include", "window", "host")), *sources("preload"), *sorted((TOP / "window").glob("*.c"))]
+    to.parent.mkdir(exist_ok=True)
+    return subprocess.run([*words, WINDOW_LIBRARY, "-ldl"]).returncode == 0

@@ -1,10 +1,12 @@
 /*
- * A stand-in for a monitor, to be run under libpageshare-window.so, that makes calls of the system itself, past the C library; and one that
- * has many descriptors, or guards memory before it offers it. Words: WAY, see `ways`; those that begin with "raw-" want PAGESHARE_FILTER=1.
- * Prints what isn't so, and at last "WAY: good" (status 0) or "WAY: WRONG" (1); or "WAY: left out" (77).
+ * A stand-in for a monitor, to be run under libpageshare-window.so, that makes calls of the system itself; and one that has many descriptors,
+ * or guards memory before it offers it. Words: WAY, see `ways`. Those that begin with "raw-" make calls by an instruction of their own, past the
+ * C library, and want PAGESHARE_FILTER=1; with "number-" in its place they make the same calls by `syscall`, and want none. Prints what isn't so,
+ * and at last "WAY: good" (status 0) or "WAY: WRONG" (1); or "WAY: left out" (77).
  */
 #define _GNU_SOURCE
 #include "breaker/ring.h"
+#include "instruction.h"
 #include "offered.h"
 #include <errno.h>
 #include <fcntl.h>
@@ -28,6 +30,7 @@ enum { PAGE = 4096, PAGES = 1024, SECONDS = 30, LEFT_OUT = 77, REQUESTS = 4 };
 
 static unsigned wrong;
 static bool is_left_out;
+static long (*call)(long number, ...) = by_instruction;
 
 static void check(bool is_so, const char *what) {
     if (is_so) return;
@@ -122,16 +125,22 @@ static size_t shown(const uint8_t *at, size_t pages) {
     return count;
 }
 
-/* A file by O_DIRECT, which the process has from the beginning. */
-static int open_direct(void) {
+/* A file by O_DIRECT, of so many pages that are full of a byte. */
+static int open_direct_of(size_t pages, int byte) {
     char name[] = "/var/tmp/raw-callsXXXXXX";
     static uint8_t data[PAGE];
+    memset(data, byte, PAGE);
     int made = mkstemp(name), file = open(name, O_RDONLY | O_DIRECT | O_CLOEXEC);
     unlink(name);
-    if (made < 0 || file < 0 || write(made, data, PAGE) != PAGE) exit(2);
-    close(made);
+    if (made < 0 || file < 0) exit(2);
+    for (size_t i = 0; i < pages; i++)
+        if (write(made, data, PAGE) != PAGE) exit(2);
+    if (fsync(made) != 0 || close(made) != 0) exit(2);
     return file;
 }
+
+/* One that the process has from the beginning. */
+static int open_direct(void) { return open_direct_of(1, 0); }
 
 /* ---- calls that are shown before they are made ---- */
 
@@ -141,7 +150,7 @@ static void raw_submit(void) {
     begin_hearing();
     lent(PAGES);
     check(!has_said(pinned), "nothing is said before");
-    check(syscall(SYS_io_setup, REQUESTS, &context) == 0, "io_setup");
+    check(call(SYS_io_setup, REQUESTS, &context) == 0, "io_setup");
     check(has_said(pinned), "once io_setup returns, pages may be pinned");
 }
 
@@ -162,7 +171,7 @@ static void raw_ring(void) {
     begin_hearing();
     lent(PAGES);
     check(!has_said(pinned), "nothing is said before");
-    long made = syscall(SYS_io_uring_setup, REQUESTS, &params);
+    long made = call(SYS_io_uring_setup, REQUESTS, &params);
     if (made < 0) return left_out("the system has no such io_uring");
     check(has_said(pinned), "once io_uring_setup returns, pages may be pinned");
 }
@@ -177,7 +186,7 @@ static void raw_registered(unsigned what) {
     if (!ring_make(&ring)) return left_out("the system has no io_uring");
     check(!has_said(pinned), "nothing is said of a ring alone");
     const void *with = what == IORING_REGISTER_FILES ? (const void *)&file : &its;
-    check(syscall(SYS_io_uring_register, ring.fd, what, with, 1) == 0, "io_uring_register");
+    check(call(SYS_io_uring_register, ring.fd, what, with, 1) == 0, "io_uring_register");
     check(has_said(pinned), "once it is registered, pages may be pinned");
 }
 static void raw_buffers(void) { raw_registered(IORING_REGISTER_BUFFERS); }
@@ -189,7 +198,7 @@ static void raw_map(void) {
     begin_hearing();
     uint8_t *at = lent(PAGES);
     check(!has_said(over), "nothing is said before");
-    check(syscall(SYS_ioctl, file, VFIO_IOMMU_MAP_DMA, &map) == -1 && errno == ENOTTY, "the system has the last word");
+    check(call(SYS_ioctl, file, VFIO_IOMMU_MAP_DMA, &map) == -1 && errno == ENOTTY, "the system has the last word");
     check(has_said(over), "once memory is mapped for a device, nothing is lent");
     check(differing(at, 0, PAGES, 1) == 0, "pages keep their content");
 }
@@ -207,9 +216,9 @@ static void raw_guard(void) {
     uint8_t *at = lent(PAGES);
     struct uffdio_register asked = {.range = {(uintptr_t)at, PAGES * PAGE}, .mode = UFFDIO_REGISTER_MODE_WP};
     struct uffdio_writeprotect guard = {.range = asked.range, .mode = UFFDIO_WRITEPROTECT_MODE_WP};
-    check(syscall(SYS_ioctl, faults, UFFDIO_REGISTER, &asked) == 0, "UFFDIO_REGISTER");
+    check(call(SYS_ioctl, faults, UFFDIO_REGISTER, &asked) == 0, "UFFDIO_REGISTER");
     check(!has_said(stops), "memory that isn't guarded yet may show frames");
-    check(syscall(SYS_ioctl, faults, UFFDIO_WRITEPROTECT, &guard) == 0, "UFFDIO_WRITEPROTECT");
+    check(call(SYS_ioctl, faults, UFFDIO_WRITEPROTECT, &guard) == 0, "UFFDIO_WRITEPROTECT");
     check(has_said(stops) && shown(at, PAGES) == 0, "once memory is guarded, it shows no frames");
     check(differing(at, 0, PAGES, 1) == 0, "pages keep their content");
     close(faults);
@@ -229,7 +238,7 @@ static void raw_missing(void) {
     struct uffdio_copy copy = {.dst = (uintptr_t)at + 9 * PAGE, .src = (uintptr_t)page, .len = PAGE};
     memset(page, 5, PAGE); /* (as `fill` fills that page) */
     check(madvise(at + 9 * PAGE, PAGE, MADV_DONTNEED) == 0, "MADV_DONTNEED");
-    check(syscall(SYS_ioctl, faults, UFFDIO_REGISTER, &asked) == 0, "UFFDIO_REGISTER");
+    check(call(SYS_ioctl, faults, UFFDIO_REGISTER, &asked) == 0, "UFFDIO_REGISTER");
     check(has_said(stops) && shown(at, PAGES) == 0, "once memory is watched, it shows no frames");
     usleep(1500000); /* (looks don't touch what is missing) */
     check(ioctl(faults, UFFDIO_COPY, &copy) == 0, "the discarded page is missing");
@@ -246,24 +255,169 @@ static void raw_advice(void) {
     uint8_t *at = lent(PAGES);
     const struct iovec all[] = {{at, 64 * PAGE}, {at + 128 * PAGE, 64 * PAGE}};
     int self = (int)syscall(SYS_pidfd_open, getpid(), 0);
-    long done = syscall(SYS_process_madvise, self, all, 2, MADV_DONTNEED, 0);
+    long done = call(SYS_process_madvise, self, all, 2, MADV_DONTNEED, 0);
     check(done == 128 * PAGE, "process_madvise");
     size_t others = 0;
     for (size_t i = 0; i < 64 * PAGE; i++) others += at[i] != 0 || at[128 * PAGE + i] != 0;
     check(others == 0, "what is discarded is zeros");
-    check(syscall(SYS_process_madvise, self, (void *)8, 1, MADV_DONTNEED, 0) == -1 && errno == EFAULT,
-          "an array that isn't there");
+    check(call(SYS_process_madvise, self, (void *)8, 1, MADV_DONTNEED, 0) == -1 && errno == EFAULT, "an array that isn't there");
     uint8_t *own = mapped(1);
     const struct iovec one = {own, PAGE};
     own[0] = 1;
-    check(syscall(SYS_process_madvise, self, &one, 1, MADV_COLD, 0) == PAGE && own[0] == 1, "advice on other memory");
+    check(call(SYS_process_madvise, self, &one, 1, MADV_COLD, 0) == PAGE && own[0] == 1, "advice on other memory");
+}
+
+/* ---- a context that no look finds ---- */
+
+static bool tell(int end) { return write(end, "x", 1) == 1; }
+
+static bool hear(int end) {
+    char byte = 0;
+    return read(end, &byte, 1) == 1;
+}
+
+enum { EVENTS = 1024, READS = 64, APART = 8 };
+
+/* A process that has a context, and ends it when it is told. */
+static void hold_context(int told, int tells) {
+    aio_context_t its = 0;
+    bool is_good = by_instruction(SYS_io_setup, EVENTS, &its) == 0 && tell(tells) && hear(told);
+    _exit(is_good && by_instruction(SYS_io_destroy, its) == 0 && tell(tells) ? 0 : 1);
+}
+
+/* Reads pages of the file to some of the memory's. */
+static void submit_reads(aio_context_t context, int file, uint8_t *at) {
+    static struct iocb requests[READS], *all[READS];
+    static struct io_event ends[READS];
+    long sent = 0, done = 0;
+    for (size_t i = 0; i < READS; i++) {
+        requests[i] = (struct iocb){.aio_lio_opcode = IOCB_CMD_PREAD,
+                                    .aio_fildes = (uint32_t)file,
+                                    .aio_buf = (uintptr_t)at + i * APART * PAGE,
+                                    .aio_nbytes = PAGE,
+                                    .aio_offset = (long long)(i * PAGE)};
+        all[i] = &requests[i];
+    }
+    while (sent < READS) {
+        long more = syscall(SYS_io_submit, context, READS - sent, all + sent);
+        if (more <= 0) break;
+        sent += more;
+    }
+    while (done < sent) {
+        long more = syscall(SYS_io_getevents, context, 1L, sent - done, ends + done, NULL);
+        done += more > 0 ? more : 0;
+    }
+    check(done == READS, "all requests end");
+}
+
+/* Another process ends as large a context in the moment in which this one makes its own: the system's number stays as it is. */
+static void raw_collide(void) {
+    int told[2], tells[2], file = open_direct_of(READS, 'D');
+    aio_context_t context = 0;
+    if (pipe(told) != 0 || pipe(tells) != 0) exit(2);
+    if (fork() == 0) hold_context(told[0], tells[1]);
+    if (!hear(tells[0])) exit(2);
+    begin_hearing();
+    uint8_t *at = lent(PAGES);
+    usleep(500000); /* (looks know the number) */
+    check(!has_said(pinned), "nothing is said before");
+    check(tell(told[1]) && call(SYS_io_setup, EVENTS, &context) == 0, "io_setup");
+    check(has_said(pinned), "once io_setup returns, pages may be pinned");
+    check(hear(tells[0]), "the other context");
+    check(wait_for_count("devices", 2, SECONDS), "the counts say so, too");
+    fill(at, PAGES, 7); /* (copies, which were lent) */
+    usleep(200000);
+    submit_reads(context, file, at);
+    usleep(500000);
+    for (size_t i = 0; i < READS; i++) {
+        const uint8_t *page = at + i * APART * PAGE;
+        for (size_t b = 0; b < PAGE; b++) check(page[b] == 'D', "a page has what was read"), b += page[b] == 'D' ? 0 : PAGE;
+        memset(at + i * APART * PAGE, (int)(7 + i * APART / 2 % 100), PAGE);
+    }
+    check(differing(at, 0, PAGES, 7) == 0, "all others keep their content");
+    wait(NULL);
+}
+
+/* ---- calls by their numbers ---- */
+
+/* Those that go on, and those that don't, are as the C library makes them. */
+static void numbers_same(void) {
+    const long none[] = {-1, 511, 512, 100000};
+    uint8_t *own = mapped(1), *at = lent(PAGES);
+    int file = memfd_create("two pages", MFD_CLOEXEC), other = memfd_create("its copy", MFD_CLOEXEC), status = 0;
+    long long from = 0, to = 0;
+    memset(own, 'A', PAGE);
+    if (write(file, own, PAGE) != PAGE || write(file, "B", 1) != 1 || ftruncate(file, 2 * PAGE) != 0) exit(2);
+    errno = EDOM;
+    check(call(SYS_getppid) == getppid() && call(SYS_madvise, own, PAGE, MADV_NORMAL) == 0 && errno == EDOM &&
+              call(SYS_madvise, at, PAGE, MADV_WILLNEED) == 0 && call(SYS_pread64, file, own, 1L, 0L) == 1 && errno == EDOM,
+          "errno stays as it was");
+    for (size_t i = 0; i < sizeof none / sizeof *none; i++)
+        check(call(none[i]) == -1 && errno == ENOSYS, "there is no such call");
+    check(call(SYS_close, -1) == -1 && errno == EBADF && call(SYS_ioctl, -1, 1L, 0L) == -1 && errno == EBADF,
+          "no such descriptor");
+    uint8_t *second = (uint8_t *)call(SYS_mmap, NULL, (long)PAGE, (long)PROT_READ, (long)MAP_PRIVATE, (long)file, (long)PAGE);
+    check(second != MAP_FAILED && second[0] == 'B', "the sixth word of mmap");
+    check(call(SYS_copy_file_range, file, &from, other, &to, (long)PAGE, 1L) == -1 && errno == EINVAL,
+          "a sixth word that is refused");
+    check(call(SYS_copy_file_range, file, &from, other, &to, (long)PAGE, 0L) == PAGE, "and one that isn't");
+    pid_t child = (pid_t)call(SYS_clone, (long)SIGCHLD, 0L, 0L, 0L, 0L);
+    if (child == 0) _exit(9);
+    check(waitpid(child, &status, 0) == child && WIFEXITED(status) && WEXITSTATUS(status) == 9, "a child");
+    check(differing(at, 0, PAGES, 1) == 0, "pages keep their content");
+}
+
+/* Pages leave sharing before a call that windows can't bear, and what it is about is its alone. */
+static void numbers_of_memory(void) {
+    const long fixed = MAP_PRIVATE | MAP_ANONYMOUS | MAP_FIXED, rights = PROT_READ | PROT_WRITE;
+    uint8_t *at = lent(PAGES), *to = mapped(4);
+    check(call(SYS_mprotect, at, (long)PAGE, (long)PROT_READ) == 0 && shown(at, 1) == 0, "mprotect");
+    check(call(SYS_pkey_mprotect, at + 2 * PAGE, (long)PAGE, rights, -1L) == 0 && shown(at + 2 * PAGE, 1) == 0, "pkey_mprotect");
+    check(call(SYS_mlock, at + 4 * PAGE, (long)PAGE) == 0 && shown(at + 4 * PAGE, 1) == 0, "mlock");
+    check(call(SYS_mlock2, at + 6 * PAGE, (long)PAGE, 0L) == 0 && shown(at + 6 * PAGE, 1) == 0, "mlock2");
+    check(call(SYS_madvise, at + 8 * PAGE, (long)PAGE, (long)MADV_DONTNEED) == 0 && at[8 * PAGE] == 0, "MADV_DONTNEED");
+    check(call(SYS_mmap, at + 10 * PAGE, (long)PAGE, rights, fixed, -1L, 0L) == (long)(at + 10 * PAGE), "mmap over a page");
+    check(at[10 * PAGE] == 0 && shown(at + 10 * PAGE, 1) == 0, "which is zeros then");
+    check(call(SYS_mremap, at + 12 * PAGE, 2L * PAGE, (long)PAGE, 0L, 0L) == (long)(at + 12 * PAGE), "mremap to less");
+    check(call(SYS_mremap, at + 14 * PAGE, (long)PAGE, (long)PAGE, (long)(MREMAP_MAYMOVE | MREMAP_FIXED), to) == (long)to,
+          "mremap to another place");
+    check(to[17] == 1 + 14 / 2 && shown(to, 1) == 0, "a page keeps its content there");
+    check(call(SYS_munmap, at + 16 * PAGE, (long)PAGE) == 0, "munmap");
+    check(call(SYS_mlock, at, (long)PAGE) == 0 && call(SYS_munlock, at, (long)PAGE) == 0, "mlock of what has left");
+    check(differing(at, 17, PAGES, 1) == 0 && shown(at + 17 * PAGE, PAGES - 17) == PAGES - 17, "all others are lent still");
+}
+
+/* Files are seen, and the library's own descriptors stay. */
+static void numbers_of_files(void) {
+    char name[] = "/var/tmp/raw-callsXXXXXX", own[64];
+    int made = mkstemp(name), busy = 0;
+    begin_hearing();
+    uint8_t *at = lent(PAGES);
+    int file = (int)call(SYS_openat, (long)AT_FDCWD, name, (long)(O_RDONLY | O_DIRECT | O_CLOEXEC), 0L);
+    check(file >= 0 && wait_for_count("devices", 1, SECONDS), "a file by O_DIRECT is seen");
+    check(call(SYS_close, (long)file) == 0 && fcntl(file, F_GETFD) == -1, "it is closed");
+    file = (int)call(SYS_open, name, (long)(O_RDONLY | O_CLOEXEC), 0L);
+    check(file >= 0 && call(SYS_fcntl, (long)file, (long)F_SETFL, (long)O_DIRECT) == 0, "one that is switched");
+    for (long place = 3; place < 65536; place++) {
+        snprintf(own, sizeof own, "/proc/self/fd/%ld", place);
+        if (access(own, F_OK) != 0 || place == file || place == made || place == said_at) continue;
+        busy += call(SYS_dup2, (long)file, place) == -1 && errno == EBUSY &&
+                call(SYS_dup3, (long)file, place, (long)O_CLOEXEC) == -1 && errno == EBUSY;
+        check(call(SYS_close, place) == 0 && access(own, F_OK) == 0, "a descriptor of the library's stays");
+    }
+    check(busy > 1, "none takes their places");
+    unlink(name);
+    check(call(SYS_close_range, 3L, (long)UINT32_MAX, 0L) == 0 && fcntl(file, F_GETFD) == -1, "close_range");
+    fill(at, PAGES, 7);
+    check(wait_for_count("lent", PAGES, SECONDS) && differing(at, 0, PAGES, 7) == 0, "what was written is lent again");
+    said_at = -1;
 }
 
 /* ---- forks, signals and threads ---- */
 
 static bool can_set_up(void) {
     aio_context_t context = 0;
-    return syscall(SYS_io_setup, REQUESTS, &context) == 0 && syscall(SYS_io_destroy, context) == 0;
+    return call(SYS_io_setup, REQUESTS, &context) == 0 && syscall(SYS_io_destroy, context) == 0;
 }
 
 static const char sets_up[] = "sets-up";
@@ -354,7 +508,7 @@ static void raw_handler(void) {
 static void *makes(void *unused) {
     while (!atomic_load(&is_over)) {
         struct io_uring_params params = {0};
-        int ring = (int)syscall(SYS_io_uring_setup, REQUESTS, &params);
+        int ring = (int)call(SYS_io_uring_setup, REQUESTS, &params);
         if (ring >= 0) close(ring);
         atomic_fetch_add(&failed, !can_set_up());
         atomic_fetch_add(&made, 1);
@@ -400,7 +554,7 @@ static double cost_of(long number, long first, long second, long third, unsigned
     double least = 1e9;
     for (unsigned turn = 0; turn < 20; turn++) {
         double begin = now();
-        for (unsigned i = 0; i < times; i++) syscall(number, first, second, third);
+        for (unsigned i = 0; i < times; i++) call(number, first, second, third);
         double took = (now() - begin) / times * 1e9;
         least = took < least ? took : least;
     }
@@ -455,8 +609,8 @@ static void stays_guarded(void) {
     uint8_t *at = lent(PAGES);
     struct uffdio_register asked = {.range = {(uintptr_t)at, PAGES * PAGE}, .mode = UFFDIO_REGISTER_MODE_WP};
     struct uffdio_writeprotect guard = {.range = {(uintptr_t)at, PAGE}, .mode = UFFDIO_WRITEPROTECT_MODE_WP};
-    check(syscall(SYS_ioctl, faults, UFFDIO_REGISTER, &asked) == 0, "UFFDIO_REGISTER");
-    check(syscall(SYS_ioctl, faults, UFFDIO_WRITEPROTECT, &guard) == 0, "UFFDIO_WRITEPROTECT");
+    check(call(SYS_ioctl, faults, UFFDIO_REGISTER, &asked) == 0, "UFFDIO_REGISTER");
+    check(call(SYS_ioctl, faults, UFFDIO_WRITEPROTECT, &guard) == 0, "UFFDIO_WRITEPROTECT");
     says("guarded");
     close(faults);
     fill(at, PAGES, 7);
@@ -588,7 +742,7 @@ static void guarded_later(void) {
     offer(lent_at, PAGES);
     check(wait_for_count("lent", PAGES, SECONDS), "other memory is lent");
     struct uffdio_register asked = {.range = {(uintptr_t)at, PAGES * PAGE}, .mode = UFFDIO_REGISTER_MODE_WP};
-    check(syscall(SYS_ioctl, faults, UFFDIO_REGISTER, &asked) == 0, "UFFDIO_REGISTER");
+    check(by_instruction(SYS_ioctl, faults, UFFDIO_REGISTER, &asked) == 0, "UFFDIO_REGISTER");
     fill(at, PAGES, 1); /* (equal to what is lent) */
     sleep(3);
     check(differing(at, 0, PAGES, 1) == 0, "pages keep their content");
@@ -633,6 +787,10 @@ static const struct way {
     {"raw-guard", raw_guard},
     {"raw-missing", raw_missing},
     {"raw-advice", raw_advice},
+    {"raw-collide", raw_collide},
+    {"raw-same", numbers_same},
+    {"raw-memory", numbers_of_memory},
+    {"raw-descriptors", numbers_of_files},
     {"raw-child", raw_child},
     {"raw-signals", raw_signals},
     {"raw-threads", raw_threads},
@@ -651,13 +809,21 @@ static const struct way {
     {"protected-early", protected_early},
 };
 
+/* Whether a way has this name; by_number: with "number-" in the place of "raw-". */
+static bool is_named(const struct way *way, const char *name, bool by_number) {
+    const char *rest = strchr(way->name, '-');
+    if (!by_number) return strcmp(name, way->name) == 0;
+    return strncmp(way->name, "raw-", 4) == 0 && strcmp(strchr(name, '-'), rest) == 0;
+}
+
 int main(int count, char **words) {
     const char *name = count > 1 ? words[1] : "";
-    bool is_known = false;
+    bool is_known = false, by_number = strncmp(name, "number-", 7) == 0;
     if (strcmp(name, sets_up) == 0) return can_set_up() ? 0 : 1;
+    if (by_number) call = syscall;
     library_count("lent"); /* (so that memory for it is there) */
     for (size_t i = 0; i < sizeof ways / sizeof ways[0]; i++) {
-        if (strcmp(name, ways[i].name) != 0) continue;
+        if (!is_named(&ways[i], name, by_number)) continue;
         is_known = true;
         ways[i].run();
     }

@@ -1,4 +1,4 @@
-"""Calls of the system that a monitor makes past the C library, and what scans of its descriptors cost: checks/host/raw_calls.c."""
+"""Calls of the system that a monitor makes by their numbers or past the C library, and what scans of its descriptors cost: checks/host/raw_calls.c."""
 from __future__ import annotations
 
 import subprocess
@@ -6,7 +6,9 @@ import subprocess
 from parts_cases import compile_parts, run_parts, start
 from places import AS_NOBODY, HERE, Host, all_released, must
 
-RAW = ("submit", "ring", "buffers", "files", "map", "guard", "missing", "advice", "child", "signals", "handler", "threads", "costs")
+RAW = ("submit", "ring", "buffers", "files", "map", "guard", "missing", "advice", "collide", "child", "signals", "handler", "threads", "costs")
+# What no filter shows.
+NUMBERS = ("same", "memory", "descriptors")
 # Slow looks of a small share.
 SLOW = {"PAGESHARE_PERIOD_MS": "1000", "PAGESHARE_FILTER": "0"}
 
@@ -15,6 +17,11 @@ def case_filter() -> None:
     """With a filter the library is told of calls past the C library before they are made; beside signals, threads and forks."""
     run_parts([f"raw-{name}" for name in RAW], more={"PAGESHARE_FILTER": "1"}, program="raw_calls")
     run_parts(("orphan",), more={"PAGESHARE_FILTER": "1"}, program="waits")
+
+
+def case_numbers() -> None:
+    """Without a filter the library is told of the same calls where the program makes them by `syscall`, and of those that have names here."""
+    run_parts([f"number-{name}" for name in (*RAW, *NUMBERS)], more={"PAGESHARE_FILTER": "0"}, program="raw_calls")
 
 
 def case_filter_by_itself() -> None:

@@ -32,10 +32,13 @@ def disturbs(path: str) -> None:
             time.sleep(0.1)
 
 
+HOW = ("names", "instructions", "numbers")  # (calls are made)
+
+
 def start_reach(program: StrPath, host: Host, seed: int, seconds: int, more: Mapping[str, str]) -> subprocess.Popen[str]:
-    way = "filter" if seed % 2 else "scans"
+    way = HOW[seed % len(HOW)]
     env = {"PAGESHARE_PERIOD_MS": "20", "PAGESHARE_CPU": "100", "PAGESHARE_COUNTS": str(HERE.place.room / f"reach{seed}.json"),
-           "PAGESHARE_FILTER": str(seed % 2)}
+           "PAGESHARE_FILTER": "1" if way == "instructions" else "0"}
     words = [*AS_NOBODY, program, str(seed), str(seconds), way]
     return subprocess.Popen(words, env=preloaded(host, env | dict(more)), text=True, stdout=subprocess.PIPE, stderr=subprocess.STDOUT)
 

@@ -1,7 +1,7 @@
 /*
  * A library that is preloaded before libpageshare-window.so, and refuses some calls of the system that that one makes: the REFUSE_FIRST-th,
  * and each REFUSE_EACH-th one after it, as if there were no memory, no time or no right for it. Calls of the program itself aren't refused.
- * At the end it prints how many calls there were, and how many were refused.
+ * refuse_syscalls.c is its other half. At the end it prints how many calls there were, and how many were refused.
  */
 #define _GNU_SOURCE
 #include <dlfcn.h>
@@ -81,7 +81,7 @@ __attribute__((destructor)) static void stop(void) {
 /* Whether this call is refused; errno says how. */
 static bool refuses(const void *caller) {
     static const int causes[] = {ENOMEM, EAGAIN, EPERM};
-    if (next.syscall == NULL) find_next();
+    if (next.mmap == NULL) find_next();
     if (inside > 0 || (uintptr_t)caller < begin || (uintptr_t)caller >= end || first == 0) return false;
     unsigned long number = atomic_fetch_add(&calls, 1) + 1;
     if (number < first || (number - first) % each != 0) return false;
@@ -152,20 +152,30 @@ PUBLIC ssize_t pread(int descriptor, void *buffer, size_t bytes, off_t from) {
     return got;
 }
 
-/* Of these numbers of calls some are refused. */
-static bool may_refuse(long number) {
-    return number == SYS_mmap || number == SYS_mremap || number == SYS_madvise || number == SYS_ioctl || number == SYS_openat ||
-           number == SYS_munmap || number == SYS_mprotect || number == SYS_seccomp || number == SYS_pidfd_open;
-}
-
+/* (calls of the library's own don't come here: see refuse_syscalls.c) */
 PUBLIC long syscall(long number, ...) {
     long words[6];
     va_list rest;
     va_start(rest, number);
     for (size_t i = 0; i < 6; i++) words[i] = va_arg(rest, long);
     va_end(rest);
-    bool may = may_refuse(number) && (number != SYS_madvise || may_refuse_advice(words[2]));
-    if (may && refuses(CALLER)) return -1;
     if (next.syscall == NULL) find_next();
-    return next.syscall(number, words[0], words[1], words[2], words[3], words[4], words[5]);
+    bool is_as_named = number == SYS_mmap || number == SYS_mremap || number == SYS_madvise || number == SYS_ioctl ||
+                       number == SYS_openat || number == SYS_pread64;
+    inside += is_as_named;
+    long status = next.syscall(number, words[0], words[1], words[2], words[3], words[4], words[5]);
+    inside -= is_as_named;
+    return status;
+}
+
+/* Of these numbers of calls some are refused. */
+static bool may_refuse(long number) {
+    return number == SYS_mmap || number == SYS_mremap || number == SYS_madvise || number == SYS_ioctl || number == SYS_openat ||
+           number == SYS_munmap || number == SYS_mprotect || number == SYS_seccomp || number == SYS_pidfd_open;
+}
+
+PUBLIC bool refuse_in_monitor(long number, const long words[6], const void *caller);
+PUBLIC bool refuse_in_monitor(long number, const long words[6], const void *caller) {
+    bool may = may_refuse(number) && (number != SYS_madvise || may_refuse_advice(words[2]));
+    return may && refuses(caller);
 }

@@ -2,10 +2,11 @@
  * A stand-in for a monitor, to be run under libpageshare-window.so: threads write, check, discard and move pages of one window all the
  * time, while children are forked, and it says how many words were wrong. Words: SECONDS MIB THREADS [close|raw] [fewer]
  *
- * close: after a third of the time it closes all descriptors from 3 on, as monitors do that don't know who opened them; raw: by the
- * system call, which the library doesn't see. fewer: parts of the window are unmapped, protected and locked, too, so that they leave it.
+ * close: after a third of the time it closes all descriptors from 3 on, as monitors do that don't know who opened them; raw: by an
+ * instruction of its own, which the library doesn't see. fewer: parts of the window are unmapped, protected and locked, too, so that they leave it.
  */
 #define _GNU_SOURCE
+#include "instruction.h"
 #include <pthread.h>
 #include <stdatomic.h>
 #include <stdbool.h>
@@ -109,7 +110,7 @@ int main(int count, char **words) {
     for (unsigned second = 0; second < seconds; second++) {
         sleep(1);
         if (closes && second == seconds / 3) close_range(3, ~0u, 0);
-        if (raw && second == seconds / 3) syscall(SYS_close_range, 3, ~0u, 0);
+        if (raw && second == seconds / 3) by_instruction(SYS_close_range, 3, ~0u, 0);
         if (fewer) leave_in_part(area + all * PAGE, second);
         pid_t child = fork();
         if (child == 0) _exit(0);

@@ -9,6 +9,7 @@
  * Prints figures, and what isn't so. Status 0 if all is so, 77 if it is left out, else 1.
  */
 #define _GNU_SOURCE
+#include "instruction.h"
 #include "offered.h"
 #include <errno.h>
 #include <fcntl.h>
@@ -16,9 +17,9 @@
 #include <linux/userfaultfd.h>
 #include <poll.h>
 #include <pthread.h>
-#include <stdarg.h>
 #include <stdatomic.h>
 #include <sys/ioctl.h>
+#include <sys/prctl.h>
 #include <sys/syscall.h>
 #include <sys/uio.h>
 #include <sys/wait.h>
@@ -54,23 +55,12 @@ __attribute__((visibility("default"))) int open(const char *path, int flags, ...
 
 static atomic_bool is_asking_slow;
 
-/* As the C library's, but that it takes long to find out whose thread something is. */
-__attribute__((visibility("default"))) long syscall(long number, ...) {
-    enum { WORDS = 6, ERRORS = 4095 };
-    long words[WORDS], status;
-    va_list more;
-    va_start(more, number);
-    for (size_t i = 0; i < WORDS; i++) words[i] = va_arg(more, long);
-    va_end(more);
-    if (number == SYS_tgkill && atomic_load(&is_asking_slow)) usleep(500000);
-    register long fourth __asm__("r10") = words[3], fifth __asm__("r8") = words[4], sixth __asm__("r9") = words[5];
-    __asm__ volatile("syscall"
-                     : "=a"(status)
-                     : "a"(number), "D"(words[0]), "S"(words[1]), "d"(words[2]), "r"(fourth), "r"(fifth), "r"(sixth)
-                     : "rcx", "r11", "memory");
-    if (status >= 0 || status < -ERRORS) return status;
-    errno = (int)-status;
-    return -1;
+/* As the C library's, but that it takes long for the thread that answers calls, which finds out whose one is. */
+__attribute__((visibility("default"))) pid_t getpid(void) {
+    char name[16] = "";
+    bool answers = atomic_load(&is_asking_slow) && prctl(PR_GET_NAME, name) == 0 && strcmp(name, "pageshare-calls") == 0;
+    if (answers) usleep(500000);
+    return (pid_t)by_instruction(SYS_getpid);
 }
 
 static double now(void) { return clock_of(CLOCK_MONOTONIC); }
@@ -247,7 +237,7 @@ static int orphan(void) {
         aio_context_t context = 0;
         offer(make_memory(64), 64);
         atomic_store(&is_asking_slow, true);
-        if (fork() == 0) _exit(syscall(SYS_io_setup, 1, &context) == 0 && write(ends[1], "x", 1) == 1 ? 0 : 1);
+        if (fork() == 0) _exit(by_instruction(SYS_io_setup, 1, &context) == 0 && write(ends[1], "x", 1) == 1 ? 0 : 1);
         usleep(200000);
         _exit(0);
     }

@@ -7,6 +7,7 @@
 #include "sharing.h"
 #include "trouble.h"
 #include <fcntl.h>
+#include <linux/io_uring.h>
 #include <linux/userfaultfd.h>
 #include <sys/ioctl.h>
 #include <sys/mman.h>
@@ -26,7 +27,22 @@ bool calls_prepare_ring(void) {
     return find_devices();
 }
 
-bool calls_prepare_registering(void) { return sharing_devices(DEVICES_PIN_PAGES); }
+/* (as headers have them from Linux 6.12 on) */
+static const uint32_t registering[] = {
+    IORING_REGISTER_BUFFERS, 2 /* FILES */,     6 /* FILES_UPDATE */,    13 /* FILES2 */,
+    14 /* .._UPDATE2 */,     15 /* BUFFERS2 */, 16 /* BUFFERS_UPDATE */, 30 /* CLONE_BUFFERS */};
+_Static_assert(sizeof registering == CALLS_REGISTERING_MOST * sizeof *registering, "all have room");
+
+size_t calls_registering(uint32_t what[CALLS_REGISTERING_MOST]) {
+    memcpy(what, registering, sizeof registering);
+    return CALLS_REGISTERING_MOST;
+}
+
+bool calls_prepare_registering(uint32_t what) {
+    bool is_it = false;
+    for (size_t i = 0; i < CALLS_REGISTERING_MOST; i++) is_it = is_it || registering[i] == (what & ~CALLS_BY_RING);
+    return !is_it || sharing_devices(DEVICES_PIN_PAGES);
+}
 
 static void *begin_of(const struct uffdio_range *range) { return (void *)(uintptr_t)range->start; }
 

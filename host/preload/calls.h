@@ -1,6 +1,6 @@
 /*
  * What the library does before a call of the system is made that lets devices write to memory, or that windows can't bear. The functions that
- * take the C library's place call it (preload.c, aio.c), and so does the filter (filter.c), for calls that are made otherwise.
+ * take the C library's place call it (preload.c, aio.c, raw_calls.c), and so does the filter (filter.c), for calls that are made otherwise.
  */
 #ifndef HOST_CALLS_H
 #define HOST_CALLS_H
@@ -12,16 +12,24 @@
 #include <sys/uio.h>
 
 /*
- * io_setup; io_uring_setup; buffers or files that are registered with an io_uring; a request of ioctl with what it is made with. Returns false,
- * with errno, if lending would have to end for the call and can't: then it isn't to be made. `*is_followed`: once it has been made,
- * calls_request_made is to be called.
+ * io_setup; io_uring_setup; io_uring_register with what it is to do; a request of ioctl with what it is made with. Returns false, with errno,
+ * if lending would have to end for the call and can't: then it isn't to be made. `*is_followed`: once it has been made, calls_request_made is
+ * to be called.
  */
 bool calls_prepare_context(void);
 bool calls_prepare_ring(void);
-bool calls_prepare_registering(void);
+bool calls_prepare_registering(uint32_t what);
 bool calls_prepare_request(unsigned long request, const void *with, bool *is_followed);
 /* A request was made of a descriptor, and returned this. errno stays as it is. */
 void calls_request_made(int descriptor, unsigned long request, const void *with, long status);
+
+/*
+ * What io_uring_register does that matters: buffers and files that are registered, as many as are returned. A word that names the ring among the
+ * registered ones has one bit more.
+ */
+enum { CALLS_REGISTERING_MOST = 8 };
+size_t calls_registering(uint32_t what[CALLS_REGISTERING_MOST]);
+static const uint32_t CALLS_BY_RING = 1u << 31;
 
 /* The requests of ioctl that matter, as many as are returned. */
 enum { CALLS_REQUESTS_MOST = 24 };

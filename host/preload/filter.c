@@ -7,11 +7,11 @@
 #include "trouble.h"
 #include <linux/audit.h>
 #include <linux/filter.h>
-#include <linux/io_uring.h>
 #include <linux/seccomp.h>
 #include <poll.h>
 #include <semaphore.h>
 #include <stdatomic.h>
+#include <sys/ioctl.h>
 #include <sys/mman.h>
 #include <sys/prctl.h>
 
@@ -108,12 +108,8 @@ static void show(struct program *program) {
 /* (calls whose number alone says that they pass are known to the system beforehand: they don't come here) */
 static void write_program(struct program *program) {
     static const uint32_t calls[] = {SYS_io_setup, SYS_io_uring_setup, SYS_process_madvise};
-    static const uint32_t registering[] = {
-        IORING_REGISTER_BUFFERS, 2 /* FILES */,     6 /* FILES_UPDATE */,    13 /* FILES2 */,
-        14 /* .._UPDATE2 */,     15 /* BUFFERS2 */, 16 /* BUFFERS_UPDATE */, 30 /* CLONE_BUFFERS */};
-    const uint32_t by_ring = 1u << 31; /* the ring is named by its number among the registered ones */
-    uint32_t requests[CALLS_REQUESTS_MOST];
-    size_t count = calls_requests(requests);
+    uint32_t requests[CALLS_REQUESTS_MOST], registering[CALLS_REGISTERING_MOST];
+    size_t requests_count = calls_requests(requests), registering_count = calls_registering(registering);
     program->count = 0;
     load(program, offsetof(struct seccomp_data, arch));
     if_any(program, (const uint32_t[]){AUDIT_ARCH_X86_64}, 1);
@@ -126,12 +122,12 @@ static void write_program(struct program *program) {
     struct sock_filter *from_calls = leap(program);
     here(program, to_requests);
     load(program, offsetof(struct seccomp_data, args[1]));
-    if_any(program, requests, count);
+    if_any(program, requests, requests_count);
     struct sock_filter *from_requests = leap(program);
     here(program, to_registering);
     load(program, offsetof(struct seccomp_data, args[1]));
-    step(program, BPF_ALU | BPF_AND | BPF_K, ~by_ring);
-    if_any(program, registering, sizeof registering / sizeof *registering);
+    step(program, BPF_ALU | BPF_AND | BPF_K, ~CALLS_BY_RING);
+    if_any(program, registering, registering_count);
     here(program, from_calls);
     here(program, from_requests);
     show(program);
@@ -175,7 +171,7 @@ static void prepare(const struct seccomp_data *data, struct answer *answer) {
     ssize_t status;
     if (data->nr == SYS_io_setup) may = calls_prepare_context();
     if (data->nr == SYS_io_uring_setup) may = calls_prepare_ring();
-    if (data->nr == SYS_io_uring_register) may = calls_prepare_registering();
+    if (data->nr == SYS_io_uring_register) may = calls_prepare_registering((uint32_t)data->args[1]);
     if (data->nr == SYS_ioctl) may = calls_prepare_request(request, with, &is_followed);
     if (!may) return set(answer, -1);
     if (is_followed) {

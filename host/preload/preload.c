@@ -1,7 +1,7 @@
 #define _GNU_SOURCE
 /*
  * libpageshare-window.so, preloaded into a virtual machine monitor: the functions of the C library that it interposes, but for those that
- * read and write files (transfers.c, aio.c), and nothing else.
+ * read and write files (transfers.c, aio.c) and `syscall` (raw_calls.c), and nothing else.
  * sharing.c has what they do. Where a call has nothing to do with a window it goes to the system as it is.
  *
  * Interposed are calls
@@ -13,6 +13,7 @@
 #include "buffers.h"
 #include "calls.h"
 #include "filter.h"
+#include "monitor.h"
 #include "sharing.h"
 #include "trouble.h"
 #include <dlfcn.h>
@@ -33,6 +34,7 @@
 #endif
 
 #define PUBLIC __attribute__((visibility("default")))
+#define ALIAS(NAME) __attribute__((visibility("default"), alias(NAME)))
 
 /* The word that a call has behind its named ones. */
 #define READ_WITH(LAST)                                                                                                          \
@@ -96,17 +98,19 @@ static int advise_window(void *at, size_t bytes, int advice) {
     }
 }
 
-PUBLIC int madvise(void *at, size_t bytes, int advice) {
+int monitor_madvise(void *at, size_t bytes, int advice) {
     if (advice == MADV_MERGEABLE && !sharing_is_inside() && sharing_offer(at, bytes)) return 0;
     return sharing_meets(at, bytes) ? advise_window(at, bytes, advice) : system_madvise(at, bytes, advice);
 }
+int madvise(void *at, size_t bytes, int advice) ALIAS("monitor_madvise");
 
-PUBLIC ssize_t process_madvise(int process, const struct iovec *buffers, size_t count, int advice, unsigned flags);
-PUBLIC ssize_t process_madvise(int process, const struct iovec *buffers, size_t count, int advice, unsigned flags) {
+ssize_t monitor_process_madvise(int process, const struct iovec *buffers, size_t count, int advice, unsigned flags) {
     ssize_t status;
     if (calls_advise(process, buffers, count, advice, flags, &status)) return status;
     return filter_pass(SYS_process_madvise, process, (long)buffers, (long)count, advice, flags);
 }
+ssize_t process_madvise(int process, const struct iovec *buffers, size_t count, int advice, unsigned flags)
+    ALIAS("monitor_process_madvise");
 
 /* ---- mappings ---- */
 
@@ -120,22 +124,24 @@ static long call_mmap(void *with) {
     return syscall(SYS_mmap, words->of[0], words->of[1], words->of[2], words->of[3], words->of[4], words->of[5]);
 }
 
-PUBLIC void *mmap(void *at, size_t bytes, int protection, int flags, int file, off_t offset) {
+void *monitor_mmap(void *at, size_t bytes, int protection, int flags, int file, off_t offset) {
     struct words words = {{(long)at, (long)bytes, protection, flags, file, offset}};
     bool replaces = (flags & MAP_FIXED) != 0 && sharing_meets(at, bytes);
     return (void *)(replaces ? sharing_replace(at, bytes, call_mmap, &words) : call_mmap(&words));
 }
-PUBLIC void *mmap64(void *at, size_t bytes, int protection, int flags, int file, off_t offset) __attribute__((alias("mmap")));
+void *mmap(void *at, size_t bytes, int protection, int flags, int file, off_t offset) ALIAS("monitor_mmap");
+void *mmap64(void *at, size_t bytes, int protection, int flags, int file, off_t offset) ALIAS("monitor_mmap");
 
 static long call_munmap(void *with) {
     const struct words *words = with;
     return syscall(SYS_munmap, words->of[0], words->of[1]);
 }
 
-PUBLIC int munmap(void *at, size_t bytes) {
+int monitor_munmap(void *at, size_t bytes) {
     struct words words = {{(long)at, (long)bytes}};
     return (int)(sharing_meets(at, bytes) ? sharing_replace(at, bytes, call_munmap, &words) : call_munmap(&words));
 }
+int munmap(void *at, size_t bytes) ALIAS("monitor_munmap");
 
 static long call_mremap(void *with) {
     const struct words *words = with;
@@ -149,14 +155,7 @@ static bool leave_to_move(void *at, size_t bytes) {
     return left == SHARING_LEFT;
 }
 
-PUBLIC void *mremap(void *at, size_t bytes, size_t new_bytes, int flags, ...) {
-    void *to = NULL;
-    if (flags & (MREMAP_FIXED | MREMAP_DONTUNMAP)) {
-        va_list rest;
-        va_start(rest, flags);
-        to = va_arg(rest, void *);
-        va_end(rest);
-    }
+void *monitor_mremap(void *at, size_t bytes, size_t new_bytes, int flags, void *to) {
     struct words words = {{(long)at, (long)bytes, (long)new_bytes, flags, (long)to}};
     bool shrinks = (flags & (MREMAP_FIXED | MREMAP_DONTUNMAP)) == 0 && new_bytes > 0 && new_bytes < bytes;
     uint8_t *rest_at = (uint8_t *)at + (new_bytes + PAGE - 1) / PAGE * PAGE, *end = (uint8_t *)at + bytes;
@@ -167,18 +166,31 @@ PUBLIC void *mremap(void *at, size_t bytes, size_t new_bytes, int flags, ...) {
     return (void *)(replaces ? sharing_replace(to, new_bytes, call_mremap, &words) : call_mremap(&words));
 }
 
+PUBLIC void *mremap(void *at, size_t bytes, size_t new_bytes, int flags, ...) {
+    void *to = NULL;
+    if (flags & (MREMAP_FIXED | MREMAP_DONTUNMAP)) {
+        va_list rest;
+        va_start(rest, flags);
+        to = va_arg(rest, void *);
+        va_end(rest);
+    }
+    return monitor_mremap(at, bytes, new_bytes, flags, to);
+}
+
 /* Whether a range may be protected or locked: nothing of it is lent any more. */
 static bool leaves(const void *at, size_t bytes, const char *why) {
     return !sharing_meets(at, bytes) || sharing_leave((void *)(uintptr_t)at, bytes, why) != SHARING_REFUSED;
 }
 
-PUBLIC int mprotect(void *at, size_t bytes, int protection) {
+int monitor_mprotect(void *at, size_t bytes, int protection) {
     return leaves(at, bytes, "mprotect") ? (int)syscall(SYS_mprotect, at, bytes, protection) : -1;
 }
+int mprotect(void *at, size_t bytes, int protection) ALIAS("monitor_mprotect");
 
-PUBLIC int pkey_mprotect(void *at, size_t bytes, int protection, int key) {
+int monitor_pkey_mprotect(void *at, size_t bytes, int protection, int key) {
     return leaves(at, bytes, "pkey_mprotect") ? (int)syscall(SYS_pkey_mprotect, at, bytes, protection, key) : -1;
 }
+int pkey_mprotect(void *at, size_t bytes, int protection, int key) ALIAS("monitor_pkey_mprotect");
 
 /* ---- locked memory ---- */
 
@@ -188,28 +200,36 @@ static bool leaves_to_lock(const void *at, size_t bytes, const char *why) {
     return bytes == 0 || leaves((const uint8_t *)at - before, bytes + before, why);
 }
 
-PUBLIC int mlock(const void *at, size_t bytes) {
+int monitor_mlock(const void *at, size_t bytes) {
     return leaves_to_lock(at, bytes, "mlock") ? (int)syscall(SYS_mlock, at, bytes) : -1;
 }
+int mlock(const void *at, size_t bytes) ALIAS("monitor_mlock");
 
-PUBLIC int mlock2(const void *at, size_t bytes, unsigned flags) {
+int monitor_mlock2(const void *at, size_t bytes, unsigned flags) {
     return leaves_to_lock(at, bytes, "mlock2") ? (int)syscall(SYS_mlock2, at, bytes, flags) : -1;
 }
+int mlock2(const void *at, size_t bytes, unsigned flags) ALIAS("monitor_mlock2");
 
-PUBLIC int mlockall(int flags) {
+int monitor_mlockall(int flags) {
     if (!sharing_end("the process locks its memory (mlockall)")) return -1;
     return (int)syscall(SYS_mlockall, flags);
 }
+int mlockall(int flags) ALIAS("monitor_mlockall");
 
 /* ---- devices, and the monitor's own userfaultfd ---- */
 
+long monitor_ioctl(int descriptor, unsigned long request, void *with) {
+    bool is_followed = false;
+    request &= UINT32_MAX; /* (the system takes no more of it; an int may have come with its sign) */
+    if (!sharing_is_inside() && !calls_prepare_request(request, with, &is_followed)) return -1;
+    long status = filter_pass(SYS_ioctl, descriptor, (long)request, (long)with, 0, 0);
+    if (is_followed) calls_request_made(descriptor, request, with, status);
+    return request == USERFAULTFD_IOC_NEW && sharing_is_inside() ? sharing_own((int)status) : status;
+}
+
 PUBLIC int ioctl(int descriptor, unsigned long request, ...) {
     READ_WITH(request)
-    bool is_followed = false;
-    if (!sharing_is_inside() && !calls_prepare_request(request, with, &is_followed)) return -1;
-    int status = (int)filter_pass(SYS_ioctl, descriptor, (long)request, (long)with, 0, 0);
-    if (is_followed) calls_request_made(descriptor, request, with, status);
-    return request == USERFAULTFD_IOC_NEW && sharing_is_inside() ? sharing_own(status) : status;
+    return (int)monitor_ioctl(descriptor, request, with);
 }
 
 /* Looks what a descriptor that was opened may do. It is closed again if lending would have to end for it, and can't. */
@@ -222,7 +242,7 @@ static int opened(int descriptor, bool may_pin) {
     return -1;
 }
 
-static int open_at(int folder, const char *path, int flags, mode_t mode) {
+int monitor_open(int folder, const char *path, int flags, mode_t mode) {
     int descriptor = (int)syscall(SYS_openat, folder, path, flags, mode);
     if (sharing_is_inside()) return sharing_own(descriptor);
     return opened(descriptor, devices_may_be(path, flags));
@@ -240,21 +260,21 @@ static int open_at(int folder, const char *path, int flags, mode_t mode) {
 
 PUBLIC int open(const char *path, int flags, ...) {
     READ_MODE(flags, mode)
-    return open_at(AT_FDCWD, path, flags, mode);
+    return monitor_open(AT_FDCWD, path, flags, mode);
 }
-PUBLIC int open64(const char *path, int flags, ...) __attribute__((alias("open")));
+int open64(const char *path, int flags, ...) ALIAS("open");
 PUBLIC int openat(int folder, const char *path, int flags, ...) {
     READ_MODE(flags, mode)
-    return open_at(folder, path, flags, mode);
+    return monitor_open(folder, path, flags, mode);
 }
-PUBLIC int openat64(int folder, const char *path, int flags, ...) __attribute__((alias("openat")));
+int openat64(int folder, const char *path, int flags, ...) ALIAS("openat");
 /* What programs call that were built with checks (_FORTIFY_SOURCE). */
 PUBLIC int __open_2(const char *path, int flags);
-PUBLIC int __open_2(const char *path, int flags) { return open_at(AT_FDCWD, path, flags, 0); }
-PUBLIC int __open64_2(const char *path, int flags) __attribute__((alias("__open_2")));
+PUBLIC int __open_2(const char *path, int flags) { return monitor_open(AT_FDCWD, path, flags, 0); }
+int __open64_2(const char *path, int flags) ALIAS("__open_2");
 PUBLIC int __openat_2(int folder, const char *path, int flags);
-PUBLIC int __openat_2(int folder, const char *path, int flags) { return open_at(folder, path, flags, 0); }
-PUBLIC int __openat64_2(int folder, const char *path, int flags) __attribute__((alias("__openat_2")));
+PUBLIC int __openat_2(int folder, const char *path, int flags) { return monitor_open(folder, path, flags, 0); }
+int __openat64_2(int folder, const char *path, int flags) ALIAS("__openat_2");
 
 /* A file that is open already may be switched to O_DIRECT. */
 static int set_or_get(fcntl_function *after, int descriptor, int command, void *with) {
@@ -267,6 +287,7 @@ static int set_or_get(fcntl_function *after, int descriptor, int command, void *
     errno = cause;
     return -1;
 }
+int monitor_fcntl(int descriptor, int command, void *with) { return set_or_get(NULL, descriptor, command, with); }
 PUBLIC int fcntl(int descriptor, int command, ...) {
     READ_WITH(command)
     return set_or_get(next.fcntl, descriptor, command, with);
@@ -279,16 +300,17 @@ PUBLIC int fcntl64(int descriptor, int command, ...) {
 /* ---- descriptors ---- */
 
 /* (the library's own are no devices; it closes some at each look, and would look at all descriptors each time) */
-PUBLIC int close(int descriptor) {
+int monitor_close(int descriptor) {
     if (sharing_is_inside()) sharing_disown(descriptor);
     if (sharing_owns(descriptor)) return 0;
     int status = (int)syscall(SYS_close, descriptor);
     if (!sharing_is_inside()) devices_closed();
     return status;
 }
+int close(int descriptor) ALIAS("monitor_close");
 
 /* Closes a range of descriptors but for the library's own. */
-PUBLIC int close_range(unsigned first, unsigned last, int flags) {
+int monitor_close_range(unsigned first, unsigned last, int flags) {
     unsigned from = first;
     if (first > last) return (int)syscall(SYS_close_range, first, last, flags); /* the system refuses it */
     devices_closed();
@@ -299,23 +321,25 @@ PUBLIC int close_range(unsigned first, unsigned last, int flags) {
     }
     return from > last ? 0 : (int)syscall(SYS_close_range, from, last, flags);
 }
+int close_range(unsigned first, unsigned last, int flags) ALIAS("monitor_close_range");
 
-PUBLIC void closefrom(int first) { close_range(first < 0 ? 0 : (unsigned)first, ~0u, 0); }
+PUBLIC void closefrom(int first) { monitor_close_range(first < 0 ? 0 : (unsigned)first, ~0u, 0); }
 
 /*
  * A descriptor in the place of another one, which is closed by that. In the place of one of the library's own there comes none: EBUSY, as the
  * system itself answers where another thread is just opening a file of that number.
  */
-static int put_in_place(int descriptor, int place, int flags) {
+int monitor_dup3(int descriptor, int place, int flags) {
     if (!sharing_is_inside() && sharing_owns(place)) return (errno = EBUSY, -1);
     int status = (int)syscall(SYS_dup3, descriptor, place, flags);
     devices_closed();
     return status;
 }
 
-PUBLIC int dup3(int descriptor, int place, int flags) { return put_in_place(descriptor, place, flags); }
+int dup3(int descriptor, int place, int flags) ALIAS("monitor_dup3");
 
-PUBLIC int dup2(int descriptor, int place) {
-    if (descriptor != place) return put_in_place(descriptor, place, 0);
+int monitor_dup2(int descriptor, int place) {
+    if (descriptor != place) return monitor_dup3(descriptor, place, 0);
     return syscall(SYS_fcntl, descriptor, F_GETFD) < 0 ? -1 : place; /* (nothing is put anywhere; the descriptor must be open) */
 }
+int dup2(int descriptor, int place) ALIAS("monitor_dup2");

@@ -5,6 +5,7 @@
  * calls go on as they are.
  */
 #include "buffers.h"
+#include "monitor.h"
 #include "sharing.h"
 #include "trouble.h"
 #include <dlfcn.h>
@@ -182,6 +183,16 @@ PUBLIC ssize_t pwritev64v2(int file, const struct iovec *buffers, int count, off
 }
 PUBLIC ssize_t pwritev2(int file, const struct iovec *buffers, int count, off_t to, int flags)
     __attribute__((alias("pwritev64v2")));
+
+/* ---- by its number ---- */
+
+long monitor_transfer(int number, const long of[6]) {
+    const int file = (int)of[0];
+    void *const what = (void *)of[1];
+    bool is_of_one = number == SYS_read || number == SYS_write || number == SYS_pread64 || number == SYS_pwrite64;
+    TRANSFER(is_of_one ? begin(file, what, (size_t)of[2]) : begin_vector(file, what, (int)of[2]),
+             syscall(number, of[0], of[1], of[2], of[3], of[4], of[5]));
+}
 
 /* ---- what programs call that were built with checks (_FORTIFY_SOURCE) ---- */
 

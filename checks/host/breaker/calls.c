@@ -1,5 +1,6 @@
 #define _GNU_SOURCE
 #include "calls.h"
+#include "either.h"
 #include <errno.h>
 #include <fcntl.h>
 #include <stdio.h>
@@ -103,12 +104,12 @@ static int read_file(struct caller *caller, struct run run, int file) {
     const struct iovec parts[] = {{at + half, bytes_of(run) - half}, {at, half}};
     for (size_t i = 0; i < run.count; i++) content_fill(caller->aside + i * PAGE, (from + i) % CONTENTS);
     switch (draw(&caller->seed, 3)) {
-    case 0: return check_read(run, pread(file, at, bytes_of(run), offset), caller->aside);
-    case 1: return check_read(run, preadv(file, &(struct iovec){at, bytes_of(run)}, 1, offset), caller->aside);
+    case 0: return check_read(run, either_pread(file, at, bytes_of(run), offset), caller->aside);
+    case 1: return check_read(run, either_preadv(file, &(struct iovec){at, bytes_of(run)}, 1, offset), caller->aside);
     default: break;
     }
     /* (two parts the other way round) */
-    ssize_t status = preadv2(file, parts, 2, offset, 0);
+    ssize_t status = either_preadv2(file, parts, 2, offset, 0);
     if (half > 0 && half < bytes_of(run)) {
         size_t second = half / PAGE;
         for (size_t i = 0; i < run.count; i++)
@@ -123,8 +124,8 @@ static int read_direct(struct caller *caller, struct run run) { return read_file
 static int write_direct(struct caller *caller, struct run run) {
     off_t at = (off_t)(FILE_PAGES + CALL_PAGES * caller->number) * PAGE;
     for (size_t page = run.first; page < run.first + run.count; page++) page_settle(page);
-    if (pwrite(files.direct, page_at(run.first), bytes_of(run), at) != (ssize_t)bytes_of(run)) return -1;
-    if (pread(files.plain, caller->aside, bytes_of(run), at) != (ssize_t)bytes_of(run)) return -1;
+    if (either_pwrite(files.direct, page_at(run.first), bytes_of(run), at) != (ssize_t)bytes_of(run)) return -1;
+    if (either_pread(files.plain, caller->aside, bytes_of(run), at) != (ssize_t)bytes_of(run)) return -1;
     for (size_t i = 0; i < run.count; i++)
         bytes_check(run.first + i, caller->aside + i * PAGE, page_wanted(run.first + i), "written by O_DIRECT");
     return 0;
@@ -162,8 +163,9 @@ static int discard(struct caller *caller, struct run run) {
     int kind = kinds[draw(&caller->seed, 4)];
     const struct page *first = &shadow.pages[run.first];
     bool is_due = !first->is_locked || kind == MADV_DONTNEED_LOCKED;
-    if (kind == MADV_FREE && first->is_pinned) return 0;
-    int status = madvise(page_at(run.first), bytes_of(run), kind);
+    /* (it wouldn't be known whether the device still reads to these pages) */
+    if ((kind == MADV_FREE || calls_may_be_refused) && first->is_pinned) return 0;
+    int status = either_madvise(page_at(run.first), bytes_of(run), kind);
     /* (the library refuses it where a device may have pinned pages whose copies stay over frames) */
     if (status != 0 && errno == EINVAL && kind == MADV_DONTNEED_LOCKED && caller->device.is_there) return -1;
     bool is_excused = status != 0 && is_due && calls_may_be_refused;
@@ -171,7 +173,6 @@ static int discard(struct caller *caller, struct run run) {
     if (status == 0 && kind != MADV_FREE) run_is_zero(run);
     for (size_t page = run.first; page < run.first + run.count && ((status == 0 && kind == MADV_FREE) || is_excused); page++) {
         shadow.pages[page].may_be_zero = true;
-        if (is_excused) shadow.pages[page].is_pinned = false;
     }
     return is_due ? status : 0;
 }
@@ -184,33 +185,39 @@ static void note_child(struct run run, bool has_child) {
     }
 }
 
+/* Says whether a child of a fork is to have pages. What was refused may be done of some of them. */
+static int say_child(struct run run, bool has_child) {
+    int status = either_madvise(page_at(run.first), bytes_of(run), has_child ? MADV_DOFORK : MADV_DONTFORK);
+    if (status == 0) note_child(run, has_child);
+    for (size_t page = run.first; page < run.first + run.count && status != 0; page++) shadow.pages[page].is_unsure = true;
+    return status;
+}
+
 static int let_inherit(struct caller *caller, struct run run) {
     (void)caller;
-    if (madvise(page_at(run.first), bytes_of(run), MADV_DOFORK) == 0) return note_child(run, true), 0;
-    for (size_t page = run.first; page < run.first + run.count; page++) shadow.pages[page].is_unsure = true;
-    return -1;
+    return say_child(run, true);
 }
 
 static void offer(struct run run) {
     uint8_t *at = page_at(run.first);
-    if (calls_are_of_huge_pages) madvise(at, bytes_of(run), MADV_HUGEPAGE);
-    madvise(at, bytes_of(run), MADV_MERGEABLE);
-    if (madvise(at, bytes_of(run), MADV_DONTFORK) == 0) note_child(run, false);
+    if (calls_are_of_huge_pages) either_madvise(at, bytes_of(run), MADV_HUGEPAGE);
+    either_madvise(at, bytes_of(run), MADV_MERGEABLE);
+    say_child(run, false);
 }
 
 static int unmap(struct caller *caller, struct run run) {
     (void)caller;
-    if (munmap(page_at(run.first), bytes_of(run)) != 0) return -1;
+    if (either_munmap(page_at(run.first), bytes_of(run)) != 0) return -1;
     run_is_gone(run);
     return 0;
 }
 
 static int map_hole(struct caller *caller, struct run run) {
     uint8_t *at = shadow.range + run.first * PAGE;
-    void *got = mmap(at, bytes_of(run), RIGHTS, KIND | MAP_FIXED_NOREPLACE, -1, 0);
+    void *got = either_mmap(at, bytes_of(run), RIGHTS, KIND | MAP_FIXED_NOREPLACE);
     if (got != at) {
         if (got == MAP_FAILED && errno == EEXIST) note_wrong(run.first, "something lies where pages were unmapped");
-        if (got != MAP_FAILED) munmap(got, bytes_of(run));
+        if (got != MAP_FAILED) either_munmap(got, bytes_of(run));
         return -1;
     }
     run_is_new(run);
@@ -220,14 +227,14 @@ static int map_hole(struct caller *caller, struct run run) {
 
 static int replace(struct caller *caller, struct run run) {
     uint8_t *at = page_at(run.first);
-    if (mmap(at, bytes_of(run), RIGHTS, KIND | MAP_FIXED, -1, 0) != at) return -1;
+    if (either_mmap(at, bytes_of(run), RIGHTS, KIND | MAP_FIXED) != at) return -1;
     run_is_new(run);
     if (draw(&caller->seed, 2) == 0) offer(run);
     return 0;
 }
 
 static int move_to(struct run run, uint8_t *to, enum place place) {
-    if (mremap(page_at(run.first), bytes_of(run), bytes_of(run), MREMAP_MAYMOVE | MREMAP_FIXED, to) != to) return -1;
+    if (either_mremap(page_at(run.first), bytes_of(run), bytes_of(run), MREMAP_MAYMOVE | MREMAP_FIXED, to) != to) return -1;
     for (size_t page = run.first; page < run.first + run.count; page++) shadow.pages[page].place = place;
     return 0;
 }
@@ -243,7 +250,7 @@ static int move_back(struct caller *caller, struct run run) {
 static int shrink(struct caller *caller, struct run run) {
     size_t left = draw(&caller->seed, run.count - 1) + 1;
     uint8_t *at = page_at(run.first);
-    if (mremap(at, bytes_of(run), left * PAGE, 0) != at) return -1;
+    if (either_mremap(at, bytes_of(run), left * PAGE, 0, NULL) != at) return -1;
     run_is_gone((struct run){run.first + left, run.count - left});
     return 0;
 }
@@ -253,7 +260,7 @@ static int grow(struct caller *caller, struct run run) {
     const struct page *before = &shadow.pages[run.first - 1];
     uint8_t *at = shadow.range + (run.first - 1) * PAGE;
     (void)caller;
-    if (before->is_locked || mremap(at, PAGE, PAGE + bytes_of(run), 0) != at) return -1;
+    if (before->is_locked || either_mremap(at, PAGE, PAGE + bytes_of(run), 0, NULL) != at) return -1;
     run_is_new(run);
     for (size_t page = run.first; page < run.first + run.count; page++) {
         shadow.pages[page].protection = before->protection;
@@ -269,11 +276,12 @@ static int leave_behind(struct caller *caller, struct run run) {
     uint8_t *to = shadow.away + run.first * PAGE;
     (void)caller;
     for (size_t page = run.first; page < run.first + run.count; page++) page_settle(page);
-    void *got = mremap(page_at(run.first), bytes_of(run), bytes_of(run), MREMAP_MAYMOVE | MREMAP_FIXED | MREMAP_DONTUNMAP, to);
+    void *got =
+        either_mremap(page_at(run.first), bytes_of(run), bytes_of(run), MREMAP_MAYMOVE | MREMAP_FIXED | MREMAP_DONTUNMAP, to);
     if (got != to) return -1;
     for (size_t i = 0; i < run.count; i++)
         bytes_check(run.first + i, to + i * PAGE, page_wanted(run.first + i), "moved by MREMAP_DONTUNMAP");
-    munmap(to, bytes_of(run));
+    either_munmap(to, bytes_of(run));
     run_is_zero(run);
     return 0;
 }
@@ -283,23 +291,23 @@ static int leave_behind(struct caller *caller, struct run run) {
 static int protect(struct caller *caller, struct run run) {
     static const int kinds[] = {PROT_NONE, PROT_READ, RIGHTS, RIGHTS};
     int kind = kinds[draw(&caller->seed, 4)];
-    if (mprotect(page_at(run.first), bytes_of(run), kind) != 0) return -1;
+    if (either_mprotect(page_at(run.first), bytes_of(run), kind) != 0) return -1;
     for (size_t page = run.first; page < run.first + run.count; page++) shadow.pages[page].protection = kind;
     return 0;
 }
 
 static int protect_and_back(struct caller *caller, struct run run) {
     (void)caller;
-    if (mprotect(page_at(run.first), bytes_of(run), PROT_READ) != 0) return -1;
+    if (either_mprotect(page_at(run.first), bytes_of(run), PROT_READ) != 0) return -1;
     run_check(run, "protected");
-    int status = mprotect(page_at(run.first), bytes_of(run), RIGHTS);
+    int status = either_mprotect(page_at(run.first), bytes_of(run), RIGHTS);
     for (size_t page = run.first; page < run.first + run.count && status != 0; page++) shadow.pages[page].protection = PROT_READ;
     return status;
 }
 
 static int lock(struct caller *caller, struct run run) {
     /* (not mlock, which the address sanitizer makes nothing of) */
-    if (mlock2(page_at(run.first), bytes_of(run), 0) != 0) return -1;
+    if (either_mlock2(page_at(run.first), bytes_of(run), 0) != 0) return -1;
     if (draw(&caller->seed, 2) == 0 && syscall(SYS_munlock, page_at(run.first), bytes_of(run)) == 0) return 0;
     for (size_t page = run.first; page < run.first + run.count; page++) shadow.pages[page].is_locked = true;
     return 0;
@@ -317,8 +325,8 @@ static int advise(struct caller *caller, struct run run) {
                                 MADV_UNMERGEABLE,   MADV_COLD,           MADV_MERGEABLE, MADV_NORMAL,     MADV_PAGEOUT,
                                 MADV_POPULATE_READ, MADV_POPULATE_WRITE, MADV_WILLNEED,  MADV_WIPEONFORK, MADV_KEEPONFORK};
     int kind = kinds[draw(&caller->seed, sizeof kinds / sizeof kinds[0])];
-    if (madvise(page_at(run.first), bytes_of(run), kind) != 0) return -1;
-    if (kind == MADV_DONTFORK) note_child(run, false);
+    if (kind == MADV_DONTFORK) return say_child(run, false);
+    if (either_madvise(page_at(run.first), bytes_of(run), kind) != 0) return -1;
     for (size_t page = run.first; page < run.first + run.count; page++)
         if (kind == MADV_WIPEONFORK || kind == MADV_KEEPONFORK) shadow.pages[page].is_wiped = kind == MADV_WIPEONFORK;
     return 0;
@@ -478,12 +486,13 @@ void call_random(struct caller *caller, size_t first, size_t most) {
 
 /* Puts pages back in the range, readable, writable and unlocked. */
 static void put_back(struct caller *caller, struct run run) {
-    if (shadow.pages[run.first].place == AWAY && move_back(caller, run) != 0 && munmap(page_at(run.first), bytes_of(run)) == 0)
+    if (shadow.pages[run.first].place == AWAY && move_back(caller, run) != 0 &&
+        either_munmap(page_at(run.first), bytes_of(run)) == 0)
         run_is_gone(run);
     if (shadow.pages[run.first].place == GONE) map_hole(caller, run);
     if (shadow.pages[run.first].place != HERE) return;
     if (shadow.pages[run.first].is_locked) unlock(caller, run);
-    if (shadow.pages[run.first].protection == RIGHTS || mprotect(page_at(run.first), bytes_of(run), RIGHTS) != 0) return;
+    if (shadow.pages[run.first].protection == RIGHTS || either_mprotect(page_at(run.first), bytes_of(run), RIGHTS) != 0) return;
     for (size_t page = run.first; page < run.first + run.count; page++) shadow.pages[page].protection = RIGHTS;
 }
 
@@ -492,15 +501,15 @@ static void withdraw(struct run all) {
     const int kinds[] = {MADV_UNMERGEABLE, calls_are_of_huge_pages ? MADV_HUGEPAGE : MADV_NOHUGEPAGE, MADV_DODUMP,
                          MADV_KEEPONFORK};
     for (size_t i = 0; i < sizeof kinds / sizeof kinds[0]; i++)
-        if (madvise(shadow.range, bytes_of(all), kinds[i]) == 0 && kinds[i] == MADV_KEEPONFORK)
+        if (either_madvise(shadow.range, bytes_of(all), kinds[i]) == 0 && kinds[i] == MADV_KEEPONFORK)
             for (size_t page = 0; page < shadow.count; page++) shadow.pages[page].is_wiped = false;
 }
 
 /* The range is unmapped, and there is memory again in its place. */
 static void begin_anew(struct caller *caller, struct run all) {
     for (size_t page = 0; page < shadow.count; page++)
-        if (shadow.pages[page].place == AWAY && munmap(page_at(page), PAGE) == 0) run_is_gone((struct run){page, 1});
-    if (munmap(shadow.range, bytes_of(all)) != 0) return;
+        if (shadow.pages[page].place == AWAY && either_munmap(page_at(page), PAGE) == 0) run_is_gone((struct run){page, 1});
+    if (either_munmap(shadow.range, bytes_of(all)) != 0) return;
     run_is_gone(all);
     put_back(caller, all);
 }

@@ -11,13 +11,15 @@
 
 enum { ENTRIES = 4 };
 
+long (*ring_call)(long number, ...) = syscall;
+
 static void *map(const struct ring *ring, size_t bytes, long part) {
     return mmap(NULL, bytes, PROT_READ | PROT_WRITE, MAP_SHARED, ring->fd, part);
 }
 
 bool ring_make(struct ring *ring) {
     struct io_uring_params params = {0};
-    *ring = (struct ring){.fd = (int)syscall(SYS_io_uring_setup, ENTRIES, &params)};
+    *ring = (struct ring){.fd = (int)ring_call(SYS_io_uring_setup, ENTRIES, &params)};
     if (ring->fd < 0) return false;
     ring->queue_bytes = params.sq_off.array + params.sq_entries * sizeof(uint32_t);
     ring->completions_bytes = params.cq_off.cqes + params.cq_entries * sizeof(struct io_uring_cqe);
@@ -43,15 +45,15 @@ void ring_end(struct ring *ring) {
 }
 
 bool ring_keep(struct ring *ring, int file) {
-    return syscall(SYS_io_uring_register, ring->fd, IORING_REGISTER_FILES, &file, 1) >= 0;
+    return ring_call(SYS_io_uring_register, ring->fd, IORING_REGISTER_FILES, &file, 1) >= 0;
 }
 
 bool ring_pin(struct ring *ring, void *at, size_t bytes) {
     const struct iovec buffer = {.iov_base = at, .iov_len = bytes};
-    return syscall(SYS_io_uring_register, ring->fd, IORING_REGISTER_BUFFERS, &buffer, 1) >= 0;
+    return ring_call(SYS_io_uring_register, ring->fd, IORING_REGISTER_BUFFERS, &buffer, 1) >= 0;
 }
 
-bool ring_unpin(struct ring *ring) { return syscall(SYS_io_uring_register, ring->fd, IORING_UNREGISTER_BUFFERS, NULL, 0) >= 0; }
+bool ring_unpin(struct ring *ring) { return ring_call(SYS_io_uring_register, ring->fd, IORING_UNREGISTER_BUFFERS, NULL, 0) >= 0; }
 
 static uint32_t *word_at(void *part, unsigned at) { return (uint32_t *)(void *)((uint8_t *)part + at); }
 
@@ -61,7 +63,7 @@ static bool begin(struct ring *ring, const struct io_uring_sqe *asked) {
     word_at(ring->queue, ring->array_at)[place] = place;
     __atomic_store_n(tail, *tail + 1, __ATOMIC_RELEASE);
     long submitted;
-    do submitted = syscall(SYS_io_uring_enter, ring->fd, 1, 0, 0, NULL, 0);
+    do submitted = ring_call(SYS_io_uring_enter, ring->fd, 1, 0, 0, NULL, 0);
     while (submitted < 0 && errno == EINTR);
     return submitted == 1;
 }
@@ -86,7 +88,7 @@ bool ring_begin_plain_read(struct ring *ring, int file, void *at, size_t bytes, 
 ssize_t ring_end_read(struct ring *ring) {
     uint32_t *head = word_at(ring->completions, ring->head_at), *tail = word_at(ring->completions, ring->completed_at);
     while (__atomic_load_n(tail, __ATOMIC_ACQUIRE) == *head) {
-        long status = syscall(SYS_io_uring_enter, ring->fd, 0, 1, IORING_ENTER_GETEVENTS, NULL, 0);
+        long status = ring_call(SYS_io_uring_enter, ring->fd, 0, 1, IORING_ENTER_GETEVENTS, NULL, 0);
         if (status < 0 && errno != EINTR) return -errno;
     }
     const struct io_uring_cqe *results = (const void *)((const uint8_t *)ring->completions + ring->results_at);

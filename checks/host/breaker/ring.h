@@ -13,6 +13,9 @@ struct ring {
     unsigned tail_at, mask_at, array_at, head_at, completed_at, completion_mask_at, results_at;
 };
 
+/* What makes the calls of the system: at first syscall(2). */
+extern long (*ring_call)(long number, ...);
+
 /* Returns false, with errno, where the system has no io_uring. */
 bool ring_make(struct ring *ring);
 void ring_end(struct ring *ring);

@@ -2,9 +2,9 @@
  * A stand-in for a monitor whose memory others reach, to be run under libpageshare-window.so beside others of its kind: by random ways, many at a
  * time, of threads that each have pages of their own and a shadow of each byte of these. Words:
  *
- *     reach SEED SECONDS filter|scans
+ *     reach SEED SECONDS names|numbers|instructions
  *
- * filter: calls are made past the C library (PAGESHARE_FILTER=1); scans: by the C library, where it has them. Beside the threads many others wait
+ * How calls are made: by their names; by their names and numbers; or past the C library (PAGESHARE_FILTER=1). Beside the threads many others wait
  * in reads by O_DIRECT all the time. At the end the memory is given to a device and locked, and compared once more. The last line says how often
  * each way was taken and how many pages were wrong. Status 0 if none was, 3 where a thread hangs, 2 where it can't run.
  */
@@ -147,11 +147,11 @@ static void run(uint64_t seed, unsigned seconds) {
 
 int main(int count, char **words) {
     char ways[1024];
-    if (count != 4) return fputs("reach: SEED SECONDS filter|scans\n", stderr), 2;
+    if (count != 4) return fputs("reach: SEED SECONDS names|numbers|instructions\n", stderr), 2;
     uint64_t seed = strtoul(words[1], NULL, 10);
     unsigned seconds = (unsigned)strtoul(words[2], NULL, 10);
-    if (!pages_make((size_t)WORKERS * STRIP + WAITERS) || !ways_begin(seed, seconds, strcmp(words[3], "filter") == 0))
-        return perror("reach"), 2;
+    const enum how how = *words[3] == 'i' ? BY_INSTRUCTION : strcmp(words[3], "numbers") == 0 ? BY_NUMBER : BY_NAME;
+    if (!pages_make((size_t)WORKERS * STRIP + WAITERS) || !ways_begin(seed, seconds, how)) return perror("reach"), 2;
     pages_offer((struct run){0, pages.count});
     run(seed, seconds);
     long lends = library_count("lends"), lent = library_count("lent"), most = library_count("hold_most_ns");

@@ -1,6 +1,7 @@
 #define _GNU_SOURCE
 #include "ways.h"
 #include "../breaker/ring.h"
+#include "../instruction.h"
 #include <dlfcn.h>
 #include <errno.h>
 #include <fcntl.h>
@@ -25,7 +26,7 @@ enum {
     MANY_MOST = 128 /* and some */
 };
 
-static bool are_raw;
+static enum how made;
 static int direct;            /* the file by O_DIRECT */
 static int self;              /* this process's descriptor */
 static char name[64];         /* by which it is opened anew */
@@ -38,6 +39,15 @@ static long now_ms(void) {
 }
 
 static void pause_us(struct worker *worker, uint64_t most) { usleep((useconds_t)draw(&worker->seed, most)); }
+
+/* Whether a call is made by its number. */
+static bool is_numbered(struct worker *worker) { return made == BY_NUMBER && draw(&worker->seed, 2) == 0; }
+
+/* The same of one that the filter shows: what makes it then, or NULL. */
+static long (*raw_call(struct worker *worker))(long number, ...) {
+    if (made == BY_INSTRUCTION) return by_instruction;
+    return is_numbered(worker) ? syscall : NULL;
+}
 
 /* What was read from a block on is there. */
 static bool took(struct run run, uint64_t block, const char *how) {
@@ -71,19 +81,24 @@ static bool clear_each_second(struct worker *worker, struct run run) {
 
 static bool give_up(struct worker *worker, struct run run) {
     const struct iovec it = {page_at(run.first), bytes_of(run)};
-    bool by_process = are_raw || draw(&worker->seed, 2) == 0;
-    if (by_process && are_raw && syscall(SYS_process_madvise, self, &it, 1, MADV_DONTNEED, 0) != (long)it.iov_len) return false;
-    if (by_process && !are_raw && process_madvise(self, &it, 1, MADV_DONTNEED, 0) != (long)it.iov_len) return false;
-    if (!by_process && madvise(it.iov_base, it.iov_len, MADV_DONTNEED) != 0) return false;
-    pages_are(run, 0);
-    return true;
+    long (*raw)(long number, ...) = raw_call(worker);
+    bool by_process = made == BY_INSTRUCTION || draw(&worker->seed, 2) == 0, is_good;
+    if (by_process && raw) is_good = raw(SYS_process_madvise, self, &it, 1, MADV_DONTNEED, 0) == (long)it.iov_len;
+    else if (by_process) is_good = process_madvise(self, &it, 1, MADV_DONTNEED, 0) == (long)it.iov_len;
+    else if (raw) is_good = raw(SYS_madvise, it.iov_base, it.iov_len, MADV_DONTNEED) == 0;
+    else is_good = madvise(it.iov_base, it.iov_len, MADV_DONTNEED) == 0;
+    if (is_good) pages_are(run, 0);
+    return is_good;
 }
 
 /* ---- by files ---- */
 
-static bool read_pages(int file, struct run run, uint64_t block, const char *how) {
+static bool read_pages(struct worker *worker, int file, struct run run, uint64_t block, const char *how) {
+    bool is_raw = is_numbered(worker);
     ssize_t got;
-    do got = pread(file, page_at(run.first), bytes_of(run), place_of(block));
+    do
+        got = is_raw ? syscall(SYS_pread64, file, page_at(run.first), bytes_of(run), place_of(block))
+                     : pread(file, page_at(run.first), bytes_of(run), place_of(block));
     while (got < 0 && errno == EINTR);
     return got == (ssize_t)bytes_of(run) && took(run, block, how);
 }
@@ -94,28 +109,35 @@ static bool read_parts(struct worker *worker, struct run run) {
     const size_t count = run.count * PAGE / SECTOR;
     const uint64_t block = some_block(worker, run);
     for (size_t i = 0; i < count; i++) parts[i] = (struct iovec){page_at(run.first) + i * SECTOR, SECTOR};
+    bool is_raw = is_numbered(worker);
     ssize_t got;
-    do got = preadv(direct, parts, (int)count, place_of(block));
+    do
+        got = is_raw ? syscall(SYS_preadv, direct, parts, count, place_of(block), 0L)
+                     : preadv(direct, parts, (int)count, place_of(block));
     while (got < 0 && errno == EINTR);
     return got == (ssize_t)bytes_of(run) && took(run, block, "read by many buffers");
 }
 
 /* A file that is switched to O_DIRECT for the call. */
 static bool read_switched(struct worker *worker, struct run run) {
-    int file = open(name, O_RDONLY | O_CLOEXEC);
-    if (file < 0 || fcntl(file, F_SETFL, O_DIRECT) != 0) return close(file), false;
-    bool is_good = read_pages(file, run, some_block(worker, run), "read by a file that was switched");
+    bool is_raw = is_numbered(worker);
+    int file = is_raw ? (int)syscall(SYS_openat, AT_FDCWD, name, O_RDONLY | O_CLOEXEC, 0) : open(name, O_RDONLY | O_CLOEXEC);
+    int status = is_raw ? (int)syscall(SYS_fcntl, file, F_SETFL, O_DIRECT) : fcntl(file, F_SETFL, O_DIRECT);
+    if (file < 0 || status != 0) return close(file), false;
+    bool is_good = read_pages(worker, file, run, some_block(worker, run), "read by a file that was switched");
     fcntl(file, F_SETFL, 0);
-    close(file);
+    if (is_raw) syscall(SYS_close, file);
+    else close(file);
     return is_good;
 }
 
 typedef int setup_function(int most, aio_context_t *context);
 
-static int set_up(aio_context_t *context) {
-    setup_function *by_library = are_raw ? NULL : (setup_function *)(uintptr_t)dlsym(RTLD_DEFAULT, "io_setup");
+static int set_up(struct worker *worker, aio_context_t *context) {
+    long (*raw)(long number, ...) = raw_call(worker);
+    setup_function *by_library = raw ? NULL : (setup_function *)(uintptr_t)dlsym(RTLD_DEFAULT, "io_setup");
     *context = 0;
-    if (!by_library) return (int)syscall(SYS_io_setup, RUN_MOST, context);
+    if (!by_library) return (int)(raw ? raw : syscall)(SYS_io_setup, RUN_MOST, context);
     errno = -by_library(RUN_MOST, context);
     return errno == 0 ? 0 : -1;
 }
@@ -127,7 +149,7 @@ static bool read_submitted(struct worker *worker, struct run run) {
     aio_context_t context;
     const uint64_t block = some_block(worker, run);
     long sent = 0, done = 0;
-    if (set_up(&context) != 0) return false;
+    if (set_up(worker, &context) != 0) return false;
     pause_us(worker, 20000);
     for (size_t i = 0; i < run.count; i++) {
         requests[i] = (struct iocb){.aio_lio_opcode = IOCB_CMD_PREAD,
@@ -194,8 +216,9 @@ static bool read_pinned(struct worker *worker, struct run run) {
 
 /* ---- a userfaultfd of its own ---- */
 
-static int control(int file, unsigned long request, void *with) {
-    return are_raw ? (int)syscall(SYS_ioctl, file, request, with) : ioctl(file, request, with);
+static int control(struct worker *worker, int file, unsigned long request, void *with) {
+    long (*raw)(long number, ...) = raw_call(worker);
+    return raw ? (int)raw(SYS_ioctl, file, request, with) : ioctl(file, request, with);
 }
 
 static int open_faults(uint64_t features) {
@@ -216,7 +239,7 @@ static bool watch_missing(struct worker *worker, struct run run) {
     int faults = open_faults(0);
     if (faults < 0) return false;
     pages_check(run, "before it is watched"); /* (what was given up is there now, too) */
-    bool is_good = control(faults, UFFDIO_REGISTER, &asked) == 0;
+    bool is_good = control(worker, faults, UFFDIO_REGISTER, &asked) == 0;
     if (is_good) pages_check(run, "while it is watched");
     content_fill(data, content);
     /* (EBUSY: a device may have pinned its copy, which stays over a frame) */
@@ -225,7 +248,7 @@ static bool watch_missing(struct worker *worker, struct run run) {
         pages_are((struct run){page, 1}, content);
     }
     pages_check(run, "once the page was brought");
-    if (is_good && control(faults, UFFDIO_UNREGISTER, &asked.range) != 0) note_wrong(page, "UFFDIO_UNREGISTER");
+    if (is_good && control(worker, faults, UFFDIO_UNREGISTER, &asked.range) != 0) note_wrong(page, "UFFDIO_UNREGISTER");
     close(faults);
     return is_good;
 }
@@ -237,11 +260,12 @@ static bool watch_writes(struct worker *worker, struct run run) {
     int faults = open_faults(UFFD_FEATURE_PAGEFAULT_FLAG_WP);
     if (faults < 0) return false;
     pages_check(run, "before it is guarded");
-    bool is_good = control(faults, UFFDIO_REGISTER, &asked) == 0 && control(faults, UFFDIO_WRITEPROTECT, &guard) == 0;
+    bool is_good =
+        control(worker, faults, UFFDIO_REGISTER, &asked) == 0 && control(worker, faults, UFFDIO_WRITEPROTECT, &guard) == 0;
     pause_us(worker, 20000);
     pages_check(run, "while it is guarded");
     guard.mode = 0;
-    is_good = is_good && control(faults, UFFDIO_WRITEPROTECT, &guard) == 0;
+    is_good = is_good && control(worker, faults, UFFDIO_WRITEPROTECT, &guard) == 0;
     close(faults);
     return is_good;
 }
@@ -260,7 +284,11 @@ static bool say_policy(struct worker *worker, struct run run) {
 static bool leave(struct worker *worker, struct run run) {
     uint8_t *at = page_at(run.first);
     /* (not mlock and munlock, of which the address sanitizer makes nothing) */
-    bool is_good = draw(&worker->seed, 2) == 0 ? mprotect(at, bytes_of(run), PROT_READ) == 0 : mlock2(at, bytes_of(run), 0) == 0;
+    bool is_raw = is_numbered(worker), is_good;
+    if (draw(&worker->seed, 2) == 0)
+        is_good =
+            (is_raw ? (int)syscall(SYS_mprotect, at, bytes_of(run), PROT_READ) : mprotect(at, bytes_of(run), PROT_READ)) == 0;
+    else is_good = (is_raw ? (int)syscall(SYS_mlock2, at, bytes_of(run), 0) : mlock2(at, bytes_of(run), 0)) == 0;
     pages_check(run, "once it has left");
     mprotect(at, bytes_of(run), PROT_READ | PROT_WRITE);
     syscall(SYS_munlock, at, bytes_of(run));
@@ -271,14 +299,13 @@ static bool leave(struct worker *worker, struct run run) {
 /* A child makes calls that are shown, too. */
 static bool fork_child(struct worker *worker, struct run run) {
     int status = 1;
-    (void)worker, (void)run;
     fflush(stdout);
     pid_t child = fork();
     if (child < 0) return false;
     if (child == 0) {
         aio_context_t context;
         alarm(30);
-        _exit(set_up(&context) == 0 ? 0 : errno == EAGAIN ? 0 : 1);
+        _exit(set_up(worker, &context) == 0 ? 0 : errno == EAGAIN ? 0 : 1);
     }
     while (waitpid(child, &status, 0) < 0 && errno == EINTR) {
     }
@@ -360,8 +387,9 @@ static bool make_file(void) {
     return direct >= 0;
 }
 
-bool ways_begin(uint64_t seed, unsigned seconds, bool raw) {
-    are_raw = raw;
+bool ways_begin(uint64_t seed, unsigned seconds, enum how how) {
+    made = how;
+    if (how == BY_INSTRUCTION) ring_call = by_instruction;
     for (size_t i = 0; i < WAYS; i++) ways[i].is_off = !ways[i].is_basic && draw(&seed, 2) == 0;
     atomic_store(&begins_at, now_ms() + (long)draw(&seed, 600UL * seconds));
     self = (int)syscall(SYS_pidfd_open, getpid(), 0);

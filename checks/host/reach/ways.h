@@ -14,9 +14,11 @@ struct worker {
     atomic_ulong rounds;
 };
 
-/* Draws which ways a seed has, and from when on devices; and makes what they need. `raw`: calls are made past the C library. Returns false, with
- * errno. */
-bool ways_begin(uint64_t seed, unsigned seconds, bool raw);
+/* How calls are made: by their names; by their names or numbers, as it comes; or, those that the filter shows, by instructions of its own. */
+enum how { BY_NAME, BY_NUMBER, BY_INSTRUCTION };
+
+/* Draws which ways a seed has, and from when on devices; and makes what they need. Returns false, with errno. */
+bool ways_begin(uint64_t seed, unsigned seconds, enum how how);
 /* Takes one by chance. */
 void way_take(struct worker *worker);
 /* How often each was taken, and refused, as one line of text. */
