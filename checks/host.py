@@ -5,7 +5,7 @@
     checks/host.py --gate
 
 Without words all cases but `soak` run; --list names them. --gate runs those that IN_GATE lists, which `make check` does: all
-that need no guest, shortened, and one with two guests. Each case has a time, after which it has failed. One in which somebody waited
+that need no guest, shortened, and some with one or two. Each case has a time, after which it has failed. One in which somebody waited
 longer than due, or less was shared, is run once more, since the computer may have been busy. Needs root, out/host/pageshare-host and
 out/host/libpageshare-window.so (`make host`). Guests are QEMU with Debian's kernel and busybox, run as the user nobody beside a host
 of another user; each checks all that it reads. With INSTALL=1 in the environment missing packages are installed by apt-get, but for
@@ -54,7 +54,7 @@ IN_GATE = {
     "descriptors-sent": 240, "quotas": 120, "slow-punch": 60, "refused-punch": 60, "breaker": 240, "storm": 240, "parts": 300, "calls": 300, "forks": 300,
     "pins": 600, "lent-again": 300, "newcomer": 120, "locks": 300, "endings": 300, "devices": 120, "size": 600, "runs": 180, "paced": 60,
     "ranges": 60, "names": 60, "counts": 60, "refused": 60, "kvm": 300, "ends": 600, "postcopy": 240, "remote": 60, "cuts": 240, "losses": 240,
-    "waits": 180, "uncached": 120, "reach": 240,
+    "mappings": 120, "waits": 180, "uncached": 120, "reach": 240,
     "closed": 60, "malloc": 120, "lines": 60, "read-late": 60, "flags": 120, "policies": 120, "no-memory": 120,
     "filter": 480, "numbers": 480, "filter-by-itself": 60, "scans": 180, "guarded": 120, "said-early": 60,
     "ways": 120,

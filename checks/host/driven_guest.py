@@ -18,7 +18,7 @@ from qemu_guests import PAGE, QEMU, Qmp, connected, read
 RAM_BYTES, BELOW, DIMM_AT, GROWING_AT = 24 << 20, 1 << 20, 1 << 32, (1 << 32) + (128 << 20)
 PATIENCE_SECONDS, LINE_BYTES = 60, 1 << 15
 # A firmware whose first instructions, at the end, are: cli, hlt, and back to hlt.
-FIRMWARE = b"\xfa\xf4\xeb\xfd".rjust((64 << 10) - 12, b"\0").ljust(64 << 10, b"\0")
+HALTS = b"\xfa\xf4\xeb\xfd".rjust((64 << 10) - 12, b"\0").ljust(64 << 10, b"\0")
 
 
 class Events(Qmp):
@@ -65,7 +65,7 @@ class Driven:
         for path in (self.count_file, self.monitor, self.wire, self.debugged):
             path.unlink(missing_ok=True)
         firmware = room / "halts"
-        firmware.write_bytes(FIRMWARE)
+        firmware.write_bytes(HALTS)
         words = {**os.environ, "PAGESHARE_SOCKET": str(host.socket), "LD_PRELOAD": str(HERE.library)}
         words |= {"PAGESHARE_COUNTS": str(self.count_file), "PAGESHARE_PERIOD_MS": "40", "PAGESHARE_CPU": "100"}
         command = [*wrap, QEMU, "-machine", "pc,accel=tcg", "-bios", str(firmware), "-nodefaults", "-display", "none"]
@@ -162,6 +162,7 @@ class Driven:
 
     def check_region(self, base: int, note: str) -> None:
         path = HERE.place.room / f"memory{self.number}"
+        path.unlink(missing_ok=True)  # (that of a QEMU of another user)
         self.qmp.good("pmemsave", val=base, size=len(self.memory[base]), filename=str(path))
         self.compare(path.read_bytes(), base, note)
 

@@ -6,8 +6,9 @@ import signal
 import subprocess
 import time
 
+from driven_guest import HALTS
 from harness import PACKAGES
-from places import AS_NOBODY, HERE, Host, LeftOut, all_released, must, until
+from places import AS_NOBODY, HERE, Host, LeftOut, all_released, compile_shim, in_time, must, until
 from qemu_guests import PAGE, QEMU, Debugger, Guest, is_there, read
 from running_guests import GUESTS, go_on, guest, guests, lent, right, settle, show
 
@@ -114,6 +115,7 @@ def postcopy_guest(number: int, host: Host | None, more: list[str]) -> Guest:
 def pages_of(made: Guest) -> list[bytes]:
     """The guest's memory, but for what its firmware goes on writing to."""
     path = HERE.place.room / f"memory{made.number}"
+    path.unlink(missing_ok=True)  # (that of a QEMU of another user)
     answer = made.qmp().do("pmemsave", val=0, size=MIB_OF_POSTCOPY << 20, filename=str(path))
     must(answer.get("return") == {}, str(answer))
     data = path.read_bytes()
@@ -184,6 +186,78 @@ def case_background() -> None:
     must(len(said) == 2 and "stops" in said[0] and "goes on" in said[1], f"{made[0].said()}")
     go_on(made)
     show(host, made, f"{said}, shares again after {took:.0f} s")
+
+
+# ---- the limit of mappings ----
+
+# What the library is told of the kernel's limit, of which it leaves 4,000 to the monitor; and pages of which each second one is cleared.
+TOLD_LIMIT, MOST_MAPPINGS, CUT_PAGES = 12000, 8000, 12000
+# Up to here the process is given so many mappings of its own that the kernel's limit is what the library is told.
+REAL_LIMIT_MOST = 1 << 17
+
+
+def told(limit: int) -> list[str]:
+    """What stands before a command that is to read another limit of mappings."""
+    said = HERE.place.room / "max_map_count"
+    said.write_text(f"{limit}\n", encoding="ascii")
+    mount = f'mount --bind {said} /proc/sys/vm/max_map_count && exec "$@"'
+    if subprocess.run(["unshare", "-m", "sh", "-c", mount, "sh", "true"], capture_output=True).returncode != 0:
+        raise LeftOut("another limit of mappings, since a file can't be mounted over the kernel's")
+    return ["unshare", "-m", "sh", "-c", mount, "sh"]
+
+
+def clear_each_second(made: Guest, pages: list[bytes]) -> None:
+    """Clears each second page of known ones, as the guest's processor would."""
+    begin = int(str(made.qmp().monitor(f"gpa2hva {KNOWN_AT:#x}")["return"]).rsplit(" ", 1)[-1], 16)
+    with open(f"/proc/{made.pid}/mem", "r+b", buffering=0) as memory:
+        for number in range(0, len(pages), 2):
+            memory.seek(begin + number * PAGE)
+            memory.write(bytes(PAGE))
+            pages[number] = bytes(PAGE)
+
+
+def mappings(made: Guest) -> int:
+    return int(made.counts().get("mappings", 0))
+
+
+def case_mappings() -> None:
+    """A guest clears each second of its shared pages: QEMU keeps mappings for itself, and makes threads for a migration."""
+    if not is_there(QEMU):
+        raise LeftOut(f"there is no {QEMU}", PACKAGES[QEMU])
+    limit = int(read("/proc/sys/vm/max_map_count") or 65530)
+    own, host = limit - TOLD_LIMIT if limit <= REAL_LIMIT_MOST else 0, Host()
+    pattern, firmware = HERE.place.room / "pattern", HERE.place.room / "firmware"
+    firmware.write_bytes(HALTS)
+    pages = [(number % (CUT_PAGES // 2) + 1).to_bytes(8, "little") * (PAGE // 8) for number in range(CUT_PAGES)]
+    pattern.write_bytes(b"".join(pages))
+    preload = f"LD_PRELOAD={compile_shim('own_mappings')} {HERE.library}"
+    made = guest(0, host, mib=MIB_OF_POSTCOPY, work="none", machine="pc", environment={"PAGESHARE_PERIOD_MS": "50", "PAGESHARE_CPU": "100"},
+                 wrap=[*told(TOLD_LIMIT), *AS_NOBODY, "env", preload, f"OWN_MAPPINGS={own}"],
+                 more=["-bios", str(firmware), "-device", f"loader,file={pattern},addr={KNOWN_AT:#x},force-raw=on"])
+    good, took = until(60, lambda: lent([made])[0] >= CUT_PAGES - 200, 0.2)
+    in_time(good, f"lent {lent([made])} of {CUT_PAGES}")
+    before = mappings(made)
+    clear_each_second(made, pages)
+    until(10, lambda: mappings(made) > MOST_MAPPINGS * 3 // 4, 0.2)
+    time.sleep(3)  # (so that they could go beyond)
+    now = mappings(made)
+    print(f"  lent after {took:.1f} s with {before} mappings; then {now}, of the process {read(f'/proc/{made.pid}/maps').count(chr(10))} of "
+          f"{limit}, {own} of these its own")
+    answer = made.qmp().do("migrate", uri=f"exec:cat > {HERE.place.room / 'saved'}")
+    must(answer.get("return") == {}, f"migrate: {answer}")
+    good, _ = until(60, lambda: made.qmp().do("query-migrate")["return"].get("status") in ("completed", "failed"), 0.2)
+    must(good and made.qmp().do("query-migrate")["return"]["status"] == "completed", f"the migration failed: {read(made.log)[-600:]}")
+    must(now <= MOST_MAPPINGS and made.counts().get("mappings_most") == MOST_MAPPINGS, f"too many mappings: {now}, {made.counts()}")
+    in_time(now > MOST_MAPPINGS * 3 // 4, f"the limit isn't met: {made.counts()}")
+    first, found = (KNOWN_AT - BELOW) // PAGE, pages_of(made)
+    wrong = [number for number, page in enumerate(pages) if found[first + number] != page]
+    must(not wrong, f"{len(wrong)} pages differ, such as {wrong[:5]}")
+    made.kill()
+    all_released(host)
+    host.stop()
+
+
+# ---- disks ----
 
 
 def disk_case(aio: str, devices: int) -> None:
