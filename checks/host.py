@@ -54,7 +54,7 @@ IN_GATE = {
     "descriptors-sent": 240, "quotas": 120, "slow-punch": 60, "refused-punch": 60, "breaker": 240, "storm": 240, "parts": 300, "calls": 300, "forks": 300,
     "pins": 600, "lent-again": 300, "newcomer": 120, "locks": 300, "endings": 300, "devices": 120, "size": 600, "runs": 180, "paced": 60,
     "ranges": 60, "names": 60, "counts": 60, "refused": 60, "kvm": 300, "ends": 600, "postcopy": 240, "remote": 60, "cuts": 240, "losses": 240,
-    "mappings": 120, "waits": 180, "uncached": 120, "reach": 240,
+    "background": 120, "mappings": 120, "waits": 180, "uncached": 120, "reach": 240,
     "closed": 60, "malloc": 120, "lines": 60, "read-late": 60, "flags": 120, "policies": 120, "no-memory": 120,
     "filter": 480, "numbers": 480, "filter-by-itself": 60, "scans": 180, "guarded": 120, "said-early": 60,
     "ways": 120,

@@ -1,4 +1,4 @@
-"""A QEMU whose guest's processor only halts: this program stores to the memory and drives the devices, by QEMU's qtest protocol."""
+"""A QEMU whose guest has a firmware alone, which halts: this program stores to the memory and drives the devices, by QEMU's qtest protocol."""
 from __future__ import annotations
 
 import base64
@@ -55,20 +55,22 @@ class Events(Qmp):
 
 
 class Driven:
-    """The QEMU, and a shadow of each byte of its memory: a bytearray for each region, by its first address."""
+    """The QEMU, and a shadow of each byte of its memory: a bytearray for each region, by its first address. `host`: None without the library."""
 
-    def __init__(self, number: int, host: Any, more: Sequence[str], wrap: Sequence[StrPath], incoming: str = "") -> None:
+    def __init__(
+        self, number: int, host: Any, more: Sequence[str], wrap: Sequence[StrPath], incoming: str = "", firmware: bytes = HALTS,
+    ) -> None:
         room = HERE.place.room
         names = (room / f"driven{number}.{it}" for it in ("log", "json", "qmp", "qtest"))
         self.log, self.count_file, self.monitor, self.wire = names
         self.debugged = room / f"driven{number}.gdb"
         for path in (self.count_file, self.monitor, self.wire, self.debugged):
             path.unlink(missing_ok=True)
-        firmware = room / "halts"
-        firmware.write_bytes(HALTS)
-        words = {**os.environ, "PAGESHARE_SOCKET": str(host.socket), "LD_PRELOAD": str(HERE.library)}
-        words |= {"PAGESHARE_COUNTS": str(self.count_file), "PAGESHARE_PERIOD_MS": "40", "PAGESHARE_CPU": "100"}
-        command = [*wrap, QEMU, "-machine", "pc,accel=tcg", "-bios", str(firmware), "-nodefaults", "-display", "none"]
+        code = room / f"driven{number}.firmware"
+        code.write_bytes(firmware)
+        words = {**os.environ, "PAGESHARE_COUNTS": str(self.count_file), "PAGESHARE_PERIOD_MS": "40", "PAGESHARE_CPU": "100"}
+        words |= {"PAGESHARE_SOCKET": str(host.socket), "LD_PRELOAD": str(HERE.library)} if host else {}
+        command = [*wrap, QEMU, "-machine", "pc,accel=tcg", "-bios", str(code), "-nodefaults", "-display", "none"]
         command += ["-m", f"{RAM_BYTES >> 20}M,slots=4,maxmem=1G"]
         command += ["-qmp", f"unix:{self.monitor},server=on,wait=off"]
         command += ["-qtest", f"unix:{self.wire},server=on,wait=off", "-qtest-log", "/dev/null"]

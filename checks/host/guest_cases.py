@@ -2,11 +2,14 @@
 from __future__ import annotations
 
 import os
+import pathlib
+import re
 import signal
 import subprocess
 import time
+from typing import Any
 
-from driven_guest import HALTS
+from driven_guest import HALTS, Driven
 from harness import PACKAGES
 from places import AS_NOBODY, HERE, Host, LeftOut, all_released, compile_shim, in_time, must, until
 from qemu_guests import PAGE, QEMU, Debugger, Guest, is_there, read
@@ -162,32 +165,6 @@ def case_postcopy() -> None:
     host.stop()
 
 
-def case_background() -> None:
-    """Lending goes on with the capability of background snapshots, stops while QEMU guards the memory for one, and goes on afterwards."""
-    host = Host("--trust-peers")
-    made = guests(2, host, wrap=[])  # (as root: QEMU asks for a userfaultfd that holds up the kernel, too)
-    settle(host, made)
-    monitor = made[0].qmp()
-    capability = [{"capability": "background-snapshot", "state": True}]
-    answer = monitor.do("migrate-set-capabilities", capabilities=capability)
-    if "error" in answer:
-        raise LeftOut(f"background snapshots: {answer['error']['desc']}")
-    time.sleep(3)
-    must(lent(made)[0] > 6000 and not made[0].said(), f"the capability alone: lent {lent(made)}, {made[0].said()}")
-    answer = monitor.do("migrate", uri=f"exec:cat > {HERE.place.room / 'background'}")
-    if "error" in answer:
-        raise LeftOut(f"background snapshots: {answer['error']['desc']}")
-    good, _ = until(120, lambda: monitor.do("query-migrate")["return"].get("status") in ("completed", "failed"))
-    state = monitor.do("query-migrate")["return"]
-    must(good and state["status"] == "completed", str(state))
-    monitor.do("cont")
-    go_on(made)
-    took, said = settle(host, made), [line for line in made[0].said() if "userfaultfd" in line]
-    must(len(said) == 2 and "stops" in said[0] and "goes on" in said[1], f"{made[0].said()}")
-    go_on(made)
-    show(host, made, f"{said}, shares again after {took:.0f} s")
-
-
 # ---- the limit of mappings ----
 
 # What the library is told of the kernel's limit, of which it leaves 4,000 to the monitor; and pages of which each second one is cleared.
@@ -255,6 +232,112 @@ def case_mappings() -> None:
     made.kill()
     all_released(host)
     host.stop()
+
+
+# ---- background snapshots ----
+
+# A firmware whose processor writes the number of its round to each of these pages in turn, and takes its time for it.
+ROUND_AT, ROUND_PAGES = 0x10000, 128
+COUNTS = bytes.fromhex(
+    "fa 31c0"            # cli; ax = 0
+    "40 bb0010"          # each round: ax += 1; bx = 1000h
+    "8edb a30000"        # each page: ds = bx; [0] = ax
+    "ba2800"             # dx = 40
+    "b90000 e2fe 4a 75f8"  # cx = 65536, and down; dx -= 1; again while it isn't 0
+    "81c30001 81fb0090"  # bx += 100h; is it 9000h?
+    "75e6 ebe0"          # the next page; the next round
+)
+ROUNDS = (bytes(0xFF00) + COUNTS).ljust(0xFFF0, b"\0") + b"\xe9\x0d\xff" + bytes(13)  # (it begins 16 bytes before the end)
+MIB_OF_KNOWN = 16
+
+
+def rounds_of(made: Driven, note: str) -> tuple[int, int]:
+    """The round of the processor, which stands still, and how many pages of it are written. Its memory is as its registers say."""
+    said = str(made.qmp.monitor("info registers")["return"])
+    found = {name: int(value, 16) & 0xFFFF for name, value in re.findall(r"E(AX|BX)=([0-9a-f]{8})", said)}
+    path = HERE.place.room / "rounds"
+    made.qmp.good("pmemsave", val=ROUND_AT, size=ROUND_PAGES * PAGE, filename=str(path))
+    data = path.read_bytes()
+    numbers = [int.from_bytes(data[at:at + 2], "little") for at in range(0, len(data), PAGE)]
+    written = numbers.count(found["AX"])
+    due = [found["AX"]] * written + [found["AX"] - 1] * (ROUND_PAGES - written)
+    must(numbers == due and abs(written - (found["BX"] - 0x1000) // 0x100) <= 1, f"{note}: {found}, {numbers}")
+    return found["AX"], written
+
+
+def possible(made: Driven, command: str, **words: Any) -> None:
+    """What QEMU or the kernel may not be able to do."""
+    answer = made.qmp.do(command, **words)
+    if "error" in answer:
+        raise LeftOut(f"background snapshots: {answer['error']['desc']}")
+
+
+def guards(made: Driven) -> list[str]:
+    """What the library says of a userfaultfd."""
+    return [line for line in read(made.log).splitlines() if "userfaultfd" in line]
+
+
+def case_background() -> None:
+    """Lending goes on with the capability of background snapshots, stops while QEMU guards the memory for one, and goes on; each saved page is as it was."""
+    if not is_there(QEMU):
+        raise LeftOut(f"there is no {QEMU}", PACKAGES[QEMU])
+    host, path, capability = Host("--trust-peers"), HERE.place.room / "background", {"capability": "background-snapshot", "state": True}
+    source = Driven(0, host, [], [], firmware=ROUNDS)  # (as root: QEMU asks for a userfaultfd that holds up the kernel, too)
+    for at in range(0, MIB_OF_KNOWN << 20, 1 << 20):
+        source.store(BELOW + at, b"".join(known_page((at >> 12) + number) for number in range(256)))
+    least = (MIB_OF_KNOWN << 20) // PAGE // 8 - 32  # (about those that occur often)
+    in_time(until(60, lambda: source.counts().get("lent", 0) > least, 0.1)[0], f"not lent: {source.counts()}")
+    possible(source, "migrate-set-capabilities", capabilities=[capability])
+    time.sleep(1)
+    must(not guards(source), f"the capability alone: {guards(source)}")
+    in_time(source.counts()["lent"] > least, f"with the capability: {source.counts()}")
+    due = bytearray(source.memory[0])
+    source.qmp.after("RESUME", lambda: possible(source, "migrate", uri=slowly(path)))
+    written = store_while_saving(source)
+    state = finished(source)
+    must(state["status"] == "completed", f"{state} {read(source.log)[-600:]}")
+    target = Driven(1, None, ["-S"], [], f"exec:cat {path}", firmware=ROUNDS)
+    must(until(60, lambda: target.qmp.good("query-status")["status"] in ("paused", "prelaunch"), 0.1)[0], read(target.log)[-600:])
+    target.memory[0] = due
+    target.check("what was saved")
+    first = rounds_of(target, "what was saved")
+    target.quit()
+    must(until(20, lambda: len(guards(source)) == 2, 0.1)[0], f"{guards(source)}")
+    must(" stops " in guards(source)[0] and " goes on " in guards(source)[1], f"{guards(source)}")
+    good, took = until(60, lambda: source.counts().get("lent", 0) > least, 0.1)
+    in_time(good, f"not lent again: {source.counts()}")
+    source.qmp.good("stop")
+    source.check("after the snapshot")
+    last = rounds_of(source, "the guest")
+    in_time(written > 30 and last > first, f"{written} stores while it was saved; rounds {first} to {last}")
+    print(f"  {written} stores while it was saved, rounds and pages of the processor {first} to {last}; lends again after {took:.1f} s")
+    source.quit()
+    all_released(host)
+    host.stop()
+
+
+def slowly(path: pathlib.Path) -> str:
+    """Where to save so that it takes some seconds. (QEMU knows no limit for background snapshots.)"""
+    part = path.with_suffix(".part")
+    return f"exec:while head -c 65536 >{part} && [ -s {part} ]; do cat {part} >>{path}; sleep 0.04; done"
+
+
+def store_while_saving(source: Driven) -> int:
+    """Stores to pages here and there while a migration is active. Returns how many stores."""
+    count = 0
+    for number in range(0, (MIB_OF_KNOWN << 20) // PAGE, 8):
+        for page in (number + 7, number + 5, number):  # (one by itself, one of ten, one of zeros)
+            source.store(BELOW + page * PAGE + number % 1024, b"\xa5" * 8)  # (what was equal is equal again)
+        if source.qmp.good("query-migrate").get("status") != "active":
+            return count
+        count += 3
+    return count
+
+
+def finished(made: Driven) -> Any:
+    """Waits for the end of a migration. Returns what QEMU says of it."""
+    until(120, lambda: made.qmp.good("query-migrate").get("status") in ("completed", "failed"), 0.1)
+    return made.qmp.good("query-migrate")
 
 
 # ---- disks ----
