@@ -162,6 +162,16 @@ def counts_of(line: str) -> tuple[int, int, int] | None:
     return (int(found[1]), int(found[2]), int(found[3] or 0)) if found else None
 
 
+def heard(said: str, status: int) -> tuple[list[str], tuple[int, int, int]]:
+    """The lines that another check printed before its closing line, and what it counted as passed, failed and skipped. One that ended otherwise
+    than it should has failed once more."""
+    lines = said.splitlines()
+    closing = counts_of(lines[-1]) if lines else None
+    passed, failed, skipped = closing or (0, 0, 0)
+    is_well = closing is not None and status == (1 if failed else 0)
+    return lines[:-1] if closing else lines, (passed, failed if is_well else failed + 1, skipped)
+
+
 class Tally:
     """The cases so far. What adds a case returns whether it passed."""
 
@@ -204,6 +214,14 @@ class Tally:
         print(f"left out: {what}", flush=True)
         if must_not_lack(package):
             self.case("nothing may be left out here", [f"there is a package {package}"])
+
+    def take(self, name: str, said: str, status: int) -> None:
+        """Prints and counts what another check printed, of this name, which ended with this status."""
+        lines, (passed, failed, skipped) = heard(said, status)
+        named = [it.removeprefix(FAILED_CASE) for it in lines if it.startswith(FAILED_CASE)]
+        print("".join(f"{it}\n" for it in lines if not it.startswith(FAILED_CASE)), end="", flush=True)
+        self.passed, self.failed, self.skipped = self.passed + passed, self.failed + failed, self.skipped + skipped
+        self.wrong += named if named or not failed else [f"{name}: it ended with status {status}"]
 
     def close(self) -> int:
         """Ends the check: prints what failed once more and the closing line, and returns the status."""

@@ -136,6 +136,24 @@ def named_again(plain: Plain) -> None:
         plain.same(f"{len(wrong)} wrong", (status, printed.getvalue()), (int(bool(wrong)), f"{due}{int(not wrong)} passed, {int(bool(wrong))} failed\n"))
 
 
+def taken(plain: Plain) -> None:
+    """What another check printed is printed and counted, what failed in it is named at the end, and one that ended otherwise than it should failed."""
+    good, bad = "it: good\n3 passed, 0 failed, 1 skipped\n", "it: no\nfailed: it: no\n1 passed, 1 failed\n"
+    cases: list[tuple[str, int, str, tuple[int, int, int], list[str]]] = [
+        (good, 0, "it: good\n", (3, 0, 1), []),
+        (good, 1, "it: good\n", (3, 1, 1), ["case: it ended with status 1"]),
+        (bad, 1, "it: no\n", (1, 1, 0), ["it: no"]),
+        (bad, 0, "it: no\n", (1, 2, 0), ["it: no"]),
+        ("it: good\n", 0, "it: good\n", (0, 1, 0), ["case: it ended with status 0"]),
+        ("", -9, "", (0, 1, 0), ["case: it ended with status -9"]),
+    ]
+    for said, status, printed, counts, wrong in cases:
+        tally = Tally()
+        shown_then = printed_of(tally.take, "case", said, status)[1]
+        found = (shown_then, (tally.passed, tally.failed, tally.skipped), tally.wrong)
+        plain.same(f"{said!r} with status {status}", found, (printed, counts, wrong))
+
+
 def tallied(is_whole: bool, package: str | None) -> tuple[int, int, int]:
     """What a tally counts of a part that lacks a package, where nothing may be left out and where anything may."""
     def part(_of: Tally) -> None:
@@ -234,7 +252,7 @@ def notes(plain: Plain) -> None:
 def main() -> int:
     argparse.ArgumentParser(description=__doc__.splitlines()[0]).parse_args()
     plain = Plain()
-    for part in (right_ones, wrong_ones, closing_lines, named_again, left_out, readable, folders, notes):
+    for part in (right_ones, wrong_ones, closing_lines, named_again, taken, left_out, readable, folders, notes):
         part(plain)
     print(f"{plain.passed} passed, {plain.failed} failed")
     return 1 if plain.failed else 0

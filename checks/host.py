@@ -2,10 +2,11 @@
 """Runs the host (docs/HOST.md) with unmodified QEMU guests, hostile clients and whatever else may go wrong.
 
     checks/host.py [CASE ..]
-    checks/host.py --gate
+    checks/host.py --gate [CASE ..]
 
-Without words all cases but `soak` run; --list names them. --gate runs those that IN_GATE lists, which `make check` does: all
-that need no guest, shortened, and some with one or two. Each case has a time, after which it has failed. One in which somebody waited
+Without words all cases but `soak` run; --list names them. --gate runs cases as `make check` does, shortened, and without words those that
+IN_GATE lists: all that need no guest, and some with one or two. These run side by side, but for those of ALONE, which measure. Each case has
+a time, after which it has failed. One in which somebody waited
 longer than due, or less was shared, is run once more, since the computer may have been busy. Needs root, out/host/pageshare-host and
 out/host/libpageshare-window.so (`make host`). Guests are QEMU with Debian's kernel and busybox, run as the user nobody beside a host
 of another user; each checks all that it reads. With INSTALL=1 in the environment missing packages are installed by apt-get, but for
@@ -61,6 +62,8 @@ IN_GATE = {
     "check": 120, "check-guest": 60, "check-denied": 60, "check-wrong": 180, "check-refused": 300, "pause": 240, "pause-busy": 120, "pause-guarded": 120,
     "limit": 120, "account": 180, "shares-nothing": 240,
 }
+# Those that measure the time or the memory of what runs: nothing of the gate's cases runs beside them.
+ALONE = ("size", "runs", "paced")
 
 if __name__ == "__main__":
-    sys.exit(main(__doc__, CASES, LONG, IN_GATE))
+    sys.exit(main(__doc__, CASES, LONG, IN_GATE, ALONE))

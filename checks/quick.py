@@ -16,7 +16,7 @@ import subprocess
 import sys
 from collections.abc import Sequence
 
-from harness import PROGRAM, TOP, close, counts_of
+from harness import PROGRAM, TOP, close, heard
 
 SEED = "1"
 CHECKS: list[tuple[str, list[str]]] = [
@@ -32,14 +32,8 @@ CHECKS: list[tuple[str, list[str]]] = [
 def tried(check: str, words: Sequence[str]) -> tuple[int, int, int]:
     """What a check counts as passed, failed and skipped; one that ends otherwise than it should has failed once more."""
     done = subprocess.run([sys.executable, TOP / "checks" / check, *words], stdout=subprocess.PIPE, text=True, check=False)
-    lines = done.stdout.splitlines(keepends=True)
-    closing = counts_of(lines[-1]) if lines else None
-    print(f"{check}:\n{''.join(lines[:-1] if closing else lines)}", end="", flush=True)
-    passed, failed, skipped = closing or (0, 0, 0)
-    if closing is None or done.returncode != (1 if failed else 0):
-        print(f"it ended with status {done.returncode}")
-        failed += 1
-    print(f"{passed} of {passed + failed} are right", flush=True)
+    lines, (passed, failed, skipped) = heard(done.stdout, done.returncode)
+    print(check + ":", *lines, f"{passed} of {passed + failed} are right, and it ended with status {done.returncode}", sep="\n", flush=True)
     return passed, failed, skipped
 
 

@@ -3,22 +3,28 @@ from __future__ import annotations
 
 import argparse
 import atexit
+import concurrent.futures
+import contextlib
 import os
 import pathlib
 import shutil
 import signal
+import subprocess
 import sys
 import time
 import types
 from collections.abc import Callable, Iterable, Mapping, Sequence
+from typing import Any
 
 from harness import LeftOut, Tally
-from places import HERE, Late, Place, Wrong
+from places import HERE, Late, Place, Wrong, find_kernel
 
 # Cases by their names.
 Cases = Mapping[str, Callable[[], object]]
 # The seconds of a case outside the gate.
 SECONDS_OF_CASE = 1800
+# How many cases of the gate run side by side: most of them wait most of their time.
+LANES = 2
 
 
 def cases_in(modules: Iterable[types.ModuleType]) -> Cases:
@@ -70,15 +76,19 @@ def run_case(tally: Tally, name: str, run: Callable[[], object], seconds: int) -
         tally.case(name, [] if verdict == "good" else [verdict[:300]])
 
 
-def run_cases(tally: Tally, cases: Cases, names: Sequence[str], long: Sequence[str], in_gate: Mapping[str, int]) -> int:
-    """Runs these cases by a copy of the host and of the library, so that a build meanwhile changes nothing. Returns the status."""
+def is_ready(tally: Tally) -> bool:
+    """Whether cases can run here: as root, of a host and a library that are built."""
     if os.geteuid() != 0:
         tally.leave_out("all of the host, which needs root")
-        return tally.close()
-    for it in (HERE.host, HERE.library):
-        if not it.exists():
-            print(f"{it} isn't there: make host")
-            return 1
+        return False
+    missing = [it for it in (HERE.host, HERE.library) if not it.exists()]
+    if missing:
+        tally.case("the host", [f"{missing[0]} isn't there: make host"])
+    return not missing
+
+
+def run_cases(tally: Tally, cases: Cases, names: Sequence[str], long: Sequence[str], in_gate: Mapping[str, int]) -> None:
+    """Runs these cases by a copy of the host and of the library, so that a build meanwhile changes nothing."""
     HERE.place = Place()
     atexit.register(HERE.place.remove)
     HERE.host, HERE.library = (pathlib.Path(shutil.copy(it, HERE.place.room)) for it in (HERE.host, HERE.library))
@@ -87,15 +97,35 @@ def run_cases(tally: Tally, cases: Cases, names: Sequence[str], long: Sequence[s
     for name in names:
         seconds = (in_gate[name] if HERE.is_short else SECONDS_OF_CASE) + int(os.environ.get("SECONDS", "600" if name in long else "0"))
         run_case(tally, name, cases[name], seconds)
-    return tally.close()
 
 
-def main(description: str, cases: Cases, long: Sequence[str], in_gate: Mapping[str, int] | None = None) -> int:
-    """Reads the words and runs the cases that they name; without words all but the long ones."""
+def by_itself(name: str) -> subprocess.CompletedProcess[str]:
+    """Runs a case of the gate in a process of its own, and returns what it printed."""
+    how: dict[str, Any] = {"stdin": subprocess.DEVNULL, "stdout": subprocess.PIPE, "stderr": subprocess.STDOUT, "text": True, "errors": "replace"}
+    return subprocess.run([sys.executable, sys.argv[0], "--gate", name], check=False, **how)
+
+
+def run_side_by_side(tally: Tally, in_gate: Mapping[str, int], alone: Sequence[str]) -> None:
+    """Runs the gate's cases side by side, the longest first, each in a process and a folder of its own; then those that run alone. What a case
+    prints comes when it has ended."""
+    with contextlib.suppress(LeftOut, Wrong):  # (so that no two cases unpack it)
+        find_kernel()
+    beside = sorted((it for it in in_gate if it not in alone), key=lambda it: -in_gate[it])
+    with concurrent.futures.ThreadPoolExecutor(LANES) as lanes:
+        running = {lanes.submit(by_itself, it): it for it in beside}
+        for it in concurrent.futures.as_completed(running):
+            tally.take(running[it], it.result().stdout, it.result().returncode)
+    for name in alone:
+        done = by_itself(name)
+        tally.take(name, done.stdout, done.returncode)
+
+
+def main(description: str, cases: Cases, long: Sequence[str], in_gate: Mapping[str, int] | None = None, alone: Sequence[str] = ()) -> int:
+    """Reads the words and runs the cases that they name; without words all but the long ones, or those of the gate, side by side but for these."""
     options = argparse.ArgumentParser(description=description.splitlines()[0])
     options.add_argument("cases", metavar="CASE", nargs="*")
     if in_gate is not None:
-        options.add_argument("--gate", action="store_true", help="run the cases that `make check` does, shortened")
+        options.add_argument("--gate", action="store_true", help="run cases as `make check` does, shortened; without words all of these")
     options.add_argument("--list", action="store_true", help="name the cases")
     given = options.parse_args()
     if given.list:
@@ -105,5 +135,13 @@ def main(description: str, cases: Cases, long: Sequence[str], in_gate: Mapping[s
     if unknown:
         options.error(f"no such case: {' '.join(unknown)} (see --list)")
     HERE.is_short = in_gate is not None and given.gate
-    names = [*in_gate] if in_gate is not None and given.gate else given.cases or [name for name in cases if name not in long]
-    return run_cases(Tally(), cases, names, long, in_gate or {})
+    beyond = [name for name in given.cases if HERE.is_short and name not in (in_gate or {})]
+    if beyond:
+        options.error(f"the gate doesn't run this case: {' '.join(beyond)}")
+    tally = Tally()
+    if is_ready(tally):
+        if HERE.is_short and not given.cases:
+            run_side_by_side(tally, in_gate or {}, alone)
+        else:
+            run_cases(tally, cases, given.cases or [name for name in cases if name not in long], long, in_gate or {})
+    return tally.close()
