@@ -47,7 +47,7 @@ STRUCTS = {
     "KnownSession": "pageshare_host_session", "ReceivedPacket": "pageshare_host_received",
     "ServedPacket": "pageshare_host_served", "PacketAllowance": "pageshare_host_allowance", "PacketHead": "pageshare_host_packet", "WindowBudget": "pageshare_window_budget",
     "KeptSession": "pageshare_window_session", "Lent": "pageshare_window_lent pageshare_host_lent",
-    "WindowPage": "pageshare_window_page", "TableFacts": "pageshare_window_table_facts", "PartCounts": "pageshare_window_counts", "WindowFacts": "pageshare_window_facts",
+    "WindowPage": "pageshare_window_page", "TableFacts": "pageshare_window_table_facts", "WindowTables": "pageshare_window_tables", "PartCounts": "pageshare_window_counts", "WindowFacts": "pageshare_window_facts",
     "Part": "pageshare_window_part", "PartConfig": "pageshare_window_part_config",
     "PartLook": "pageshare_window_part_look", "OfferedRange": "pageshare_window_range", "Piece": "pageshare_window_piece",
     "OfferedBounds": "pageshare_window_range_bounds", "Transfer": "pageshare_window_transfer", "FindOutcome": "pageshare_window_find_outcome",
@@ -63,6 +63,7 @@ STRUCT = re.compile(r"#\[repr\(C\)\]\n(?:[ #/][^\n]*\n)*(?:pub(?:\(crate\))? )?s
 STATUS = re.compile(r"^pub const (\w+): u32 = (\d+);$", re.M)
 ENUMERATOR = re.compile(r"^\s*(PAGESHARE_\w+) = (\d+)\b", re.M)
 ARM = re.compile(r"^ +\w+::(\w+)(\([^)]*\))? => (\d+)(?: \+ target\.number\(\))?,$", re.M)
+SLICE = re.compile(r"&'a (?:mut )?\[\w+\]")
 MEMBER = re.compile(r"^\s*(?:pub(?:\(crate\))? )?(\w+): ([^\n]+?),$", re.M)
 
 
@@ -82,6 +83,17 @@ def type_of(kind: str) -> str:
     if kind in STRUCTS:
         return f"struct {STRUCTS[kind]}"
     return "array" if kind.startswith("[") else TYPES.get(kind, "pointer")
+
+
+def members_of(inside: str) -> list[tuple[str, str]]:
+    """The members of a struct that isn't C's. A slice is a pointer and a number of members for C."""
+    found = []
+    for member, kind in MEMBER.findall(inside):
+        if "PhantomData" not in kind:
+            found.append((member, type_of(kind)))
+        if SLICE.fullmatch(kind):
+            found.append((f"{member}_count", "size_t"))
+    return found
 
 
 def compare_statuses(tally: Tally) -> None:
@@ -125,9 +137,8 @@ def main() -> int:
         for file in sorted((TOP / folder).rglob(f"*.{suffix}")):
             for name, inside in STRUCT.findall(file.read_text()):
                 if name not in HANDLES:
-                    found = [(member, type_of(kind)) for member, kind in MEMBER.findall(inside) if "PhantomData" not in kind]
                     for of_c in STRUCTS.get(name, "").split() or [""]:
-                        tally.equal(f"{name} in {file.relative_to(TOP)}", found, due.get(of_c))
+                        tally.equal(f"{name} in {file.relative_to(TOP)}", members_of(inside), due.get(of_c))
     return tally.close()
 
 

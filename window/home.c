@@ -43,8 +43,7 @@ static struct window_result give_up(struct window *window, size_t first, size_t 
     const struct windows *windows = window->windows;
     /* (what is mapped anew the caller's own userfaultfd watches no more) */
     if (is_over(&window->pages[first]) && is_watched_by_caller(window, first, count)) return result_of(WINDOW_WATCHED, EBUSY);
-    unsigned by = pageshare_window_given_up_by(window->pages, window->count, PARTS(window), window->lead, first, count,
-                                               windows->is_watched, MAPPINGS(windows));
+    unsigned by = pageshare_window_given_up_by(TABLES(window), first, count, windows->is_watched);
     bool is_anew = (by & PAGESHARE_WINDOW_BY_ZEROS) != 0 && map_pages(window, first, count, ZEROS, PROT_READ | PROT_WRITE) == 0;
     bool are_cleared = (by & PAGESHARE_WINDOW_BY_CLEARING) != 0 && !is_anew;
     if (!is_anew && !are_cleared && madvise(address_of(window, first), bytes_of(count), MADV_DONTNEED) < 0)
@@ -235,7 +234,7 @@ static struct window_result settle_home(struct window *window, size_t first, siz
     bool come[PART];
     int cause = 0;
     order_home(window, first, count, &(struct pageshare_window_facts){.pinned = true});
-    pageshare_window_find_coming(window->pages, window->count, first, come, count);
+    pageshare_window_find_coming(TABLES(window), first, come, count);
     for (size_t i = 0, end = 0; i < count && cause == 0; i = end) {
         for (end = i + 1; end < count && come[end] == come[i]; end++) {
         }
@@ -329,5 +328,5 @@ void window_forget(struct window *window, size_t first, size_t count) {
     struct windows *windows = window->windows;
     for (size_t page = first; page < first + count; page++)
         if (is_here(window, page)) trace_discard(windows->trace, window->base + (uint32_t)page);
-    pageshare_window_unmap(TABLES(window), PARTS(window), first, count, &windows->counts.mappings);
+    pageshare_window_unmap(TABLES(window), first, count);
 }

@@ -360,12 +360,8 @@ static void note_left_out(struct windows *windows, const uint8_t *answers, size_
 /* Orders pages to be held. Writes 1 to `held` of each whose order that is from then on, else something else. With the lock. */
 static void order_holds(struct window *window, const uint32_t *pages, size_t count, enum wish wish, uint8_t *held) {
     struct windows *windows = window->windows;
-    const struct pageshare_window_table_facts table = table_of(window);
-    if (wish == TO_BE_SHOWN)
-        pageshare_window_to_hold(TABLES(window), &table, PINS(window), window->parts, parts_in(window), pages, count, held, count);
-    else
-        pageshare_window_to_give_back(TABLES(window), &table, PINS(window), window->parts, parts_in(window), MAPPINGS(windows),
-                                      pages, count, held, count);
+    if (wish == TO_BE_SHOWN) pageshare_window_to_hold(TABLES(window), pages, count, held, count);
+    else pageshare_window_to_give_back(TABLES(window), pages, count, held, count);
     note_left_out(windows, held, count);
 }
 
@@ -379,14 +375,13 @@ static size_t equal_run(const struct window *window, const uint32_t *pages, cons
 
 /* Refuses the orders of those pages that are left: they are others than those that were found. With the lock. */
 static void refuse_holds(struct window *window, const uint32_t *pages, const uint8_t *left, size_t count) {
-    const struct pageshare_window_table_facts table = table_of(window);
     uint8_t outcomes[HOLD_MOST], answers[HOLD_MOST];
     for (size_t i = 0; i < count; i++) {
         const bool is_left = left[i] == PAGESHARE_WINDOW_TO_HOLD;
         outcomes[i] = is_left ? PAGESHARE_WINDOW_COPY_CHANGED : PAGESHARE_WINDOW_NOT_COPIED;
         window->windows->counts.changed += is_left ? 1 : 0;
     }
-    pageshare_window_copied(TABLES(window), &table, PINS(window), pages, count, outcomes, count, answers, count);
+    pageshare_window_copied(TABLES(window), pages, count, outcomes, count, answers, count);
 }
 
 /* How many of the first pages are in a row, and all over frames or none. With the lock. */
@@ -515,8 +510,7 @@ static void take_answers(struct window *window, struct batch *batch, const uint8
     const size_t count = batch->count;
     uint8_t answers[WINDOW_BATCH] = {0};
     lock_for_look(windows);
-    pageshare_window_answered(TABLES(window), window->parts, parts_in(window), MAPPINGS(windows), batch->pages, count,
-                              batch->fingerprints, count, seen, count, answers, count);
+    pageshare_window_answered(TABLES(window), batch->pages, count, batch->fingerprints, count, seen, count, answers, count);
     note_left_out(windows, answers, count);
     for (size_t i = 0; i < count; i++) windows->counts.seen += seen[i] != 0 ? 1 : 0;
     windows->counts.asked += count;
@@ -536,9 +530,7 @@ static void take_lendable(struct look *look, uint32_t *numbers, bool *passing) {
     uint8_t answers[WINDOW_BATCH] = {0};
     lock_for_look(windows);
     const struct pageshare_window_look now = look_now(windows);
-    const struct pageshare_window_table_facts table = table_of(window);
-    pageshare_window_to_ask(TABLES(window), &table, PINS(window), &now, window->parts, parts_in(window), MAPPINGS(windows),
-                            look->idle.pages, count, answers, count);
+    pageshare_window_to_ask(TABLES(window), &now, look->idle.pages, count, answers, count);
     note_left_out(windows, answers, count);
     unlock_set(windows);
     for (size_t i = 0, n = 0; i < count; i++) {
@@ -590,12 +582,10 @@ static uint8_t copy_one(struct window *window, size_t number, uint8_t check, uns
 
 /* Finds how the copy of each page of a batch is checked: enum pageshare_window_check. With the lock. */
 static void find_copies(struct window *window, const struct batch *batch, uint8_t *checks) {
-    const struct pageshare_window_table_facts table = table_of(window);
     const size_t count = batch->count;
     uint8_t there[WINDOW_BATCH];
     for (size_t found = 0; found < count;) found += find_there(window, batch->pages + found, count - found, there + found);
-    pageshare_window_to_copy(TABLES(window), &table, PINS(window), window->parts, parts_in(window), batch->pages, count, there,
-                             count, batch->fingerprints, count, checks, count);
+    pageshare_window_to_copy(TABLES(window), batch->pages, count, there, count, batch->fingerprints, count, checks, count);
 }
 
 /* Leaves those pages of the batch that can be lent still. Nothing is guarded: their users may write to them. */
@@ -608,7 +598,6 @@ bool copy_for_lender(struct look *look) {
     uint32_t copied[WINDOW_BATCH];
     uint8_t checks[WINDOW_BATCH] = {0}, outcomes[WINDOW_BATCH], lends[WINDOW_BATCH];
     lock_for_look(windows);
-    const struct pageshare_window_table_facts table = table_of(window);
     find_copies(window, batch, checks);
     for (size_t i = 0; i < count; i++) {
         const size_t at = windows->frames_fall ? count - 1 - i : i;
@@ -617,7 +606,7 @@ bool copy_for_lender(struct look *look) {
         kept += outcomes[at] == PAGESHARE_WINDOW_COPY_GOOD ? 1 : 0;
     }
     /* (the lock was held: of each good copy a loan is to be asked for) */
-    pageshare_window_copied(TABLES(window), &table, PINS(window), batch->pages, count, outcomes, count, lends, count);
+    pageshare_window_copied(TABLES(window), batch->pages, count, outcomes, count, lends, count);
     unlock_set(windows);
     memcpy(batch->pages, copied, kept * sizeof copied[0]);
     batch->count = kept;

@@ -12,9 +12,8 @@ struct scan {
     struct window *window;
     size_t first, count; /* the part's pages */
     const struct pageshare_window_look *look;
-    struct pageshare_window_table_facts table; /* what is so of the window */
-    const uint8_t *memory;                     /* which memory each page has */
-    uint8_t steps[PART];                       /* what is done next with each, and what was found: the library writes it */
+    const uint8_t *memory; /* which memory each page has */
+    uint8_t steps[PART];   /* what is done next with each, and what was found: the library writes it */
     struct pageshare_window_find_outcome outcomes[PART];
     uint16_t due[PART]; /* the places of those with which something is to be done, in order */
     size_t due_count;
@@ -76,7 +75,7 @@ static void take_glances(struct scan *scan) {
     uint16_t places[PART];
     uint64_t numbers[PART];
     const size_t count = find_with(scan, PAGESHARE_WINDOW_FIND_GLANCE, places);
-    pageshare_window_glance_numbers(window->pages, window->count, scan->first, places, count, numbers, count);
+    pageshare_window_glance_numbers(TABLES(window), scan->first, places, count, numbers, count);
     for (size_t at = 0; at < count; at++) {
         if (at + AHEAD < count)
             __builtin_prefetch(page_at(scan, places[at + AHEAD]) + glance_place(numbers[at + AHEAD]) * sizeof(uint64_t));
@@ -102,8 +101,8 @@ static void read_pages(struct scan *scan) {
 static void scan_pages(struct scan *scan) {
     struct window *window = scan->window;
     const struct pageshare_window_part *part = part_of(window, scan->first);
-    pageshare_window_begin_scan(TABLES(window), scan->look, part, &scan->table, PINS(window), scan->first,
-                                scan->memory, scan->count, scan->steps, scan->count);
+    pageshare_window_begin_scan(TABLES(window), scan->look, part, scan->first, scan->memory, scan->count, scan->steps,
+                                scan->count);
     while (find_due(scan)) {
         find_copies(scan);
         take_glances(scan);
@@ -111,8 +110,8 @@ static void scan_pages(struct scan *scan) {
         pageshare_window_scan_done(TABLES(window), scan->look, part, scan->first, scan->outcomes, scan->count, scan->steps,
                                    scan->count);
         if (count_bit(scan, PAGESHARE_WINDOW_SCAN_CHANGED) > 0)
-            pageshare_window_follow_changes(TABLES(window), scan->look, part, &scan->table, PINS(window),
-                                            scan->first, scan->memory, scan->count, scan->steps, scan->count);
+            pageshare_window_follow_changes(TABLES(window), scan->look, part, scan->first, scan->memory, scan->count, scan->steps,
+                                            scan->count);
     }
 }
 
@@ -202,8 +201,7 @@ static void find_in_part(struct look *look, size_t first, size_t count, bool is_
     struct pageshare_window_look now = look_now(windows);
     now.ready = window->ready;
     now.is_return = is_return;
-    struct scan scan = {
-        .window = window, .first = first, .count = count, .look = &now, .table = table_of(window), .memory = memory};
+    struct scan scan = {.window = window, .first = first, .count = count, .look = &now, .memory = memory};
     look->outcome.rests = part->rest > 0;
     scan_pages(&scan);
     add_found(&scan, look);

@@ -29,52 +29,55 @@ uint64_t slot_number(uint32_t name) { return (uint64_t)(name / WINDOW_SLOT_RESTS
 
 /* ---- what the library decides, and hears ---- */
 
-/* Where no transfer of a page was under way yet. */
+/* The pins of a window of whose pages no transfer was under way yet. */
 static const uint16_t no_pins;
 
-size_t pins_in(const struct window *window) { return window->pins != NULL ? window->count : 0; }
-
-const uint16_t *pins_of(const struct window *window) { return window->pins != NULL ? window->pins : &no_pins; }
-
-struct pageshare_window_table_facts table_of(const struct window *window) {
-    const struct windows *windows = window->windows;
-    return (struct pageshare_window_table_facts){.elsewhere = windows->transfers_elsewhere,
-                                                 .may_pin = windows->config.pins != WINDOWS_PINS_NEVER,
-                                                 .inherited = !window->advice.dont_fork,
-                                                 .locked = windows->is_locked,
-                                                 .ends = window->ends,
-                                                 .is_over = windows->is_over || windows->is_watched};
+struct pageshare_window_tables tables_of(const struct window *window) {
+    struct windows *windows = window->windows;
+    const bool has_pins = window->pins != NULL;
+    return (struct pageshare_window_tables){.pages = window->pages,
+                                            .pages_count = window->count,
+                                            .counts = window->counts,
+                                            .counts_count = parts_in(window),
+                                            .parts = window->parts,
+                                            .parts_count = parts_in(window),
+                                            .pins = has_pins ? window->pins : &no_pins,
+                                            .pins_count = has_pins ? window->count : 0,
+                                            .mappings = &windows->counts.mappings,
+                                            .most = windows->mappings_most,
+                                            .lead = window->lead,
+                                            .facts = {.elsewhere = windows->transfers_elsewhere,
+                                                      .may_pin = windows->config.pins != WINDOWS_PINS_NEVER,
+                                                      .inherited = !window->advice.dont_fork,
+                                                      .locked = windows->is_locked,
+                                                      .ends = window->ends,
+                                                      .is_over = windows->is_over || windows->is_watched}};
 }
 
 void order_home(struct window *window, size_t first, size_t count, const struct pageshare_window_facts *why) {
-    const struct pageshare_window_table_facts table = table_of(window);
-    pageshare_window_order_home(TABLES(window), &table, PINS(window), why, first, count);
+    pageshare_window_order_home(TABLES(window), why, first, count);
 }
 
 void find_staying(const struct window *window, size_t first, bool *copies, size_t count,
                   const struct pageshare_window_facts *why) {
-    const struct pageshare_window_table_facts table = table_of(window);
-    pageshare_window_find_staying(window->pages, window->count, &table, PINS(window), why, first, copies, count);
+    pageshare_window_find_staying(TABLES(window), why, first, copies, count);
 }
 
 bool may_go_on(const struct window *window, size_t first, size_t count, struct pageshare_window_facts why) {
-    const struct pageshare_window_table_facts table = table_of(window);
-    return pageshare_window_may_go_on(window->pages, window->count, &table, PINS(window), &why, first, count);
+    return pageshare_window_may_go_on(TABLES(window), &why, first, count);
 }
 
 bool may_give_up(const struct window *window, size_t first, size_t count) {
-    return pageshare_window_may_give_up(window->pages, window->count, first, count);
+    return pageshare_window_may_give_up(TABLES(window), first, count);
 }
 
 bool are_movable(const struct window *window, size_t first, size_t count) {
-    const struct pageshare_window_table_facts table = table_of(window);
-    return pageshare_window_are_movable(window->pages, window->count, &table, PINS(window), first, count);
+    return pageshare_window_are_movable(TABLES(window), first, count);
 }
 
 struct pageshare_window_row_order next_of_row(struct window *window, size_t first, const uint8_t *row, size_t count) {
-    const struct pageshare_window_table_facts table = table_of(window);
     struct pageshare_window_row_order order;
-    pageshare_window_next_of_row(TABLES(window), &table, PINS(window), first, row, count, &order);
+    pageshare_window_next_of_row(TABLES(window), first, row, count, &order);
     return order;
 }
 
@@ -89,11 +92,11 @@ size_t alike(const struct window *window, size_t first, size_t most) {
 }
 
 size_t mappings_of(const struct window *window, size_t first, size_t count) {
-    return pageshare_window_mappings_at(window->pages, window->count, PARTS(window), window->lead, first, count);
+    return pageshare_window_mappings_at(TABLES(window), first, count);
 }
 
 void note_moved(struct window *window, size_t first, size_t count) {
-    pageshare_window_uncover(TABLES(window), PARTS(window), first, count, true, &window->windows->counts.mappings);
+    pageshare_window_uncover(TABLES(window), first, count, true);
     note_cleared(window, first, count, false);
 }
 
@@ -106,8 +109,7 @@ static const uint8_t *source_of(const struct window *window, uint32_t frame, int
 }
 
 bool has_room_for_zeros(const struct window *window, size_t first, size_t count) {
-    return pageshare_window_has_room_for_zeros(window->pages, window->count, PARTS(window), window->lead, first, count,
-                                               MAPPINGS(window->windows));
+    return pageshare_window_has_room_for_zeros(TABLES(window), first, count);
 }
 
 enum { BITS = 8 /* of `cleared` in a byte */ };
@@ -133,7 +135,6 @@ void note_apart(struct window *window, size_t first, size_t count) {
 
 int map_pages(struct window *window, size_t first, size_t count, uint32_t frame, int protection) {
     bool is_file = frame != ZEROS, has_left = is_out(&window->pages[first]);
-    size_t *mappings = &window->windows->counts.mappings;
     const uint8_t *source = source_of(window, frame, protection);
     void *at = address_of(window, first);
     int cause = source != NULL ? mapping_copy(at, source, count) : ENOENT;
@@ -145,8 +146,8 @@ int map_pages(struct window *window, size_t first, size_t count, uint32_t frame,
     if (cause != 0) return cause;
     /* (what the system refuses to say of zeros keeps it from joining them with what is beside them) */
     bool is_said = has_left || (is_file && are_copies) || say_again(window, first, count, is_file, are_copies);
-    if (is_file) pageshare_window_cover(TABLES(window), PARTS(window), first, count, frame, mappings);
-    else pageshare_window_put_zeros(TABLES(window), PARTS(window), first, count, is_said, mappings);
+    if (is_file) pageshare_window_cover(TABLES(window), first, count, frame);
+    else pageshare_window_put_zeros(TABLES(window), first, count, is_said);
     note_cleared(window, first, count, false);
     return 0;
 }

@@ -4,12 +4,13 @@
  * pages get; how many mappings may be made, and how much processor time the thread may use. They are proved, make no system call and allocate
  * nothing.
  *
- * Pages, of which nothing is lent where their table is zeros, and a list of those that are idle:
+ * Pages of a window, of which nothing is lent where its tables are zeros, and a list of those that are idle:
  *
- *     pageshare_window_to_copy(pages, 4096, parts, 8, 0, &table, pins, 0, wholes, 8, list, 3, there, 3, prints, 3, checks, 3);
- *     pageshare_window_copied(pages, 4096, parts, 8, 0, &table, pins, 0, list, 3, outcomes, 3, lends, 3);  once they were copied
- *     pageshare_window_loaned(pages, 4096, parts, 8, 0, list, 3, slots, 3, given, 3, frames, true, answers, 3);  once they were lent
- *     pageshare_window_to_hold(pages, 4096, parts, 8, 0, &table, pins, 0, wholes, 8, list, 3, held, 3);
+ *     struct pageshare_window_tables tables = {.pages = pages, .pages_count = 4096, .counts = counts, .counts_count = 8, ..};
+ *     pageshare_window_to_copy(&tables, list, 3, there, 3, prints, 3, checks, 3);
+ *     pageshare_window_copied(&tables, list, 3, outcomes, 3, lends, 3);  once they were copied
+ *     pageshare_window_loaned(&tables, list, 3, slots, 3, given, 3, frames, true, answers, 3);  once they were lent
+ *     pageshare_window_to_hold(&tables, list, 3, held, 3);
  *
  * A budget:
  *
@@ -18,10 +19,9 @@
  *
  * Held pages in a row, each with a byte of `row`:
  *
- *     pageshare_window_begin_row(pages, 4096, parts, 8, 0, 512, row, 16, takings, 16);
- *     while (pageshare_window_next_of_row(pages, 4096, parts, 8, 0, &table, pins, 0, 512, row, 16, &order),
- *            order.step != PAGESHARE_WINDOW_HOLD_OVER)
- *         pageshare_window_row_done(pages, 4096, parts, 8, 0, 512, row, 16, &order, done, refused);  once the order was carried out
+ *     pageshare_window_begin_row(&tables, 512, row, 16, takings, 16);
+ *     while (pageshare_window_next_of_row(&tables, 512, row, 16, &order), order.step != PAGESHARE_WINDOW_HOLD_OVER)
+ *         pageshare_window_row_done(&tables, 512, row, 16, &order, done, refused);  once the order was carried out
  *
  * A scan, of tasks that are carried out one after another:
  *
@@ -297,52 +297,57 @@ struct pageshare_window_table_facts {
 };
 
 /*
+ * The tables of one window, and what is so of it now. The caller fills it in for a call: arrays, each with its length, a counter of the process,
+ * and facts. A call changes what `pages`, `counts` and `mappings` point to, and nothing of the struct itself.
+ */
+struct pageshare_window_tables {
+    struct pageshare_window_page *pages;
+    size_t pages_count;
+    struct pageshare_window_counts *counts; /* of each part's pages */
+    size_t counts_count;
+    const struct pageshare_window_part *parts;
+    size_t parts_count;
+    const uint16_t *pins; /* how often each page was pinned; of no page where there are none */
+    size_t pins_count;
+    size_t *mappings; /* how many mappings the process's windows have taken, */
+    uint64_t most;    /* and may take in all */
+    size_t lead;      /* pages of the first part that lie before the window */
+    struct pageshare_window_table_facts facts;
+};
+
+/*
  * Of `count` pages from `first` on. Each returns false if they aren't all there.
  *
  * Whether a call of the monitor may go on by each of them, of which `why` is so from then on: no write to any of them waits, and none that must
  * have memory of its own shows a frame. Whether one may that gives them up: no write waits. And whether their memory may be exchanged for other
  * memory: none of them is held, and nothing bars one.
  */
-bool pageshare_window_may_go_on(const struct pageshare_window_page *pages, size_t pages_count,
-                                const struct pageshare_window_table_facts *table, const uint16_t *pins, size_t pins_count,
-                                const struct pageshare_window_facts *why, size_t first, size_t count);
-bool pageshare_window_may_give_up(const struct pageshare_window_page *pages, size_t pages_count, size_t first, size_t count);
-bool pageshare_window_are_movable(const struct pageshare_window_page *pages, size_t pages_count,
-                                  const struct pageshare_window_table_facts *table, const uint16_t *pins, size_t pins_count,
-                                  size_t first, size_t count);
+bool pageshare_window_may_go_on(const struct pageshare_window_tables *tables, const struct pageshare_window_facts *why,
+                                size_t first, size_t count);
+bool pageshare_window_may_give_up(const struct pageshare_window_tables *tables, size_t first, size_t count);
+bool pageshare_window_are_movable(const struct pageshare_window_tables *tables, size_t first, size_t count);
 /*
- * What becomes of `count` pages from `first` on. `counts` has those of each part of 512 pages, of which `parts` are; `lead` pages of the first part lie
- * before the table. Each returns false, and notes nothing, if the pages aren't all there, or if the table has more pages than its parts have counts.
+ * What becomes of `count` pages from `first` on. Each returns false, and notes nothing, if the pages aren't all there, or if there are more pages
+ * than their parts have counts.
  *
- * Where other memory may come to their places, `*mappings` changes by what begins at them then, or at the page behind them, less what began there.
+ * Where other memory may come to their places, the number of mappings changes by what begins at them then, or at the page behind them, less what
+ * began there.
  *
  * Frames in a row were mapped at their places, of which the first has this number; or memory of their own was put there, moved all at once, or
  * mapped; or zeros were mapped there, of which the system let be said what is said of the window (`is_said`), or not. The page behind them begins what
  * was moved, if it was moved.
  */
-bool pageshare_window_cover(struct pageshare_window_page *pages, size_t pages_count, struct pageshare_window_counts *counts,
-                            size_t counts_count, size_t lead, const struct pageshare_window_part *parts, size_t parts_count,
-                            size_t first, size_t count, uint32_t frame, size_t *mappings);
-bool pageshare_window_uncover(struct pageshare_window_page *pages, size_t pages_count, struct pageshare_window_counts *counts,
-                              size_t counts_count, size_t lead, const struct pageshare_window_part *parts, size_t parts_count,
-                              size_t first, size_t count, bool moved, size_t *mappings);
-bool pageshare_window_put_zeros(struct pageshare_window_page *pages, size_t pages_count, struct pageshare_window_counts *counts,
-                                size_t counts_count, size_t lead, const struct pageshare_window_part *parts, size_t parts_count,
-                                size_t first, size_t count, bool is_said, size_t *mappings);
+bool pageshare_window_cover(struct pageshare_window_tables *tables, size_t first, size_t count, uint32_t frame);
+bool pageshare_window_uncover(struct pageshare_window_tables *tables, size_t first, size_t count, bool moved);
+bool pageshare_window_put_zeros(struct pageshare_window_tables *tables, size_t first, size_t count, bool is_said);
 /* They were unmapped, or something else was mapped in their place. They have left their window. */
-bool pageshare_window_unmap(struct pageshare_window_page *pages, size_t pages_count, struct pageshare_window_counts *counts,
-                            size_t counts_count, size_t lead, const struct pageshare_window_part *parts, size_t parts_count,
-                            size_t first, size_t count, size_t *mappings);
+bool pageshare_window_unmap(struct pageshare_window_tables *tables, size_t first, size_t count);
 /* Their lender is gone, and no slot of theirs counts any more. What they show stays. */
-bool pageshare_window_detach(struct pageshare_window_page *pages, size_t pages_count, struct pageshare_window_counts *counts,
-                             size_t counts_count, size_t lead, const struct pageshare_window_part *parts, size_t parts_count,
-                             size_t first, size_t count, size_t *mappings);
+bool pageshare_window_detach(struct pageshare_window_tables *tables, size_t first, size_t count);
 /* Their content was given up. */
-bool pageshare_window_give_up(struct pageshare_window_page *pages, size_t pages_count, struct pageshare_window_counts *parts,
-                              size_t parts_count, size_t lead, size_t first, size_t count);
+bool pageshare_window_give_up(struct pageshare_window_tables *tables, size_t first, size_t count);
 /* They have left their window, with what they contain. */
-bool pageshare_window_leave(struct pageshare_window_page *pages, size_t pages_count, struct pageshare_window_counts *parts,
-                            size_t parts_count, size_t lead, size_t first, size_t count);
+bool pageshare_window_leave(struct pageshare_window_tables *tables, size_t first, size_t count);
 /*
  * `count` pages from `first` on get memory of their own in place of frames. Each returns false, and changes nothing, if they aren't all there, or,
  * but for the two that find something, if the table has more pages than its parts.
@@ -355,21 +360,14 @@ bool pageshare_window_leave(struct pageshare_window_page *pages, size_t pages_co
  *     one. None shows a frame of a lender that is gone any more.
  *   refused_home: those that were to get memory of their own get none.
  */
-bool pageshare_window_order_home(struct pageshare_window_page *pages, size_t pages_count, struct pageshare_window_counts *parts,
-                                 size_t parts_count, size_t lead, const struct pageshare_window_table_facts *table,
-                                 const uint16_t *pins, size_t pins_count, const struct pageshare_window_facts *why, size_t first,
+bool pageshare_window_order_home(struct pageshare_window_tables *tables, const struct pageshare_window_facts *why, size_t first,
                                  size_t count);
-bool pageshare_window_find_staying(const struct pageshare_window_page *pages, size_t pages_count,
-                                   const struct pageshare_window_table_facts *table, const uint16_t *pins, size_t pins_count,
-                                   const struct pageshare_window_facts *why, size_t first, bool *copies, size_t count);
-bool pageshare_window_moved_home(struct pageshare_window_page *pages, size_t pages_count, struct pageshare_window_counts *parts,
-                                 size_t parts_count, size_t lead, size_t first, size_t count);
-bool pageshare_window_find_coming(const struct pageshare_window_page *pages, size_t pages_count, size_t first, bool *found,
-                                  size_t count);
-bool pageshare_window_copied_home(struct pageshare_window_page *pages, size_t pages_count, struct pageshare_window_counts *parts,
-                                  size_t parts_count, size_t lead, size_t first, size_t count);
-bool pageshare_window_refused_home(struct pageshare_window_page *pages, size_t pages_count, struct pageshare_window_counts *parts,
-                                   size_t parts_count, size_t lead, size_t first, size_t count);
+bool pageshare_window_find_staying(const struct pageshare_window_tables *tables, const struct pageshare_window_facts *why,
+                                   size_t first, bool *copies, size_t count);
+bool pageshare_window_moved_home(struct pageshare_window_tables *tables, size_t first, size_t count);
+bool pageshare_window_find_coming(const struct pageshare_window_tables *tables, size_t first, bool *found, size_t count);
+bool pageshare_window_copied_home(struct pageshare_window_tables *tables, size_t first, size_t count);
+bool pageshare_window_refused_home(struct pageshare_window_tables *tables, size_t first, size_t count);
 
 /*
  * Under which of these pages a frame lies. And memory with what they contained was moved to their places at once: what looks have found of those over
@@ -377,9 +375,7 @@ bool pageshare_window_refused_home(struct pageshare_window_page *pages, size_t p
  */
 bool pageshare_window_find_over(const struct pageshare_window_page *pages, size_t pages_count, size_t first, bool *found,
                                 size_t count);
-bool pageshare_window_one_memory(struct pageshare_window_page *pages, size_t pages_count, struct pageshare_window_counts *counts,
-                                 size_t counts_count, size_t lead, const struct pageshare_window_part *parts, size_t parts_count,
-                                 size_t first, size_t count, size_t *mappings);
+bool pageshare_window_one_memory(struct pageshare_window_tables *tables, size_t first, size_t count);
 
 /* What came of an attempt to hold a page. */
 enum pageshare_window_taking {
@@ -427,15 +423,11 @@ struct pageshare_window_row_order {
  *
  * row_again returns the byte of a page with which a row of its own begins: it isn't stuck any more.
  */
-bool pageshare_window_begin_row(struct pageshare_window_page *pages, size_t pages_count, struct pageshare_window_counts *parts,
-                                size_t parts_count, size_t lead, size_t first, uint8_t *row, size_t row_count,
+bool pageshare_window_begin_row(struct pageshare_window_tables *tables, size_t first, uint8_t *row, size_t row_count,
                                 const uint8_t *takings, size_t takings_count);
-void pageshare_window_next_of_row(struct pageshare_window_page *pages, size_t pages_count, struct pageshare_window_counts *parts,
-                                  size_t parts_count, size_t lead, const struct pageshare_window_table_facts *table,
-                                  const uint16_t *pins, size_t pins_count, size_t first, const uint8_t *row, size_t row_count,
+void pageshare_window_next_of_row(struct pageshare_window_tables *tables, size_t first, const uint8_t *row, size_t row_count,
                                   struct pageshare_window_row_order *order);
-bool pageshare_window_row_done(struct pageshare_window_page *pages, size_t pages_count, struct pageshare_window_counts *parts,
-                               size_t parts_count, size_t lead, size_t first, uint8_t *row, size_t row_count,
+bool pageshare_window_row_done(struct pageshare_window_tables *tables, size_t first, uint8_t *row, size_t row_count,
                                const struct pageshare_window_row_order *order, size_t done, size_t refused);
 uint8_t pageshare_window_row_again(uint8_t byte);
 
@@ -478,23 +470,18 @@ uint8_t pageshare_window_next_of_part(struct pageshare_window_part *part, const 
  * VMAs of `count` pages of a window from `first` on:
  *   _at: how many begin at these pages, or at the one behind them, as far as these are there. Of all pages: how many the window uses.
  *   _new: how many a new window of `count` pages uses.
- * `parts` has each part, and `lead` pages of the first part lie before the window. A part that isn't there counts as split.
+ * A part that isn't there counts as split.
  *
  * Pages with memory of their own count as one mapping if it was moved there all at once, or not moved, in parts that are all whole or all split.
  * Frames do if their numbers are in a row, but at each multiple of 32,768. One pair of other frames in 32,768 does, too.
  */
-size_t pageshare_window_mappings_at(const struct pageshare_window_page *pages, size_t pages_count,
-                                    const struct pageshare_window_part *parts, size_t parts_count, size_t lead, size_t first,
-                                    size_t count);
+size_t pageshare_window_mappings_at(const struct pageshare_window_tables *tables, size_t first, size_t count);
 size_t pageshare_window_mappings_new(const struct pageshare_window_part *parts, size_t parts_count, size_t lead, size_t count);
 
 /*
- * Whether windows may take what zeros in place of `count` pages from `first` on need, where they have taken `taken` mappings of `most`. False if the
- * pages aren't all there.
+ * Whether windows may take the mappings that zeros in place of `count` pages from `first` on need. False if the pages aren't all there.
  */
-bool pageshare_window_has_room_for_zeros(const struct pageshare_window_page *pages, size_t pages_count,
-                                         const struct pageshare_window_part *parts, size_t parts_count, size_t lead, size_t first,
-                                         size_t count, uint64_t most, uint64_t taken);
+bool pageshare_window_has_room_for_zeros(const struct pageshare_window_tables *tables, size_t first, size_t count);
 
 /* How alike pages are given up whose memory isn't given back at their places. */
 enum {
@@ -505,9 +492,7 @@ enum {
  * Returns how `count` alike pages from `first` on are given up. With 0, or where only zeros could be mapped and the system refuses it, their memory is
  * given back. `is_watched`: others watch the memory, and would miss what is mapped there.
  */
-uint8_t pageshare_window_given_up_by(const struct pageshare_window_page *pages, size_t pages_count,
-                                     const struct pageshare_window_part *parts, size_t parts_count, size_t lead, size_t first,
-                                     size_t count, bool is_watched, uint64_t most, uint64_t taken);
+uint8_t pageshare_window_given_up_by(const struct pageshare_window_tables *tables, size_t first, size_t count, bool is_watched);
 /*
  * The part whose first page is this one is whole from now on, or split. `*mappings` changes by what begins at its pages then, or at the one behind
  * them, less what began there. Returns false, and changes nothing, if this isn't the first page of a part whose pages are all there.
@@ -663,24 +648,19 @@ uint64_t pageshare_window_pause_ms(const struct pageshare_window_times *times, u
  * if its step says so. Each returns false, and changes nothing, if these pages aren't all there, if the table has more pages than its parts, or if
  * what it takes isn't as long as `row`.
  */
-bool pageshare_window_begin_scan(struct pageshare_window_page *pages, size_t pages_count, struct pageshare_window_counts *parts,
-                                 size_t parts_count, size_t lead, const struct pageshare_window_look *look,
-                                 const struct pageshare_window_part *part, const struct pageshare_window_table_facts *table,
-                                 const uint16_t *pins, size_t pins_count, size_t first, const uint8_t *memory,
+bool pageshare_window_begin_scan(struct pageshare_window_tables *tables, const struct pageshare_window_look *look,
+                                 const struct pageshare_window_part *part, size_t first, const uint8_t *memory,
                                  size_t memory_count, uint8_t *row, size_t row_count);
-bool pageshare_window_scan_done(struct pageshare_window_page *pages, size_t pages_count, struct pageshare_window_counts *parts,
-                                size_t parts_count, size_t lead, const struct pageshare_window_look *look,
+bool pageshare_window_scan_done(struct pageshare_window_tables *tables, const struct pageshare_window_look *look,
                                 const struct pageshare_window_part *part, size_t first,
                                 const struct pageshare_window_find_outcome *outcomes, size_t outcomes_count, uint8_t *row,
                                 size_t row_count);
-bool pageshare_window_follow_changes(struct pageshare_window_page *pages, size_t pages_count,
-                                     struct pageshare_window_counts *parts, size_t parts_count, size_t lead,
-                                     const struct pageshare_window_look *look, const struct pageshare_window_part *part,
-                                     const struct pageshare_window_table_facts *table, const uint16_t *pins, size_t pins_count,
-                                     size_t first, const uint8_t *memory, size_t memory_count, uint8_t *row, size_t row_count);
+bool pageshare_window_follow_changes(struct pageshare_window_tables *tables, const struct pageshare_window_look *look,
+                                     const struct pageshare_window_part *part, size_t first, const uint8_t *memory,
+                                     size_t memory_count, uint8_t *row, size_t row_count);
 /* The numbers that say where glances look at the pages at these places, counted from `first` on. A glance is a number below 32,768. */
-void pageshare_window_glance_numbers(const struct pageshare_window_page *pages, size_t pages_count, size_t first,
-                                     const uint16_t *places, size_t places_count, uint64_t *numbers, size_t numbers_count);
+void pageshare_window_glance_numbers(const struct pageshare_window_tables *tables, size_t first, const uint16_t *places,
+                                     size_t places_count, uint64_t *numbers, size_t numbers_count);
 /* How many pages from the first on have copies of their own over frames, and were asked about in vain most often; or, if `are` is false, haven't. */
 size_t pageshare_window_left_over(const struct pageshare_window_page *pages, size_t count, bool are);
 /* A page is to be asked about at once; or it was to be held, and was, or wasn't. */
@@ -731,9 +711,9 @@ enum pageshare_window_loan {
  * The pages of a list have these numbers. Of each there is an entry in the other lists. Where a page isn't in the table, the answer to it is 0, and
  * nothing else is done. Each returns false, and changes nothing, if lists have different lengths, or if the table has more pages than its parts.
  *
- * to_ask finds those about which a host may be asked: each is free, and by itself there is room for its mappings, where windows have taken so many
- * of so many (`most`). answered takes which of them somebody else has; there is room for all together of which the answer is 1. Of whole parts it
- * notes whether somebody else has a page. Answers: enum pageshare_window_ask.
+ * to_ask finds those about which a host may be asked: each is free, and by itself there is room for its mappings. answered takes which of them
+ * somebody else has; there is room for all together of which the answer is 1. Of whole parts it notes whether somebody else has a page. Answers:
+ * enum pageshare_window_ask.
  * to_copy chooses those that are to be copied, which have these fingerprints by the last look. `there` is 1 for a page that is there. Answers: enum
  * pageshare_window_check. While that isn't 0, the page's order is open.
  * copied takes what came of the copies, enum pageshare_window_copied. The answer is 1 for a page of which a loan is to be asked for. That a page has
@@ -745,50 +725,30 @@ enum pageshare_window_loan {
  * PAGESHARE_WINDOW_ASK_CROWDED, by itself, where there is no room for zeros in the page's place.
  * released takes whether the host heard that their slots aren't needed.
  */
-bool pageshare_window_to_ask(struct pageshare_window_page *pages, size_t pages_count, struct pageshare_window_counts *parts,
-                             size_t parts_count, size_t lead, const struct pageshare_window_table_facts *table,
-                             const uint16_t *pins, size_t pins_count, const struct pageshare_window_look *look,
-                             const struct pageshare_window_part *wholes, size_t wholes_count, uint64_t most, uint64_t taken,
+bool pageshare_window_to_ask(struct pageshare_window_tables *tables, const struct pageshare_window_look *look,
                              const uint32_t *numbers, size_t numbers_count, uint8_t *answers, size_t answers_count);
-bool pageshare_window_answered(struct pageshare_window_page *pages, size_t pages_count, struct pageshare_window_counts *parts,
-                               size_t parts_count, size_t lead, const struct pageshare_window_part *wholes, size_t wholes_count,
-                               uint64_t most, uint64_t taken, const uint32_t *numbers, size_t numbers_count,
+bool pageshare_window_answered(struct pageshare_window_tables *tables, const uint32_t *numbers, size_t numbers_count,
                                const uint64_t *fingerprints, size_t fingerprints_count, const uint8_t *seen, size_t seen_count,
                                uint8_t *answers, size_t answers_count);
-bool pageshare_window_to_copy(struct pageshare_window_page *pages, size_t pages_count, struct pageshare_window_counts *parts,
-                              size_t parts_count, size_t lead, const struct pageshare_window_table_facts *table,
-                              const uint16_t *pins, size_t pins_count, const struct pageshare_window_part *wholes,
-                              size_t wholes_count, const uint32_t *numbers, size_t numbers_count, const uint8_t *there,
-                              size_t there_count, const uint64_t *fingerprints, size_t fingerprints_count, uint8_t *answers,
-                              size_t answers_count);
-bool pageshare_window_copied(struct pageshare_window_page *pages, size_t pages_count, struct pageshare_window_counts *parts,
-                             size_t parts_count, size_t lead, const struct pageshare_window_table_facts *table,
-                             const uint16_t *pins, size_t pins_count, const uint32_t *numbers, size_t numbers_count,
+bool pageshare_window_to_copy(struct pageshare_window_tables *tables, const uint32_t *numbers, size_t numbers_count,
+                              const uint8_t *there, size_t there_count, const uint64_t *fingerprints, size_t fingerprints_count,
+                              uint8_t *answers, size_t answers_count);
+bool pageshare_window_copied(struct pageshare_window_tables *tables, const uint32_t *numbers, size_t numbers_count,
                              const uint8_t *outcomes, size_t outcomes_count, uint8_t *answers, size_t answers_count);
-bool pageshare_window_loaned(struct pageshare_window_page *pages, size_t pages_count, struct pageshare_window_counts *parts,
-                             size_t parts_count, size_t lead, const uint32_t *numbers, size_t numbers_count,
+bool pageshare_window_loaned(struct pageshare_window_tables *tables, const uint32_t *numbers, size_t numbers_count,
                              const uint64_t *slots, size_t slots_count, const uint32_t *given, size_t given_count,
                              uint32_t frames, bool is_heard, uint8_t *answers, size_t answers_count);
-bool pageshare_window_to_hold(struct pageshare_window_page *pages, size_t pages_count, struct pageshare_window_counts *parts,
-                              size_t parts_count, size_t lead, const struct pageshare_window_table_facts *table,
-                              const uint16_t *pins, size_t pins_count, const struct pageshare_window_part *wholes,
-                              size_t wholes_count, const uint32_t *numbers, size_t numbers_count, uint8_t *answers,
-                              size_t answers_count);
-bool pageshare_window_to_give_back(struct pageshare_window_page *pages, size_t pages_count, struct pageshare_window_counts *parts,
-                                   size_t parts_count, size_t lead, const struct pageshare_window_table_facts *table,
-                                   const uint16_t *pins, size_t pins_count, const struct pageshare_window_part *wholes,
-                                   size_t wholes_count, uint64_t most, uint64_t taken, const uint32_t *numbers,
-                                   size_t numbers_count, uint8_t *answers, size_t answers_count);
-bool pageshare_window_released(struct pageshare_window_page *pages, size_t pages_count, struct pageshare_window_counts *parts,
-                               size_t parts_count, size_t lead, const size_t *numbers, size_t numbers_count, bool is_done);
+bool pageshare_window_to_hold(struct pageshare_window_tables *tables, const uint32_t *numbers, size_t numbers_count,
+                              uint8_t *answers, size_t answers_count);
+bool pageshare_window_to_give_back(struct pageshare_window_tables *tables, const uint32_t *numbers, size_t numbers_count,
+                                   uint8_t *answers, size_t answers_count);
+bool pageshare_window_released(struct pageshare_window_tables *tables, const size_t *numbers, size_t numbers_count, bool is_done);
 /*
  * Finds which of `count` pages from `first` on are to be released: their slots aren't needed, no order of them is open, and no transfer of them is
  * under way. Releasing them is their order from then on. Writes the numbers of as many as there is room for, and returns how many; none if the
  * pages aren't all there, or if the table has more pages than its parts.
  */
-size_t pageshare_window_to_release(struct pageshare_window_page *pages, size_t pages_count, struct pageshare_window_counts *parts,
-                                   size_t parts_count, size_t lead, const struct pageshare_window_table_facts *table,
-                                   const uint16_t *pins, size_t pins_count, size_t first, size_t count, size_t *places,
+size_t pageshare_window_to_release(struct pageshare_window_tables *tables, size_t first, size_t count, size_t *places,
                                    size_t places_count);
 
 /* ---- sessions ---- */

@@ -72,7 +72,8 @@ int window_say_huge(struct window *window, size_t first, size_t count, bool may)
 
 static void set_whole(struct window *window, size_t first, bool is_whole) {
     struct windows_counts *counts = &window->windows->counts;
-    pageshare_window_set_whole(window->pages, window->count, PARTS(window), window->lead, first, is_whole, &counts->mappings);
+    pageshare_window_set_whole(window->pages, window->count, window->parts, parts_in(window), window->lead, first, is_whole,
+                               &counts->mappings);
     note_huge(window, first, is_whole);
     counts->parts_whole += is_whole ? 1 : (size_t)-1;
     if (window->keeps_huge) counts->parts_split -= is_whole ? 1 : (size_t)-1;
@@ -141,7 +142,7 @@ static void note_one_memory(struct window *window, size_t first) {
     struct windows *windows = window->windows;
     bool were_over[PART];
     pageshare_window_find_over(window->pages, window->count, first, were_over, PART);
-    pageshare_window_one_memory(TABLES(window), PARTS(window), first, PART, &windows->counts.mappings);
+    pageshare_window_one_memory(TABLES(window), first, PART);
     note_cleared(window, first, PART, false);
     for (size_t i = 0; i < PART; i++) {
         if (!were_over[i]) continue;

@@ -160,9 +160,6 @@ static inline struct pageshare_window_counts *part_counts(const struct window *w
     return &window->counts[(page + window->lead) / PART];
 }
 static inline size_t parts_in(const struct window *window) { return (window->count + window->lead + PART - 1) / PART; }
-/* What the library gets of a window's tables. */
-#define TABLES(WINDOW) (WINDOW)->pages, (WINDOW)->count, (WINDOW)->counts, parts_in(WINDOW), (WINDOW)->lead
-#define PARTS(WINDOW) (WINDOW)->parts, parts_in(WINDOW)
 /* How many pages there are from `first` on to the end of its part. */
 static inline size_t rest_of_part(const struct window *window, size_t first) {
     size_t most = PART - (first + window->lead) % PART, left = window->count - first;
@@ -224,12 +221,9 @@ size_t mappings_of(const struct window *window, size_t first, size_t count);
 
 /* ---- what the library decides of pages. All with the lock ---- */
 
-/* What is so of a window and its process. It stays so while the lock is held. */
-struct pageshare_window_table_facts table_of(const struct window *window);
-/* How often each of a window's pages was pinned, and of how many that is known. */
-const uint16_t *pins_of(const struct window *window);
-size_t pins_in(const struct window *window);
-#define PINS(WINDOW) pins_of(WINDOW), pins_in(WINDOW)
+/* A window's tables and what is so of it and its process, as the library takes them. That stays so while the lock is held. */
+struct pageshare_window_tables tables_of(const struct window *window);
+#define TABLES(WINDOW) ((struct pageshare_window_tables[]){tables_of(WINDOW)})
 /* How many mappings windows may take, and have taken. */
 #define MAPPINGS(WINDOWS) (WINDOWS)->mappings_most, (WINDOWS)->counts.mappings
 /* Orders that pages that show their frames get memory of their own. `why`: what is so of them besides, from now on. */

@@ -22,10 +22,9 @@ struct slots {
 };
 
 static void collect_part(struct slots *slots, struct window *window, size_t first) {
-    const struct pageshare_window_table_facts table = table_of(window);
     const size_t before = slots->count;
-    slots->count += pageshare_window_to_release(TABLES(window), &table, PINS(window), first, rest_of_part(window, first),
-                                                slots->pages + before, WINDOW_BATCH - before);
+    slots->count += pageshare_window_to_release(TABLES(window), first, rest_of_part(window, first), slots->pages + before,
+                                                WINDOW_BATCH - before);
     for (size_t i = before; i < slots->count; i++) slots->windows[i] = window;
 }
 

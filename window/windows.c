@@ -192,9 +192,11 @@ static void detach_part(struct window *window, size_t first) {
     struct windows *windows = window->windows;
     const size_t count = rest_of_part(window, first);
     lock_for_look(windows);
+    struct pageshare_window_tables tables = tables_of(window);
+    size_t others = 0;
     /* (the mappings of a window that has ended aren't counted) */
-    size_t others = 0, *mappings = window->ended ? &others : &windows->counts.mappings;
-    pageshare_window_detach(TABLES(window), PARTS(window), first, count, mappings);
+    if (window->ended) tables.mappings = &others;
+    pageshare_window_detach(&tables, first, count);
     struct pageshare_window_part *part = part_of(window, first);
     *part = (struct pageshare_window_part){.whole = part->whole, .is_huge = part->is_huge};
     unlock_set(windows);

@@ -4,6 +4,7 @@
     make ranges range[3]                  an array of three structs, of which all is zeros
     make why facts 0 0 0 0 0 1 0          a struct with these members
     make pins uint16_t[4] 0 1 7 0         numbers
+    tables window pages pins/2 lead=510   the tables of a window: what was made under these names, whole or so much of it, and numbers
     == the name of a case                 what was made before the first case is made anew for each one
     add_range ranges 3 count 30 40 1 = true
     9 * look_ended times finds true       the same row so many times
@@ -56,6 +57,16 @@ class Rows:
         self.library, self.tally, self.name = library, tally, name
         self.made: dict[str, Any] = {}
 
+    def tables(self, words: Sequence[str]) -> Any:
+        """The tables of a window, of what these words are by now: `pages`, `counts=parts`, `pins/2` or `lead=510`."""
+        members = {}
+        for word in words:
+            name, _, of = word.partition("=")
+            of, _, count = (of or name).partition("/")
+            name = name.partition("/")[0]
+            members[name] = (self.value(of), int(count, 0)) if count else self.value(of)
+        return self.library.tables(**members)
+
     def value(self, word: str) -> Any:
         """What a word is."""
         if word in ("true", "false"):
@@ -66,6 +77,7 @@ class Rows:
             return int(word, 0)
         name, place, member = PLACE.fullmatch(word).groups()  # type: ignore[union-attr]
         found = self.made[name]
+        found = self.tables(found) if isinstance(found, list) else found
         found = found if place is None else found[int(place)]
         return found if member is None else getattr(found, member)
 
@@ -104,6 +116,8 @@ class Rows:
         due = words[words.index("=") + 1 :] if "=" in words else None
         if name == "make":
             self.make(*words)
+        elif name == "tables":
+            self.made[words[0]] = words[1:]
         elif name == "set":
             self.set(*words)
         elif name == "is":

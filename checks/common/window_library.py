@@ -1,8 +1,8 @@
 """The proved libraries for windows and for hosts, called from Python as their headers declare them.
 
     library = built()
-    page, part = library.make("page"), library.make("counts")
-    library.call("leave", page, 1, part, 1, 0, 0, 1)
+    page, counts = library.make("page"), library.make("counts")
+    library.call("leave", library.tables(pages=page, counts=counts), 0, 1)
     page.belief == library.constants["OUT"]
 
 Names are those of the header, without what they all begin with. Structs and functions are read off the header, so a new one needs no line
@@ -28,7 +28,7 @@ TYPES: dict[str, Any] = {
     "uint64_t": ctypes.c_uint64, "size_t": ctypes.c_size_t, "void": None,
 }
 COMMENT = re.compile(r"/\*.*?\*/", re.S)
-MEMBER = re.compile(r"^\s*(struct )?(\w+) (\*?)([\w, ]+)(?:\[(\w+)\])?;", re.M)
+MEMBER = re.compile(r"^\s*(?:const )?(struct )?(\w+) (\*?)([\w, ]+)(?:\[(\w+)\])?;", re.M)
 PARAMETER = re.compile(r"(?:const )?(struct )?(\w+) (\*?)(\w+)")
 # A parameter that is an array, or a pointer to arrays: its address is passed.
 ARRAY = re.compile(r"(?:\(\*(\w+)\)|(\w+))\[\w+\]")
@@ -96,6 +96,22 @@ class Library:
         given = list(values)
         of = TYPES[kind] if kind in TYPES else self.structs[kind]
         return (of * max(1, len(given)))(*given)
+
+
+    def tables(self, lead: int = 0, most: int = 0, facts: Any = None, mappings: Any = 0, **arrays: Any) -> Any:
+        """The tables of a window. `pages`, `counts`, `parts` and `pins` are each an array, a struct in place of one, or such with a number of
+        members; what isn't given has none. `mappings` is a counter or a number."""
+        made = self.structs["tables"](lead=lead, most=most, facts=facts if facts is not None else self.make("table_facts"))
+        made.kept = [mappings if isinstance(mappings, ctypes.c_size_t) else ctypes.c_size_t(mappings)]
+        made.mappings = ctypes.addressof(made.kept[0])
+        for name in ("pages", "counts", "parts", "pins"):
+            given = arrays.pop(name, (ctypes.c_uint64(), 0))
+            array, count = given if isinstance(given, tuple) else (given, len(given) if isinstance(given, ctypes.Array) else 1)
+            made.kept.append(array)
+            setattr(made, name, ctypes.addressof(array))
+            setattr(made, f"{name}_count", count)
+        assert not arrays, arrays
+        return made
 
 
 def values_of(value: Any) -> Any:

@@ -3,7 +3,7 @@ from __future__ import annotations
 
 import dataclasses
 import random
-from typing import Optional
+from typing import Any, Optional
 
 from common.compared import Compared
 from common.plain_page import (
@@ -88,10 +88,14 @@ class Row:
         known = [Page(), *[it.page for it in self.held], Page()]
         self.parts = library.array("counts", [sums(known[:2]), sums(known[2:])])
         takings = [chance.choice([NOT_TAKEN, WATCHED, TAKEN, TAKEN_ASIDE, TAKEN_ASIDE]) for _ in range(ROW)]
-        words = (self.pages, PAGES, self.parts, 2, LEAD, FIRST, self.row, ROW)
-        seen.holds("begin_row", library.call("begin_row", *words, library.array("uint8_t", takings), ROW))
+        words = (FIRST, self.row, ROW, library.array("uint8_t", takings), ROW)
+        seen.holds("begin_row", library.call("begin_row", self.tables(), *words))
         for one, taking in zip(self.held, takings):
             one.begin(taking)
+
+    def tables(self, **more: Any) -> Any:
+        """Its table for the library, with these besides."""
+        return self.library.tables(pages=self.pages, counts=self.parts, lead=LEAD, **more)
 
     def some_page(self, place: int) -> Held:
         """A page that is ordered to be held: with a loan, or that may be zeros; or another one."""
@@ -122,16 +126,14 @@ class Row:
         """Asks for the next order, and carries it out with some of its pages. Returns whether there was one."""
         facts = LOCKED_FACTS if self.chance.random() < 0.1 else NONE
         table, order = self.library.make("table_facts", locked=facts.locked), self.library.make("row_order")
-        none = (self.library.array("uint16_t", []), 0)
-        words = (self.pages, PAGES, self.parts, 2, LEAD)
-        self.library.call("next_of_row", *words, table, *none, FIRST, self.row, ROW, order)
+        self.library.call("next_of_row", self.tables(facts=table), FIRST, self.row, ROW, order)
         first, count, step = due = self.next(facts)
         self.seen.equal("next_of_row", values_of(order), due)
         done = 0
         while done < count and self.held[first + done].can(step) and (goes_well or self.chance.random() < 0.7):
             done += 1
         refused = int(done < count)
-        self.seen.holds("row_done", self.library.call("row_done", *words, FIRST, self.row, ROW, order, done, refused))
+        self.seen.holds("row_done", self.library.call("row_done", self.tables(), FIRST, self.row, ROW, order, done, refused))
         for behind, one in enumerate(self.held[first : first + done + refused]):
             one.done(behind < done)
         self.write()

@@ -48,7 +48,7 @@ class Table:
         self.parts = library.array("counts", [sums(self.known[:3]), sums(self.known[3:])])
         self.pins = [chance.choice([0, 0, 0, 1]) for _ in range(chance.choice([0, PAGES]))]
         self.barred = chance.random() < 0.1
-        self.facts = [library.make("table_facts", locked=self.barred), library.array("uint16_t", self.pins), len(self.pins)]
+        self.facts = library.make("table_facts", locked=self.barred)
         self.mappings = Mappings(self.known, [chance.random() < 0.2 for _ in range(2)], LEAD)
         self.found: collections.Counter[str] = collections.Counter()
 
@@ -59,17 +59,19 @@ class Table:
         """Some pages, maybe one twice, and maybe one that isn't there."""
         return [self.chance.randrange(PAGES + 1) for _ in range(self.chance.randrange(6))]
 
-    def call(self, name: str, *words: Any) -> Any:
-        return self.library.call(name, self.pages, PAGES, self.parts, 2, LEAD, *words)
+    def call(self, name: str, *words: Any, most: int = 0, taken: int = 0) -> Any:
+        pins = (self.library.array("uint16_t", self.pins), len(self.pins))
+        tables = self.library.tables(pages=self.pages, counts=self.parts, parts=self.wholes(), pins=pins, lead=LEAD, facts=self.facts, most=most, mappings=taken)
+        return self.library.call(name, tables, *words)
 
-    def call_list(self, name: str, before: list[Any], numbers: list[int], lists: list[tuple[str, list[int]]], more: list[Any], due: list[int]) -> None:
+    def call_list(self, name: str, before: list[Any], numbers: list[int], lists: list[tuple[str, list[int]]], more: list[Any], due: list[int], **room: int) -> None:
         """A call for a list of pages. Lists that are too short are refused, and nothing changes then."""
         words: list[Any] = [self.library.array("uint32_t", numbers), len(numbers)]
         for kind, values in lists:
             words += [self.library.array(kind, values), len(values)]
         answers = self.library.array("uint8_t", [9] * len(numbers))
-        self.seen.holds(f"{name}, too short", not self.call(name, *before, *words, *more, answers, len(numbers) + 1))
-        self.seen.holds(name, self.call(name, *before, *words, *more, answers, len(numbers)))
+        self.seen.holds(f"{name}, too short", not self.call(name, *before, *words, *more, answers, len(numbers) + 1, **room))
+        self.seen.holds(name, self.call(name, *before, *words, *more, answers, len(numbers), **room))
         self.seen.equal(f"answers of {name}", list(answers)[: len(numbers)], due)
         self.found.update(f"{name} {it}" for it in due)
 
@@ -92,7 +94,7 @@ class Table:
         numbers, look, most = self.numbers(), self.chance.randrange(64), self.chance.choice([7, 8, 9])
         due = [self.ask(it, look, most - 7) for it in numbers]
         config = self.library.structs["look"](0, 0, look, Part().turns, Part().rest_most, False)
-        self.call_list("to_ask", [*self.facts, config, self.wholes(), 2, most, 7], numbers, [], [], due)
+        self.call_list("to_ask", [config], numbers, [], [], due, most=most, taken=7)
 
     def answer(self, number: int, fingerprint: int, is_other: int, room: list[int]) -> int:
         """What a host's answer means. A page that may be lent takes room."""
@@ -114,9 +116,9 @@ class Table:
         numbers, room = self.numbers(), [self.chance.randrange(4)]
         prints = [self.kept(it) if self.chance.random() < 0.7 else 5 for it in numbers]
         seen = [self.chance.choice([0, 1, 7]) for _ in numbers]
-        before = [self.wholes(), 2, room[0] + 9, 9]
+        most = room[0] + 9
         due = [self.answer(*it, room) for it in zip(numbers, prints, seen)]
-        self.call_list("answered", before, numbers, [("uint64_t", prints), ("uint8_t", seen)], [], due)
+        self.call_list("answered", [], numbers, [("uint64_t", prints), ("uint8_t", seen)], [], due, most=most, taken=9)
 
     # ---- copies ----
 
@@ -140,8 +142,7 @@ class Table:
         there = [self.chance.choice([0, 1, 1, 1]) for _ in numbers]
         prints = [self.kept(it) if self.chance.random() < 0.7 else 5 for it in numbers]
         due = [self.check_of(*it) for it in zip(numbers, there, prints)]
-        before = [*self.facts, self.wholes(), 2]
-        self.call_list("to_copy", before, numbers, [("uint8_t", there), ("uint64_t", prints)], [], due)
+        self.call_list("to_copy", [], numbers, [("uint8_t", there), ("uint64_t", prints)], [], due)
 
     def came(self, number: int, outcome: int) -> int:
         """What came of a copy: 1 if a loan is to be asked for."""
@@ -157,7 +158,7 @@ class Table:
         numbers = self.numbers()
         outcomes = [self.chance.choice([0, 1, 1, 1, 2, 3, 4]) for _ in numbers]
         due = [self.came(*it) for it in zip(numbers, outcomes)]
-        self.call_list("copied", self.facts, numbers, [("uint8_t", outcomes)], [], due)
+        self.call_list("copied", [], numbers, [("uint8_t", outcomes)], [], due)
 
     # ---- loans ----
 
@@ -196,7 +197,7 @@ class Table:
     def to_hold(self) -> None:
         numbers = self.numbers()
         due = [self.hold(it) for it in numbers]
-        self.call_list("to_hold", [*self.facts, self.wholes(), 2], numbers, [], [], due)
+        self.call_list("to_hold", [], numbers, [], [], due)
 
     def give_back(self, number: int, most: int, taken: int) -> int:
         """Whether a page is held to be given back as zeros."""
@@ -211,7 +212,7 @@ class Table:
     def to_give_back(self) -> None:
         numbers, most, taken = self.numbers(), self.chance.choice([6, 7, 8, 9]), 7
         due = [self.give_back(it, most, taken) for it in numbers]
-        self.call_list("to_give_back", [*self.facts, self.wholes(), 2, most, taken], numbers, [], [], due)
+        self.call_list("to_give_back", [], numbers, [], [], due, most=most, taken=taken)
 
     # ---- slots that are released ----
 
@@ -233,9 +234,9 @@ class Table:
             if len(due) < room and self.is_to_release(number):
                 due.append(number)
         places = self.library.array("size_t", [0] * room)
-        beyond = self.call("to_release", *self.facts, first, PAGES - first + 1, places, room)
+        beyond = self.call("to_release", first, PAGES - first + 1, places, room)
         self.seen.equal("to_release beyond the table", beyond, 0)
-        found = self.call("to_release", *self.facts, first, count, places, room)
+        found = self.call("to_release", first, count, places, room)
         self.seen.equal("to_release", list(places)[:found], due)
         self.found["found"] += len(due)
         if self.chance.random() < 0.7:

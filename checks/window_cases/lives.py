@@ -66,8 +66,8 @@ class Life:
         self.rows: list[Row] = []
         self.windows = Windows([1] * (PAGES + 1), [0, 1, 1])
         self.part, self.config = library.make("part", whole=True), library.make("part_config", huge_from=16, alone_part=4, alone=2, pause=3)
-        self.mappings = library.make("size_t")
-        self.mappings.value = library.call("mappings_at", self.pages, PAGES, self.part, 1, 0, 0, PAGES)
+        self.mappings, self.most = library.make("size_t"), 0
+        self.mappings.value = self.call("mappings_at", 0, PAGES)
         self.tally: collections.Counter[str] = collections.Counter()
 
     def belief(self, place: int) -> int:
@@ -89,22 +89,22 @@ class Life:
 
     # ---- calls ----
 
-    def facts(self) -> tuple[Any, Any, int]:
-        return self.table, self.pins, PAGES
-
     def given_facts(self, facts: Facts) -> Any:
         return self.library.make("facts", **{name: getattr(facts, name) for name in FACTS})
 
     def call(self, name: str, *words: Any) -> Any:
-        return self.library.call(name, self.pages, PAGES, self.counts, 1, 0, *words)
+        tables = self.library.tables(
+            pages=self.pages, counts=self.counts, parts=self.part, pins=self.pins, mappings=self.mappings, most=self.most, facts=self.table,
+        )
+        return self.library.call(name, tables, *words)
 
-    def call_list(self, name: str, before: list[Any], places: list[int], lists: list[tuple[str, list[int]]], *more: Any) -> list[int]:
+    def call_list(self, name: str, places: list[int], lists: list[tuple[str, list[int]]], *more: Any) -> list[int]:
         """A call for a list of pages. Returns its answers."""
         made, words = self.library.array, list[Any]()
         for kind, values in [("uint32_t", places), *lists]:
             words += [made(kind, values), len(values)]
         answers = made("uint8_t", [0] * len(places))
-        self.seen.holds(name, self.call(name, *before, *words, *more, answers, len(places)))
+        self.seen.holds(name, self.call(name, *words, *more, answers, len(places)))
         return list(answers)[: len(places)]
 
     def note(self, name: str, place: int, *words: Any, count: int = 1) -> None:
@@ -113,8 +113,8 @@ class Life:
 
     def put(self, name: str, place: int, *words: Any, count: int = 1) -> None:
         """The same where other memory comes to their places. Then as many mappings are taken as there are."""
-        self.seen.holds(name, self.call(name, self.part, 1, place, count, *words, self.mappings))
-        taken = self.library.call("mappings_at", self.pages, PAGES, self.part, 1, 0, 0, PAGES)
+        self.seen.holds(name, self.call(name, place, count, *words))
+        taken = self.call("mappings_at", 0, PAGES)
         self.seen.equal(f"mappings after {name}", self.mappings.value, taken)
 
     def must(self, word: str, place: int, *more: int) -> None:
@@ -128,10 +128,10 @@ class Life:
         """Pages are copied to the lender's buffer; some are others than those that were found."""
         places = self.some()
         there, prints = [int(self.chance.random() < 0.9) for _ in places], [0 for _ in places]
-        checks = self.call_list("to_copy", [*self.facts(), self.part, 1], places, [("uint8_t", there), ("uint64_t", prints)])
+        checks = self.call_list("to_copy", places, [("uint8_t", there), ("uint64_t", prints)])
         self.others()
         outcomes = [self.chance.choice([1, 1, 1, 1, 2, 3]) if check else 0 for check in checks]
-        answers = self.call_list("copied", [*self.facts()], places, [("uint8_t", outcomes)])
+        answers = self.call_list("copied", places, [("uint8_t", outcomes)])
         self.seen.equal("loans that are to be asked for", answers, [int(it == 1) for it in outcomes])
 
     def lend(self) -> None:
@@ -149,14 +149,14 @@ class Life:
                 self.given[place] = None
         loans = [self.given[place] or (0, NO_FRAME) for place in places]
         lists = [("uint64_t", [slot for slot, _ in loans]), ("uint32_t", [frame for _, frame in loans])]
-        answers = self.call_list("loaned", [], places, lists, FRAMES, is_heard)
+        answers = self.call_list("loaned", places, lists, FRAMES, is_heard)
         self.seen.equal("the loans", answers, [(9 if self.given[place] else 2) if is_heard else 0 for place in places])
 
     def release(self) -> None:
         """Slots are released, or the host has them still. If the reply is lost the orders stay open until one comes."""
         room, ready = self.chance.randrange(1, PAGES + 1), self.ready()
         numbers, is_gone = self.library.array("size_t", [0] * room), self.chance.random() < 0.5
-        found = self.call("to_release", *self.facts(), 0, PAGES, numbers, room)
+        found = self.call("to_release", 0, PAGES, numbers, room)
         self.refused(ready)
         for place in numbers[:found]:
             self.seen.equal("the slot", self.given[place] and self.given[place][0], self.pages[place].slot)
@@ -180,7 +180,7 @@ class Life:
     def show(self) -> None:
         """Pages that have their loans are held, to show their frames."""
         places, ready = self.some(), self.ready()
-        answers = self.call_list("to_hold", [*self.facts(), self.part, 1], places, [])
+        answers = self.call_list("to_hold", places, [])
         for place, answer in zip(places, answers):
             self.seen.holds("a loan is held or isn't needed", place not in ready or answer == 1 or self.belief(place) == LEAVING)
         self.refused(ready)
@@ -188,8 +188,8 @@ class Life:
 
     def give_back(self) -> None:
         """Pages are held, to be given back as zeros. For some of them there is no room, maybe."""
-        places, most = self.some(), self.mappings.value + self.chance.choice([0, 9])
-        answers = self.call_list("to_give_back", [*self.facts(), self.part, 1, most, self.mappings.value], places, [])
+        places, self.most = self.some(), self.mappings.value + self.chance.choice([0, 9])
+        answers = self.call_list("to_give_back", places, [])
         self.tally["crowded"] += answers.count(4)
         self.hold(places, answers)
 
@@ -201,7 +201,7 @@ class Life:
         kept = [place for place in ordered if self.chance.random() < (0.9 if self.seems_equal(place) else 0.75)]
         for place in ordered:
             self.seen.holds("what is to be held may be lent", not self.part.whole and not self.is_barred(place))
-        self.call_list("copied", [*self.facts()], places, [("uint8_t", [2 if it in ordered and it not in kept else 0 for it in places])])
+        self.call_list("copied", places, [("uint8_t", [2 if it in ordered and it not in kept else 0 for it in places])])
         self.tally["refused at once"] += len(ordered) - len(kept)
         while kept:
             count = next((n for n in range(len(kept)) if kept[n] != kept[0] + n), len(kept))
@@ -259,7 +259,7 @@ class Life:
     def go_on_with(self, row: Row) -> None:
         """Carries out the next order of a row with some of its pages. Once it is over each page that is stuck is in a row of its own."""
         order, chance = self.library.make("row_order"), self.chance
-        self.call("next_of_row", *self.facts(), row.first, row.bytes, row.count, order)
+        self.call("next_of_row", row.first, row.bytes, row.count, order)
         if order.step == OVER:
             self.rows.remove(row)
             for behind, byte in enumerate(row.bytes[: row.count]):
@@ -286,14 +286,14 @@ class Life:
 
     def order_home(self, place: int) -> None:
         """Pages from one on are to get memory of their own, if something says so."""
-        self.seen.holds("order_home", self.call("order_home", *self.facts(), self.given_facts(self.why), place, PAGES - place))
+        self.seen.holds("order_home", self.call("order_home", self.given_facts(self.why), place, PAGES - place))
 
     def come_home(self) -> None:
         """Pages that are to get memory of their own get it, or don't. What has to stay where it is gets it there."""
         copies = [self.is_over(place) and not self.window(place).is_bare() for place in range(PAGES)]
         stays = self.library.array("bool", copies)
         why = self.given_facts(self.why)
-        self.seen.holds("find_staying", self.library.call("find_staying", self.pages, PAGES, *self.facts(), why, 0, stays, PAGES))
+        self.seen.holds("find_staying", self.call("find_staying", why, 0, stays, PAGES))
         for place in range(PAGES):
             self.seen.holds("a copy that a device may hold stays", stays[place] or not copies[place] or not self.pins[place])
             if self.belief(place) not in HOMES:
@@ -328,7 +328,7 @@ class Life:
         """Where the call may go on by a page no write to that waits, and if it must not show a frame it shows none."""
         why = self.given_facts(self.why)
         for place in range(PAGES):
-            if not self.library.call("may_go_on", self.pages, PAGES, *self.facts(), why, place, 1):
+            if not self.call("may_go_on", why, place, 1):
                 continue
             page, must_own = self.window(place), self.is_barred(place) or self.why.leaves or self.why.pinned
             self.seen.holds("no write waits", not page.guarded)
@@ -361,8 +361,8 @@ class Life:
 
     def look(self) -> None:
         """A look at the part. Where it is to change no write to a page waits; where it is made whole its pages get memory of their own."""
-        is_loose = self.library.call("may_give_up", self.pages, PAGES, 0, PAGES)
-        is_movable = self.library.call("are_movable", self.pages, PAGES, *self.facts(), 0, PAGES)
+        is_loose = self.call("may_give_up", 0, PAGES)
+        is_movable = self.call("are_movable", 0, PAGES)
         odds = (0.5, 1, 1, 0.75, 0.25)
         bits = [self.chance.random() < it for it in odds]
         look = self.library.structs["part_look"](508 + self.chance.randrange(5), self.chance.randrange(32), *bits, is_loose, is_movable)

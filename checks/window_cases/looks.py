@@ -49,12 +49,12 @@ class Looked:
         of_look = (part.zeros, ready, look, part.turns, part.rest_most, False)
         return self.library.structs["look"](*of_look), self.library.structs["part"](*of_part)
 
-    def scan(self, name: str, look: int, number: int, ready: int, words: tuple[Any, ...], step: int) -> int:
+    def scan(self, name: str, look: int, number: int, ready: int, words: tuple[Any, ...], step: int, facts: Any = None) -> int:
         """A call of a scan of this page alone, which lies at its number in a table. Returns its byte."""
         library, number_of_part, row = self.library, (number + LEAD) // 512, self.library.array("uint8_t", [step])
         pages, parts = table_of(library)
         pages[number], parts[number_of_part] = self.page, self.counts
-        library.call(name, pages, TABLE, parts, 2, LEAD, *self.structs(look, ready), *words, row, 1)
+        library.call(name, library.tables(pages=pages, counts=parts, lead=LEAD, facts=facts), *self.structs(look, ready), *words, row, 1)
         self.page, self.counts = type(self.page).from_buffer_copy(pages[number]), type(self.counts).from_buffer_copy(parts[number_of_part])
         return int(row[0])
 
@@ -62,8 +62,8 @@ class Looked:
         """What is done first; `taken` is whether the scan takes the page."""
         library = self.library
         table = library.make("table_facts", may_pin=facts.may_pin, locked=facts.locked)
-        words = (table, library.array("uint16_t", []), 0, number, library.array("uint8_t", [memory]), 1)
-        byte = self.scan("begin_scan", look, number, number + 1 if is_ready else number, words, 0)
+        words = (number, library.array("uint8_t", [memory]), 1)
+        byte = self.scan("begin_scan", look, number, number + 1 if is_ready else number, words, 0, table)
         self.taken = bool(byte & TAKEN)
         return byte & 7
 
@@ -71,27 +71,23 @@ class Looked:
         given = self.library.array("find_outcome", [outcome])
         return self.scan("scan_done", look, number, 0, (number, given, 1), step) & 7
 
-    def facts(self) -> tuple[Any, Any, int]:
-        """Nothing is so that keeps it from being lent."""
-        return self.library.make("table_facts"), self.library.array("uint16_t", []), 0
-
     def asked(self) -> None:
         """It was asked about in vain."""
         made = self.library.array
         lists = (made("uint32_t", [0]), 1, made("uint64_t", [0]), 1, made("uint8_t", [0]), 1, made("uint8_t", [0]), 1)
-        self.library.call("answered", self.page, 1, self.counts, 1, 0, made("part", [()]), 1, 0, 0, *lists)
+        self.library.call("answered", self.library.tables(pages=self.page, counts=self.counts, parts=made("part", [()])), *lists)
 
     def changed(self) -> None:
         """It isn't what was found: that counts no more."""
         made = self.library.array
         lists = (made("uint32_t", [0]), 1, made("uint8_t", [2]), 1, made("uint8_t", [0]), 1)
-        self.library.call("copied", self.page, 1, self.counts, 1, 0, *self.facts(), *lists)
+        self.library.call("copied", self.library.tables(pages=self.page, counts=self.counts), *lists)
 
     def ask(self, pages: Any, number: int, look: int, most: int) -> int:
         """The answer to whether a page of a table may be asked about, where windows may take so many mappings."""
         made, answer, (config, part) = self.library.array, self.library.array("uint8_t", [0]), self.structs(look)
-        words = (*self.facts(), config, part, 1, most, 0, made("uint32_t", [number]), 1, answer, 1)
-        self.library.call("to_ask", pages, len(pages), self.counts, 1, 0, *words)
+        tables = self.library.tables(pages=pages, counts=self.counts, parts=part, most=most)
+        self.library.call("to_ask", tables, config, made("uint32_t", [number]), 1, answer, 1)
         return int(answer[0])
 
     def is_in_passing(self, look: int, number: int) -> bool:
@@ -110,7 +106,7 @@ class Looked:
         library, pages = self.library, table_of(self.library)[0]
         numbers = library.array("uint64_t", [0])
         pages[number] = self.page
-        library.call("glance_numbers", pages, TABLE, number, library.array("uint16_t", [0]), 1, numbers, 1)
+        library.call("glance_numbers", library.tables(pages=pages), number, library.array("uint16_t", [0]), 1, numbers, 1)
         return int(numbers[0])
 
 
@@ -185,13 +181,13 @@ class Scanned:
         self.look = look
 
     def call(self, name: str, *words: Any) -> bool:
-        tables = (self.pages, len(self.pages), self.parts, 2, self.lead, self.look, self.part)
-        return bool(self.library.call(name, *tables, *words, self.row, len(self.scan.pages)))
+        tables = self.library.tables(pages=self.pages, counts=self.parts, pins=self.pins, lead=self.lead, facts=self.facts)
+        return bool(self.library.call(name, tables, self.look, self.part, *words, self.row, len(self.scan.pages)))
 
     def taking(self, name: str, wrong: int = 0) -> bool:
         """A call that takes pages. `wrong`: so many kinds of memory more than pages."""
         memory = self.library.array("uint8_t", self.scan.memory)
-        return self.call(name, self.facts, *self.pins, self.scan.first, memory, len(self.scan.memory) + wrong)
+        return self.call(name, self.scan.first, memory, len(self.scan.memory) + wrong)
 
     def agrees(self, name: str, row: list[int]) -> None:
         self.seen.equal(f"the bytes after {name}", list(values_of(self.row))[: len(row)], row)

@@ -48,26 +48,30 @@ class Table:
         """A call for one page, which takes its part's counts."""
         return self.library.call(name, self.pages[at], self.parts[self.part_of(at)], *words)
 
-    def call_list(self, name: str, before: list[Any], lists: list[tuple[str, int]]) -> int:
+    def call_list(self, name: str, tables: Any, lists: list[tuple[str, int]]) -> int:
         """A call for a list of one page, of which each list has an entry. Returns the answer."""
         made, answer = self.library.array, self.library.array("uint8_t", [9])
         words = [word for kind, entry in lists for word in (made(kind, [entry]), 1)]
-        self.seen.holds(name, self.library.call(name, self.pages, PAGES, self.parts, 2, LEAD, *before, *words, answer, 1))
+        self.seen.holds(name, self.library.call(name, tables, *words, answer, 1))
         return int(answer[0])
+
+    def tables(self, **more: Any) -> Any:
+        """Its table for the library, with these besides."""
+        return self.library.tables(pages=self.pages, counts=self.parts, lead=LEAD, **more)
 
     def call_many(self, name: str, first: int, count: int, *words: Any) -> None:
         """A call for pages in a row."""
-        self.seen.holds(name, self.library.call(name, self.pages, PAGES, self.parts, 2, LEAD, first, count, *words))
+        self.seen.holds(name, self.library.call(name, self.tables(), first, count, *words))
 
     def call_kept(self, name: str, first: int, count: int, *words: Any) -> None:
         """A call for pages in a row, by which a number of mappings changes as that of all of them does."""
         parts, _ = self.some_parts()
         others = self.chance.randrange(3)
-        before = self.library.call("mappings_at", self.pages, PAGES, parts, 2, LEAD, 0, PAGES)
         mappings = self.library.make("size_t")
-        mappings.value = others + before
-        called = self.library.call(name, self.pages, PAGES, self.parts, 2, LEAD, parts, 2, first, count, *words, mappings)
-        after = self.library.call("mappings_at", self.pages, PAGES, parts, 2, LEAD, 0, PAGES)
+        tables = self.tables(parts=parts, mappings=mappings)
+        mappings.value = others + self.library.call("mappings_at", tables, 0, PAGES)
+        called = self.library.call(name, tables, first, count, *words)
+        after = self.library.call("mappings_at", tables, 0, PAGES)
         self.seen.equal(name, (called, mappings.value), (True, others + after))
 
     # ---- calls for one page ----
@@ -91,7 +95,7 @@ class Table:
     def changed(self, at: int) -> None:
         """It isn't what was found of it: its order is refused, and that counts no more."""
         given, _ = self.some_table()
-        self.seen.equal("copied", self.call_list("copied", given, [("uint32_t", at), ("uint8_t", 2)]), 0)
+        self.seen.equal("copied", self.call_list("copied", self.tables(**given), [("uint32_t", at), ("uint8_t", 2)]), 0)
         self.known[at].take(REFUSED)
         self.known[at].forget()
 
@@ -102,7 +106,7 @@ class Table:
         mappings = Mappings(self.known, whole, LEAD)
         can = known.is_free(facts) and not known.ordered and not mappings.is_whole(at)
         can_hold = can and has_room(most, taken, mappings.zeros_more(at, 1))
-        found = self.call_list("to_give_back", [*given, parts, 2, most, taken], [("uint32_t", at)])
+        found = self.call_list("to_give_back", self.tables(parts=parts, most=most, mappings=taken, **given), [("uint32_t", at)])
         self.seen.equal("to_give_back", found, 1 if can_hold else 4 if can else 0)
         if can_hold:
             known.choose(facts, True)
@@ -160,7 +164,7 @@ class Table:
         for page in self.known[first : first + count]:
             getattr(page, which)()
 
-    def some_table(self) -> tuple[list[Any], Callable[[int, Facts], Facts]]:
+    def some_table(self) -> tuple[dict[str, Any], Callable[[int, Facts], Facts]]:
         """What is so of the window and its pins, for the library; and what is so of a page by that."""
         chance, library = self.chance, self.library
         pins = [chance.choice([0, 0, 0, 1]) for _ in range(chance.choice([0, 0, PAGES]))]
@@ -173,7 +177,7 @@ class Table:
             return Facts(why.called, pinned, why.may_pin or bits[0] or table.elsewhere > 0, why.inherited or bits[1], why.locked or bits[2],
                          why.leaves, why.ended or bits[3] or bits[4])
 
-        return [table, library.array("uint16_t", pins), len(pins)], facts_of
+        return {"facts": table, "pins": (library.array("uint16_t", pins), len(pins))}, facts_of
 
     def home(self, first: int, count: int) -> None:
         """Pages get memory of their own, or are to."""
@@ -181,8 +185,7 @@ class Table:
         if which == 0:
             given, facts_of = self.some_table()
             why = some_facts(self.chance)
-            words = (self.pages, PAGES, self.parts, 2, LEAD, *given, self.facts(why), first, count)
-            self.seen.holds("order_home", self.library.call("order_home", *words))
+            self.seen.holds("order_home", self.library.call("order_home", self.tables(**given), self.facts(why), first, count))
             for place, page in enumerate(known):
                 page.order_home(facts_of(first + place, why))
         else:
@@ -197,25 +200,25 @@ class Table:
         why, is_there = some_facts(self.chance), first + count <= PAGES
         were = [self.chance.random() < 0.5 for _ in range(count)]
         found = self.library.array("bool", were)
-        said = self.library.call("find_staying", self.pages, PAGES, *given, self.facts(why), first, found, count)
+        said = self.library.call("find_staying", self.tables(**given), self.facts(why), first, found, count)
         due = [self.known[first + at].stays(facts_of(first + at, why), was) for at, was in enumerate(were)] if is_there else were
         self.seen.equal("find_staying", (said, values_of(found)[:count]), (is_there, tuple(due)))
         found = self.library.array("bool", were)
-        said = self.library.call("find_coming", self.pages, PAGES, first, found, count)
+        said = self.library.call("find_coming", self.tables(), first, found, count)
         due = [self.known[first + at].comes_home() for at in range(count)] if is_there else were
         self.seen.equal("find_coming", (said, values_of(found)[:count]), (is_there, tuple(due)))
 
     def ask(self, first: int, count: int) -> None:
         """What changes nothing, of pages in a row."""
         library, (given, facts_of) = self.library, self.some_table()
-        why = some_facts(self.chance)
+        why, tables = some_facts(self.chance), self.tables(**given)
         all_of, is_there = range(first, min(first + count, PAGES)), first + count <= PAGES
         due = is_there and all(self.known[it].may_go_on(facts_of(it, why)) for it in all_of)
-        self.seen.equal("may_go_on", library.call("may_go_on", self.pages, PAGES, *given, self.facts(why), first, count), due)
+        self.seen.equal("may_go_on", library.call("may_go_on", tables, self.facts(why), first, count), due)
         due = is_there and all(self.known[it].is_movable(facts_of(it, Facts())) for it in all_of)
-        self.seen.equal("are_movable", library.call("are_movable", self.pages, PAGES, *given, first, count), due)
+        self.seen.equal("are_movable", library.call("are_movable", tables, first, count), due)
         due = is_there and all(self.known[it].may_go_on(Facts()) for it in all_of)
-        self.seen.equal("may_give_up", library.call("may_give_up", self.pages, PAGES, first, count), due)
+        self.seen.equal("may_give_up", library.call("may_give_up", tables, first, count), due)
 
     def ask_runs(self) -> None:
         """How far what is so of the first page goes on."""
@@ -235,25 +238,25 @@ class Table:
     def mappings(self, first: int, count: int) -> None:
         """How many mappings the pages take, where some parts are whole."""
         parts, whole = self.some_parts()
-        words = (self.pages, PAGES, parts, 2, LEAD, first, count)
-        self.seen.equal("mappings_at", self.library.call("mappings_at", *words), Mappings(self.known, whole, LEAD).begun(first, count))
+        found = self.library.call("mappings_at", self.tables(parts=parts), first, count)
+        self.seen.equal("mappings_at", found, Mappings(self.known, whole, LEAD).begun(first, count))
 
     def zeros(self, first: int, count: int) -> None:
         """Whether there is room for zeros in place of pages, and how they are given up. Then zeros are put there, if the pages are there."""
         chance, (parts, whole) = self.chance, self.some_parts()
         mappings = Mappings(self.known, whole, LEAD)
-        words = (self.pages, PAGES, parts, 2, LEAD, first, count)
         behind, most, taken, is_watched = first + count, chance.randrange(6), chance.randrange(6), chance.random() < 0.5
+        tables = self.tables(parts=parts, most=most, mappings=taken)
         is_there = behind <= PAGES
         before = mappings.begun(first, count)
         is_room = is_there and has_room(most, taken, mappings.zeros_more(first, count))
-        self.seen.equal("has_room_for_zeros", self.library.call("has_room_for_zeros", *words, most, taken), is_room)
+        self.seen.equal("has_room_for_zeros", self.library.call("has_room_for_zeros", tables, first, count), is_room)
         over = self.known[first].over
         due = int((over or (not is_watched and before > 2)) and is_room) + 2 * int(over)
-        self.seen.equal("given_up_by", self.library.call("given_up_by", *words, is_watched, most, taken), due)
+        self.seen.equal("given_up_by", self.library.call("given_up_by", tables, first, count, is_watched), due)
         is_said, taken_by = chance.random() < 0.5, self.library.make("size_t")
         taken_by.value = before
-        called = self.library.call("put_zeros", self.pages, PAGES, self.parts, 2, LEAD, parts, 2, first, count, is_said, taken_by)
+        called = self.library.call("put_zeros", self.tables(parts=parts, mappings=taken_by), first, count, is_said)
         if is_there:
             moved = mappings.are_alone(first, count) or not is_said
             for at, page in enumerate(self.known[first:behind]):

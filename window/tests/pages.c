@@ -820,11 +820,31 @@ static void samples(void) {
     munmap(at, MANY * PAGE);
 }
 
+/* A window of two pages, without pins. */
+struct two {
+    page_entry pages[2];
+    struct pageshare_window_counts counts;
+    struct pageshare_window_part part;
+    uint16_t pins;
+    size_t mappings;
+};
+
+static struct pageshare_window_tables tables_over(struct two *two) {
+    return (struct pageshare_window_tables){.pages = two->pages,
+                                            .pages_count = 2,
+                                            .counts = &two->counts,
+                                            .counts_count = 1,
+                                            .parts = &two->part,
+                                            .parts_count = 1,
+                                            .pins = &two->pins,
+                                            .mappings = &two->mappings};
+}
+
 /* Whether a call of the monitor may go on by a page of which this is so from then on. */
 static bool goes_on(const page_entry *page, struct pageshare_window_facts why) {
-    const struct pageshare_window_table_facts table = {.elsewhere = 0};
-    const uint16_t pins = 0;
-    return pageshare_window_may_go_on(page, 1, &table, &pins, 1, &why, 0, 1);
+    struct two two = {.pages = {*page}};
+    const struct pageshare_window_tables tables = tables_over(&two);
+    return pageshare_window_may_go_on(&tables, &why, 0, 1);
 }
 
 /* What C reads in a page's bytes is what the library says: which pages show a frame, or are held. */
@@ -842,37 +862,33 @@ static bool begins_moved(const page_entry *page) { return (page->looks & PAGESHA
 
 /* What C reads of a page's place is what was noted of it. */
 static void places(void) {
-    page_entry pages[2] = {{.belief = PAGESHARE_WINDOW_PRIVATE}};
-    const page_entry *page = &pages[1];
-    struct pageshare_window_counts part = {0};
-    const struct pageshare_window_part split = {.whole = false};
-    size_t mappings = 1;
-    check(pageshare_window_cover(pages, 2, &part, 1, 0, &split, 1, 0, 2, 320, &mappings), "frames are mapped");
+    struct two two = {.mappings = 1};
+    struct pageshare_window_tables tables = tables_over(&two);
+    const page_entry *page = &two.pages[1];
+    check(pageshare_window_cover(&tables, 0, 2, 320), "frames are mapped");
     check(is_over(page) && clue_in(page) == 321 && !is_past(page) && !shows_past(page), "a frame lies under a page");
-    check(pageshare_window_uncover(pages, 2, &part, 1, 0, &split, 1, 0, 2, true, &mappings), "memory is moved");
+    check(pageshare_window_uncover(&tables, 0, 2, true), "memory is moved");
     check(!is_over(page) && is_moved(page) && !begins_moved(page) && clue_in(page) == 0, "its memory was moved there");
-    check(begins_moved(&pages[0]), "the first page begins what was moved");
-    check(pageshare_window_uncover(pages, 2, &part, 1, 0, &split, 1, 0, 1, false, &mappings), "the first one's memory is mapped");
-    check(mappings == 2, "it is in another mapping");
-    check(!is_moved(&pages[0]) && begins_moved(page), "the page behind it begins what was moved");
-    pageshare_window_give_back(&pages[1], &part, true);
-    check(is_given_back(page) && part.zeros == 1, "it was given back");
-    check(pageshare_window_give_up(pages, 2, &part, 1, 0, 1, 1), "one page is given up");
-    check(!is_given_back(page) && part.zeros == 0, "it was given up");
-    check(pageshare_window_leave(pages, 2, &part, 1, 0, 1, 1), "one page leaves");
-    check(is_out(page) && !is_over(page) && !is_out(&pages[0]), "it has left");
-    check(!pageshare_window_leave(pages, 2, &part, 1, 0, 1, 2) && !is_out(&pages[0]), "a page that isn't there leaves no window");
+    check(begins_moved(&two.pages[0]), "the first page begins what was moved");
+    check(pageshare_window_uncover(&tables, 0, 1, false), "the first one's memory is mapped");
+    check(two.mappings == 2, "it is in another mapping");
+    check(!is_moved(&two.pages[0]) && begins_moved(page), "the page behind it begins what was moved");
+    pageshare_window_give_back(&two.pages[1], &two.counts, true);
+    check(is_given_back(page) && two.counts.zeros == 1, "it was given back");
+    check(pageshare_window_give_up(&tables, 1, 1), "one page is given up");
+    check(!is_given_back(page) && two.counts.zeros == 0, "it was given up");
+    check(pageshare_window_leave(&tables, 1, 1), "one page leaves");
+    check(is_out(page) && !is_over(page) && !is_out(&two.pages[0]), "it has left");
+    check(!pageshare_window_leave(&tables, 1, 2) && !is_out(&two.pages[0]), "a page that isn't there leaves no window");
 }
 
 /* Whether two frames that are mapped at the places of two pages count as one mapping. */
 static bool are_in_a_row(uint32_t frame, uint32_t next) {
-    page_entry pages[2] = {{.belief = PAGESHARE_WINDOW_PRIVATE}};
-    struct pageshare_window_counts counts = {0};
-    const struct pageshare_window_part part = {.whole = false};
-    size_t mappings = 1;
-    pageshare_window_cover(pages, 2, &counts, 1, 0, &part, 1, 0, 1, frame, &mappings);
-    pageshare_window_cover(pages, 2, &counts, 1, 0, &part, 1, 1, 1, next, &mappings);
-    return mappings == 1;
+    struct two two = {.mappings = 1};
+    struct pageshare_window_tables tables = tables_over(&two);
+    pageshare_window_cover(&tables, 0, 1, frame);
+    pageshare_window_cover(&tables, 1, 1, next);
+    return two.mappings == 1;
 }
 
 /* Frames in a row are one mapping, but at each multiple of 32,768. Those at about the same place of two machines are not. */

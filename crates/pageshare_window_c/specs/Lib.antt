@@ -5,3 +5,4 @@ pub mod Parts
 pub mod Rooms
 pub mod Sessions
 pub mod Tasks
+pub mod Window

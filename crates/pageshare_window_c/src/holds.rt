@@ -3,11 +3,11 @@ ghost use Rattle.std.specs.Prelude.{◌≡◌, ◌%◌};
 ghost use Rattle.page_holds.specs.Orders.{OrdersNext};
 ghost use Rattle.page_holds.specs.Rows.{RowBegins, RowCameOut};
 ghost use Rattle.pageshare_window_c.specs.Holds.{order_by, step_number};
+ghost use Rattle.pageshare_window_c.specs.Window.{with_pages};
 
+use crate::WindowTables;
 use page_holds::HoldStep;
 use page_holds::rows::{RowOrder, again, begin, next};
-use window_pages::{PartCounts, WindowPage};
-use window_tables::TableFacts;
 
 /// What is done next with pages of a row.
 #[repr(C)]
@@ -54,16 +54,22 @@ fn order_numbers(order: RowOrder) -> WindowRowOrder
 /// aren't all there, if the table has more pages than its parts, or if there are more or fewer attempts than bytes.
 #[unsafe(no_mangle)]
 pub extern "C" fn pageshare_window_begin_row(
-    pages: &mut [WindowPage],
-    parts: &mut [PartCounts],
-    lead: usize,
+    tables: &mut WindowTables<'_>,
     first: usize,
     row: &mut [u8],
     takings: &[u8],
 ) -> bool
-    ensures { RowBegins lead first takings.now result pages.old pages.new parts.old parts.new row.old row.new }
+    ensures pages { RowBegins tables.old.lead first takings.now result tables.old.pages.now tables.new.pages.now tables.old.counts.now tables.new.counts.now row.old row.new }
+    ensures rest { tables.new ≡ with_pages tables.new.pages.now tables.new.counts.now tables.old }
 {
-    begin(pages, parts, lead, first, row, takings)
+    begin(
+        tables.pages,
+        tables.counts,
+        tables.lead,
+        first,
+        row,
+        takings,
+    )
 }
 
 /// Finds what is done next with pages of a row: 0 nothing, 1 they are compared with their frames, 2 with zeros, 3 frames in a row are mapped, 4 zeros
@@ -71,19 +77,24 @@ pub extern "C" fn pageshare_window_begin_row(
 /// added to the byte of a page that is stuck: it has no order any more.
 #[unsafe(no_mangle)]
 pub extern "C" fn pageshare_window_next_of_row(
-    pages: &mut [WindowPage],
-    parts: &mut [PartCounts],
-    lead: usize,
-    table: &TableFacts,
-    pins: &[u16],
+    tables: &mut WindowTables<'_>,
     first: usize,
     row: &[u8],
     order: &mut WindowRowOrder,
 )
-    ensures row { OrdersNext table.now pins.now lead first row.now (order_by order.new) pages.old pages.new parts.old parts.new }
+    ensures row { OrdersNext tables.old.facts tables.old.pins.now tables.old.lead first row.now (order_by order.new) tables.old.pages.now tables.new.pages.now tables.old.counts.now tables.new.counts.now }
     ensures step { order.new.step ≡ step_number (order_by order.new).step }
+    ensures rest { tables.new ≡ with_pages tables.new.pages.now tables.new.counts.now tables.old }
 {
-    let next = next(pages, parts, lead, table, pins, first, row);
+    let next = next(
+        tables.pages,
+        tables.counts,
+        tables.lead,
+        &tables.facts,
+        tables.pins,
+        first,
+        row,
+    );
     *order = order_numbers(next);
 }
 
@@ -92,18 +103,26 @@ pub extern "C" fn pageshare_window_next_of_row(
 /// there, or if the table has more pages than its parts.
 #[unsafe(no_mangle)]
 pub extern "C" fn pageshare_window_row_done(
-    pages: &mut [WindowPage],
-    parts: &mut [PartCounts],
-    lead: usize,
+    tables: &mut WindowTables<'_>,
     first: usize,
     row: &mut [u8],
     order: &WindowRowOrder,
     done: usize,
     refused: usize,
 ) -> bool
-    ensures { RowCameOut lead first order.now.first done refused result pages.old pages.new parts.old parts.new row.old row.new }
+    ensures pages { RowCameOut tables.old.lead first order.now.first done refused result tables.old.pages.now tables.new.pages.now tables.old.counts.now tables.new.counts.now row.old row.new }
+    ensures rest { tables.new ≡ with_pages tables.new.pages.now tables.new.counts.now tables.old }
 {
-    page_holds::rows::done(pages, parts, lead, first, row, order.first, done, refused)
+    page_holds::rows::done(
+        tables.pages,
+        tables.counts,
+        tables.lead,
+        first,
+        row,
+        order.first,
+        done,
+        refused,
+    )
 }
 
 /// Returns the byte of a page with which a row of its own begins: it isn't stuck, and its memory is where it was.

@@ -9,110 +9,113 @@ ghost use Rattle.window_tables.specs.Ranges.{has_pages};
 ghost use Rattle.window_tables.specs.Rooms.{are_alone};
 ghost use Rattle.window_tables.specs.Tables.{Counted, Notes, can_note};
 ghost use Rattle.window_tables.specs.declared.changes.Change.TheVariants as Change;
+ghost use Rattle.pageshare_window_c.specs.Window.{with_mappings, with_pages};
 
+use crate::WindowTables;
 use look_tasks::room::fits;
 use page_looks::parts::Part;
-use window_pages::{PartCounts, WindowFacts, WindowPage};
+use window_pages::{WindowFacts, WindowPage};
 use window_tables::homes::{
     copied, find_coming, find_over, find_staying, moved, one_memory, order, refused,
 };
 use window_tables::rooms::{lies_over, wants_zeros, zeros_more};
-use window_tables::{TableFacts, put_zeros, set_whole};
+use window_tables::{put_zeros, set_whole};
 
 /// Orders that each of so many pages that shows its frame gets memory of its own, if these facts bar it: of its window and its process, of its
 /// pins, and `why` besides. Returns false, and changes nothing, if they aren't all there, or if the table has more pages than its parts.
 #[unsafe(no_mangle)]
 pub extern "C" fn pageshare_window_order_home(
-    pages: &mut [WindowPage],
-    parts: &mut [PartCounts],
-    lead: usize,
-    table: &TableFacts,
-    pins: &[u16],
+    tables: &mut WindowTables<'_>,
     why: &WindowFacts,
     first: usize,
     count: usize,
 ) -> bool
-    ensures { Changes (λ n. IsCalled (facts_at table.now pins.now why.now (first + n))) lead first count result pages.old pages.new parts.old parts.new }
+    ensures pages { Changes (λ n. IsCalled (facts_at tables.old.facts tables.old.pins.now why.now (first + n))) tables.old.lead first count result tables.old.pages.now tables.new.pages.now tables.old.counts.now tables.new.counts.now }
+    ensures rest { tables.new ≡ with_pages tables.new.pages.now tables.new.counts.now tables.old }
 {
-    order(pages, parts, lead, table, pins, why, first, count)
+    order(
+        tables.pages,
+        tables.counts,
+        tables.lead,
+        &tables.facts,
+        tables.pins,
+        why,
+        first,
+        count,
+    )
 }
 
 /// Finds which pages over frames have to stay where they are, of which `why` is so besides. Of each page `copies` says whether it has memory of
 /// its own; what is found takes the place of that. Returns false, and finds nothing, if they aren't all there.
 #[unsafe(no_mangle)]
 pub extern "C" fn pageshare_window_find_staying(
-    pages: &[WindowPage],
-    table: &TableFacts,
-    pins: &[u16],
+    tables: &WindowTables<'_>,
     why: &WindowFacts,
     first: usize,
     copies: &mut [bool],
 ) -> bool
-    ensures there { result ≡ has_pages first (length copies.old) pages.now }
-    ensures found { result ≡ true → Answers (stays_at table.now pins.now why.now first) first (length copies.old) pages.now copies.old copies.new }
+    ensures there { result ≡ has_pages first (length copies.old) tables.now.pages.now }
+    ensures found { result ≡ true → Answers (stays_at tables.now.facts tables.now.pins.now why.now first) first (length copies.old) tables.now.pages.now copies.old copies.new }
     ensures same { result ≡ false → copies.new ≡ copies.old }
 {
-    find_staying(pages, table, pins, why, first, copies)
+    find_staying(tables.pages, &tables.facts, tables.pins, why, first, copies)
 }
 
 /// Finds which pages of the window come home by a copy where they are: they show a frame that they are to show no more, or one of a lender that is
 /// gone. Returns false, and finds nothing, if they aren't all there.
 #[unsafe(no_mangle)]
 pub extern "C" fn pageshare_window_find_coming(
-    pages: &[WindowPage],
+    tables: &WindowTables<'_>,
     first: usize,
     found: &mut [bool],
 ) -> bool
-    ensures there { result ≡ has_pages first (length found.old) pages.now }
-    ensures found { result ≡ true → Answers comes_home_at first (length found.old) pages.now found.old found.new }
+    ensures there { result ≡ has_pages first (length found.old) tables.now.pages.now }
+    ensures found { result ≡ true → Answers comes_home_at first (length found.old) tables.now.pages.now found.old found.new }
     ensures same { result ≡ false → found.new ≡ found.old }
 {
-    find_coming(pages, first, found)
+    find_coming(tables.pages, first, found)
 }
 
 /// Learns that other memory was moved to the places of so many pages. What looks have found of them counts no more. Returns false, and learns
 /// nothing, if they aren't all there, or if the table has more pages than its parts.
 #[unsafe(no_mangle)]
 pub extern "C" fn pageshare_window_moved_home(
-    pages: &mut [WindowPage],
-    parts: &mut [PartCounts],
-    lead: usize,
+    tables: &mut WindowTables<'_>,
     first: usize,
     count: usize,
 ) -> bool
-    ensures { Changes (λ n. HasMoved) lead first count result pages.old pages.new parts.old parts.new }
+    ensures pages { Changes (λ n. HasMoved) tables.old.lead first count result tables.old.pages.now tables.new.pages.now tables.old.counts.now tables.new.counts.now }
+    ensures rest { tables.new ≡ with_pages tables.new.pages.now tables.new.counts.now tables.old }
 {
-    moved(pages, parts, lead, first, count)
+    moved(tables.pages, tables.counts, tables.lead, first, count)
 }
 
 /// Learns that so many pages got a copy of their own where they are. They show no frame of a lender that is gone. Returns false, and learns
 /// nothing, if they aren't all there, or if the table has more pages than its parts.
 #[unsafe(no_mangle)]
 pub extern "C" fn pageshare_window_copied_home(
-    pages: &mut [WindowPage],
-    parts: &mut [PartCounts],
-    lead: usize,
+    tables: &mut WindowTables<'_>,
     first: usize,
     count: usize,
 ) -> bool
-    ensures { Changes (λ n. IsCopied) lead first count result pages.old pages.new parts.old parts.new }
+    ensures pages { Changes (λ n. IsCopied) tables.old.lead first count result tables.old.pages.now tables.new.pages.now tables.old.counts.now tables.new.counts.now }
+    ensures rest { tables.new ≡ with_pages tables.new.pages.now tables.new.counts.now tables.old }
 {
-    copied(pages, parts, lead, first, count)
+    copied(tables.pages, tables.counts, tables.lead, first, count)
 }
 
 /// Learns that so many pages keep what lies at their places: those that were to get memory of their own were refused that. Returns false, and
 /// learns nothing, if they aren't all there, or if the table has more pages than its parts.
 #[unsafe(no_mangle)]
 pub extern "C" fn pageshare_window_refused_home(
-    pages: &mut [WindowPage],
-    parts: &mut [PartCounts],
-    lead: usize,
+    tables: &mut WindowTables<'_>,
     first: usize,
     count: usize,
 ) -> bool
-    ensures { Changes (λ n. IsHome Outcome.Refused) lead first count result pages.old pages.new parts.old parts.new }
+    ensures pages { Changes (λ n. IsHome Outcome.Refused) tables.old.lead first count result tables.old.pages.now tables.new.pages.now tables.old.counts.now tables.new.counts.now }
+    ensures rest { tables.new ≡ with_pages tables.new.pages.now tables.new.counts.now tables.old }
 {
-    refused(pages, parts, lead, first, count)
+    refused(tables.pages, tables.counts, tables.lead, first, count)
 }
 
 /// Notes that zeros were mapped in place of so many pages, and how many mappings there are then. They are a mapping by themselves if the system can
@@ -120,39 +123,41 @@ pub extern "C" fn pageshare_window_refused_home(
 /// these pages aren't all there, or if the table has more pages than its parts.
 #[unsafe(no_mangle)]
 pub extern "C" fn pageshare_window_put_zeros(
-    pages: &mut [WindowPage],
-    parts: &mut [PartCounts],
-    lead: usize,
-    wholes: &[Part],
+    tables: &mut WindowTables<'_>,
     first: usize,
     count: usize,
     is_said: bool,
-    mappings: &mut usize,
 ) -> bool
-    ensures notes { Notes (Change.Uncovered (are_alone lead wholes.now pages.old first count || not is_said)) lead first count result pages.old pages.new parts.old parts.new }
-    ensures mappings { result ≡ true → mappings.new ≡ kept_then mappings.old (mappings_at lead wholes.now pages.old first count) (mappings_at lead wholes.now pages.new first count) }
-    ensures same { result ≡ false → mappings.new ≡ mappings.old }
+    ensures notes { Notes (Change.Uncovered (are_alone tables.old.lead tables.old.parts.now tables.old.pages.now first count || not is_said)) tables.old.lead first count result tables.old.pages.now tables.new.pages.now tables.old.counts.now tables.new.counts.now }
+    ensures mappings { result ≡ true → tables.new.mappings.now ≡ kept_then tables.old.mappings.now (mappings_at tables.old.lead tables.old.parts.now tables.old.pages.now first count) (mappings_at tables.old.lead tables.old.parts.now tables.new.pages.now first count) }
+    ensures same { result ≡ false → tables.new.mappings.now ≡ tables.old.mappings.now }
+    ensures rest { tables.new ≡ with_pages tables.new.pages.now tables.new.counts.now (with_mappings tables.new.mappings.now tables.old) }
 {
-    put_zeros(pages, parts, lead, wholes, first, count, is_said, mappings)
+    put_zeros(
+        tables.pages,
+        tables.counts,
+        tables.lead,
+        tables.parts,
+        first,
+        count,
+        is_said,
+        tables.mappings,
+    )
 }
 
 /// Returns whether windows may take the mappings for zeros in place of so many pages, where they have taken so many, and may take so many in all.
 /// Returns false if the pages aren't all there.
 #[unsafe(no_mangle)]
 pub extern "C" fn pageshare_window_has_room_for_zeros(
-    pages: &[WindowPage],
-    parts: &[Part],
-    lead: usize,
+    tables: &WindowTables<'_>,
     first: usize,
     count: usize,
-    most: u64,
-    taken: u64,
 ) -> bool
-    ensures { result ≡ has_room lead parts.now pages.now first count most taken }
+    ensures { result ≡ has_room tables.now.lead tables.now.parts.now tables.now.pages.now first count tables.now.most tables.now.mappings.now }
 {
-    match zeros_more(pages, parts, lead, first, count) {
+    match zeros_more(tables.pages, tables.parts, tables.lead, first, count) {
         None => false,
-        Some(more) => fits(most, taken, more as u64),
+        Some(more) => fits(tables.most, *tables.mappings as u64, more as u64),
     }
 }
 
@@ -160,21 +165,24 @@ pub extern "C" fn pageshare_window_has_room_for_zeros(
 /// them; 2 what can't be so is cleared, since frames lie under it. Else their memory is given back.
 #[unsafe(no_mangle)]
 pub extern "C" fn pageshare_window_given_up_by(
-    pages: &[WindowPage],
-    parts: &[Part],
-    lead: usize,
+    tables: &WindowTables<'_>,
     first: usize,
     count: usize,
     is_watched: bool,
-    most: u64,
-    taken: u64,
 ) -> u8
-    ensures { result ≡ given_up_by lead parts.now pages.now first count is_watched most taken }
+    ensures { result ≡ given_up_by tables.now.lead tables.now.parts.now tables.now.pages.now first count is_watched tables.now.most tables.now.mappings.now }
 {
-    let wants = wants_zeros(pages, parts, lead, first, count, is_watched);
-    let has = pageshare_window_has_room_for_zeros(pages, parts, lead, first, count, most, taken);
+    let wants = wants_zeros(
+        tables.pages,
+        tables.parts,
+        tables.lead,
+        first,
+        count,
+        is_watched,
+    );
+    let has = pageshare_window_has_room_for_zeros(tables, first, count);
     let anew = if wants && has { 1 } else { 0 };
-    let cleared = if lies_over(pages, first) { 2 } else { 0 };
+    let cleared = if lies_over(tables.pages, first) { 2 } else { 0 };
     anew + cleared
 }
 
@@ -217,21 +225,26 @@ pub extern "C" fn pageshare_window_find_over(
 /// the table has more pages than its parts.
 #[unsafe(no_mangle)]
 pub extern "C" fn pageshare_window_one_memory(
-    pages: &mut [WindowPage],
-    parts: &mut [PartCounts],
-    lead: usize,
-    wholes: &[Part],
+    tables: &mut WindowTables<'_>,
     first: usize,
     count: usize,
-    mappings: &mut usize,
 ) -> bool
-    ensures done { result ≡ can_note lead first count pages.old parts.old }
-    ensures pages { result ≡ true → OneMemory first count pages.old pages.new }
-    ensures counted { Counted lead pages.old parts.old → Counted lead pages.new parts.new }
-    ensures mappings { result ≡ true → mappings.new ≡ kept_then mappings.old (mappings_at lead wholes.now pages.old first count) (mappings_at lead wholes.now pages.new first count) }
-    ensures same { result ≡ false → pages.new ≡ pages.old }
-    ensures same_parts { result ≡ false → parts.new ≡ parts.old }
-    ensures same_mappings { result ≡ false → mappings.new ≡ mappings.old }
+    ensures done { result ≡ can_note tables.old.lead first count tables.old.pages.now tables.old.counts.now }
+    ensures pages { result ≡ true → OneMemory first count tables.old.pages.now tables.new.pages.now }
+    ensures counted { Counted tables.old.lead tables.old.pages.now tables.old.counts.now → Counted tables.old.lead tables.new.pages.now tables.new.counts.now }
+    ensures mappings { result ≡ true → tables.new.mappings.now ≡ kept_then tables.old.mappings.now (mappings_at tables.old.lead tables.old.parts.now tables.old.pages.now first count) (mappings_at tables.old.lead tables.old.parts.now tables.new.pages.now first count) }
+    ensures same { result ≡ false → tables.new.pages.now ≡ tables.old.pages.now }
+    ensures same_parts { result ≡ false → tables.new.counts.now ≡ tables.old.counts.now }
+    ensures same_mappings { result ≡ false → tables.new.mappings.now ≡ tables.old.mappings.now }
+    ensures rest { tables.new ≡ with_pages tables.new.pages.now tables.new.counts.now (with_mappings tables.new.mappings.now tables.old) }
 {
-    one_memory(pages, parts, lead, wholes, first, count, mappings)
+    one_memory(
+        tables.pages,
+        tables.counts,
+        tables.lead,
+        tables.parts,
+        first,
+        count,
+        tables.mappings,
+    )
 }

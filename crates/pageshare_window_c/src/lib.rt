@@ -36,6 +36,7 @@ pub mod session;
 mod tables;
 mod tasks;
 mod times;
+mod window;
 
 pub use budget::{CREDIT_NS, OWED_NS, SAVED_NS, WindowBudget};
 use budget::{budget_of, config_by, put};
@@ -86,6 +87,7 @@ pub use times::{
     pageshare_window_be_eager, pageshare_window_begin_times, pageshare_window_look_ended,
     pageshare_window_pause_ms,
 };
+pub use window::WindowTables;
 pub use window_pages::{PartCounts, WindowFacts, WindowPage};
 use window_pages::{alike, give_back, here};
 pub use window_tables::TableFacts;

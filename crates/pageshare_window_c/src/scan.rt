@@ -5,14 +5,14 @@ ghost use Rattle.part_scans.specs.LeftOver.{is_left_as};
 ghost use Rattle.part_scans.specs.Scans.{AreNumbers, BeginsAt, FollowsAt, GoesOnAt, RowGoes, has_past};
 ghost use Rattle.window_tables.specs.Tables.{part_at};
 ghost use Rattle.pageshare_window_c.specs.Looks.{scan_of};
+ghost use Rattle.pageshare_window_c.specs.Window.{with_pages};
 
-use crate::WindowLook;
 use crate::looks::config_of;
+use crate::{WindowLook, WindowTables};
 use page_looks::finds::FindOutcome;
 use page_looks::parts::Part;
 use part_scans::{Scan, begin, done, find_numbers, follow, left_over};
-use window_pages::{PartCounts, WindowPage};
-use window_tables::TableFacts;
+use window_pages::WindowPage;
 
 // Returns the scan of a part.
 fn scan_of(look: &WindowLook, part: &Part) -> Scan
@@ -36,72 +36,93 @@ fn scan_of(look: &WindowLook, part: &Part) -> Scan
 /// nothing, if the pages aren't all there, if the table has more pages than its parts, or if there are more or fewer bytes than pages.
 #[unsafe(no_mangle)]
 pub extern "C" fn pageshare_window_begin_scan(
-    pages: &mut [WindowPage],
-    parts: &mut [PartCounts],
-    lead: usize,
+    tables: &mut WindowTables<'_>,
     look: &WindowLook,
     part: &Part,
-    table: &TableFacts,
-    pins: &[u16],
     first: usize,
     memory: &[u8],
     row: &mut [u8],
 ) -> bool
-    ensures { RowGoes (BeginsAt (scan_of look.now part.now) table.now pins.now first (has_past (part_at lead first) parts.old) memory.now) lead first (length memory.now) result pages.old pages.new parts.old parts.new row.old row.new }
+    ensures pages { RowGoes (BeginsAt (scan_of look.now part.now) tables.old.facts tables.old.pins.now first (has_past (part_at tables.old.lead first) tables.old.counts.now) memory.now) tables.old.lead first (length memory.now) result tables.old.pages.now tables.new.pages.now tables.old.counts.now tables.new.counts.now row.old row.new }
+    ensures rest { tables.new ≡ with_pages tables.new.pages.now tables.new.counts.now tables.old }
 {
     let scan = scan_of(look, part);
-    begin(pages, parts, lead, &scan, table, pins, first, memory, row)
+    begin(
+        tables.pages,
+        tables.counts,
+        tables.lead,
+        &scan,
+        &tables.facts,
+        tables.pins,
+        first,
+        memory,
+        row,
+    )
 }
 
 /// Takes what came of the step of each page that has one. Returns false, and changes nothing, where a scan couldn't begin.
 #[unsafe(no_mangle)]
 pub extern "C" fn pageshare_window_scan_done(
-    pages: &mut [WindowPage],
-    parts: &mut [PartCounts],
-    lead: usize,
+    tables: &mut WindowTables<'_>,
     look: &WindowLook,
     part: &Part,
     first: usize,
     outcomes: &[FindOutcome],
     row: &mut [u8],
 ) -> bool
-    ensures { RowGoes (GoesOnAt (scan_of look.now part.now) first outcomes.now) lead first (length outcomes.now) result pages.old pages.new parts.old parts.new row.old row.new }
+    ensures pages { RowGoes (GoesOnAt (scan_of look.now part.now) first outcomes.now) tables.old.lead first (length outcomes.now) result tables.old.pages.now tables.new.pages.now tables.old.counts.now tables.new.counts.now row.old row.new }
+    ensures rest { tables.new ≡ with_pages tables.new.pages.now tables.new.counts.now tables.old }
 {
     let scan = scan_of(look, part);
-    done(pages, parts, lead, &scan, first, outcomes, row)
+    done(
+        tables.pages,
+        tables.counts,
+        tables.lead,
+        &scan,
+        first,
+        outcomes,
+        row,
+    )
 }
 
 /// Takes pages beside those that have changed, where the scan would leave them out. Returns false, and changes nothing, where a scan couldn't begin.
 #[unsafe(no_mangle)]
 pub extern "C" fn pageshare_window_follow_changes(
-    pages: &mut [WindowPage],
-    parts: &mut [PartCounts],
-    lead: usize,
+    tables: &mut WindowTables<'_>,
     look: &WindowLook,
     part: &Part,
-    table: &TableFacts,
-    pins: &[u16],
     first: usize,
     memory: &[u8],
     row: &mut [u8],
 ) -> bool
-    ensures { RowGoes (FollowsAt (scan_of look.now part.now) table.now pins.now first memory.now row.old) lead first (length memory.now) result pages.old pages.new parts.old parts.new row.old row.new }
+    ensures pages { RowGoes (FollowsAt (scan_of look.now part.now) tables.old.facts tables.old.pins.now first memory.now row.old) tables.old.lead first (length memory.now) result tables.old.pages.now tables.new.pages.now tables.old.counts.now tables.new.counts.now row.old row.new }
+    ensures rest { tables.new ≡ with_pages tables.new.pages.now tables.new.counts.now tables.old }
 {
     let scan = scan_of(look, part);
-    follow(pages, parts, lead, &scan, table, pins, first, memory, row)
+    follow(
+        tables.pages,
+        tables.counts,
+        tables.lead,
+        &scan,
+        &tables.facts,
+        tables.pins,
+        first,
+        memory,
+        row,
+    )
 }
 
 /// Finds where glances look at the pages at these places, counted from the page `first` on, as far as they are there.
 #[unsafe(no_mangle)]
 pub extern "C" fn pageshare_window_glance_numbers(
-    pages: &[WindowPage],
+    tables: &WindowTables<'_>,
     first: usize,
     places: &[u16],
     numbers: &mut [u64],
 )
-    ensures { AreNumbers first pages.now places.now numbers.old numbers.new }
+    ensures { AreNumbers first tables.now.pages.now places.now numbers.old numbers.new }
 {
-    find_numbers(pages, first, places, numbers);
+    find_numbers(tables.pages, first, places, numbers);
 }
 
 /// Returns how many pages from the first on have copies of their own over frames and were asked about in vain most often; or of how many that

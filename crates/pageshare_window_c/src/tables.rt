@@ -9,57 +9,54 @@ ghost use Rattle.window_tables.specs.Mappings.{kept_then, mappings_at};
 ghost use Rattle.window_tables.specs.Ranges.{Each, all_at, goes_on, has_pages, moves};
 ghost use Rattle.window_tables.specs.Tables.{Notes};
 ghost use Rattle.window_tables.specs.declared.changes.Change.TheVariants as Change;
+ghost use Rattle.pageshare_window_c.specs.Window.{with_mappings, with_pages};
 
-use page_looks::parts::Part;
-use window_pages::{PartCounts, WindowFacts, WindowPage};
-use window_tables::{Change, TableFacts, are_movable, may_give_up, may_go_on, note, note_kept};
+use crate::WindowTables;
+use window_pages::WindowFacts;
+use window_tables::{Change, are_movable, may_give_up, may_go_on, note, note_kept};
 
 /// Returns whether a call of the monitor may go on by each of so many pages, of which this is so from then on: no write to any of them
 /// waits, and none that must have memory of its own shows a frame. Returns false if they aren't all there.
 #[unsafe(no_mangle)]
 pub extern "C" fn pageshare_window_may_go_on(
-    pages: &[WindowPage],
-    table: &TableFacts,
-    pins: &[u16],
+    tables: &WindowTables<'_>,
     why: &WindowFacts,
     first: usize,
     count: usize,
 ) -> bool
-    ensures goes_on { result ≡ (has_pages first count pages.now && all_at (λ i x. goes_on (facts_at table.now pins.now why.now i) x) first count pages.now) }
-    ensures free { result ≡ true → Each (λ i x. IsFree (belief_of x)) first count pages.now }
-    ensures own { result ≡ true → Each (λ i x. must_own (bars_of (facts_at table.now pins.now why.now i) (known_of x)) ≡ true → ShowsNone (belief_of x)) first count pages.now }
+    ensures goes_on { result ≡ (has_pages first count tables.now.pages.now && all_at (λ i x. goes_on (facts_at tables.now.facts tables.now.pins.now why.now i) x) first count tables.now.pages.now) }
+    ensures free { result ≡ true → Each (λ i x. IsFree (belief_of x)) first count tables.now.pages.now }
+    ensures own { result ≡ true → Each (λ i x. must_own (bars_of (facts_at tables.now.facts tables.now.pins.now why.now i) (known_of x)) ≡ true → ShowsNone (belief_of x)) first count tables.now.pages.now }
 {
-    may_go_on(pages, table, pins, why, first, count)
+    may_go_on(tables.pages, &tables.facts, tables.pins, why, first, count)
 }
 
 /// Returns whether a call of the monitor may go on that gives so many pages up: no write to any of them waits. Returns false if they aren't
 /// all there.
 #[unsafe(no_mangle)]
 pub extern "C" fn pageshare_window_may_give_up(
-    pages: &[WindowPage],
+    tables: &WindowTables<'_>,
     first: usize,
     count: usize,
 ) -> bool
-    ensures gives_up { result ≡ (has_pages first count pages.now && all_at (λ i x. goes_on (only_called true) x) first count pages.now) }
-    ensures free { result ≡ true → Each (λ i x. IsFree (belief_of x)) first count pages.now }
+    ensures gives_up { result ≡ (has_pages first count tables.now.pages.now && all_at (λ i x. goes_on (only_called true) x) first count tables.now.pages.now) }
+    ensures free { result ≡ true → Each (λ i x. IsFree (belief_of x)) first count tables.now.pages.now }
 {
-    may_give_up(pages, first, count)
+    may_give_up(tables.pages, first, count)
 }
 
 /// Returns whether the memory of each of so many pages may be exchanged for other memory: none of them is held, and nothing keeps one from
 /// being lent. Returns false if they aren't all there.
 #[unsafe(no_mangle)]
 pub extern "C" fn pageshare_window_are_movable(
-    pages: &[WindowPage],
-    table: &TableFacts,
-    pins: &[u16],
+    tables: &WindowTables<'_>,
     first: usize,
     count: usize,
 ) -> bool
-    ensures movable { result ≡ (has_pages first count pages.now && all_at (λ i x. moves (facts_at table.now pins.now (only_called false) i) x) first count pages.now) }
-    ensures free { result ≡ true → Each (λ i x. IsFree (belief_of x)) first count pages.now }
+    ensures movable { result ≡ (has_pages first count tables.now.pages.now && all_at (λ i x. moves (facts_at tables.now.facts tables.now.pins.now (only_called false) i) x) first count tables.now.pages.now) }
+    ensures free { result ≡ true → Each (λ i x. IsFree (belief_of x)) first count tables.now.pages.now }
 {
-    are_movable(pages, table, pins, first, count)
+    are_movable(tables.pages, &tables.facts, tables.pins, first, count)
 }
 
 /// Notes that frames in a row were mapped at the places of so many pages, of which the first has this number, and how many mappings there are then.
@@ -67,28 +64,25 @@ pub extern "C" fn pageshare_window_are_movable(
 /// has more pages than its parts.
 #[unsafe(no_mangle)]
 pub extern "C" fn pageshare_window_cover(
-    pages: &mut [WindowPage],
-    parts: &mut [PartCounts],
-    lead: usize,
-    wholes: &[Part],
+    tables: &mut WindowTables<'_>,
     first: usize,
     count: usize,
     frame: u32,
-    mappings: &mut usize,
 ) -> bool
-    ensures notes { Notes (Change.Covered frame) lead first count result pages.old pages.new parts.old parts.new }
-    ensures mappings { result ≡ true → mappings.new ≡ kept_then mappings.old (mappings_at lead wholes.now pages.old first count) (mappings_at lead wholes.now pages.new first count) }
-    ensures same { result ≡ false → mappings.new ≡ mappings.old }
+    ensures notes { Notes (Change.Covered frame) tables.old.lead first count result tables.old.pages.now tables.new.pages.now tables.old.counts.now tables.new.counts.now }
+    ensures mappings { result ≡ true → tables.new.mappings.now ≡ kept_then tables.old.mappings.now (mappings_at tables.old.lead tables.old.parts.now tables.old.pages.now first count) (mappings_at tables.old.lead tables.old.parts.now tables.new.pages.now first count) }
+    ensures same { result ≡ false → tables.new.mappings.now ≡ tables.old.mappings.now }
+    ensures rest { tables.new ≡ with_pages tables.new.pages.now tables.new.counts.now (with_mappings tables.new.mappings.now tables.old) }
 {
     note_kept(
-        pages,
-        parts,
-        lead,
-        wholes,
+        tables.pages,
+        tables.counts,
+        tables.lead,
+        tables.parts,
         first,
         count,
         Change::Covered(frame),
-        mappings,
+        tables.mappings,
     )
 }
 
@@ -97,28 +91,25 @@ pub extern "C" fn pageshare_window_cover(
 /// has more pages than its parts.
 #[unsafe(no_mangle)]
 pub extern "C" fn pageshare_window_uncover(
-    pages: &mut [WindowPage],
-    parts: &mut [PartCounts],
-    lead: usize,
-    wholes: &[Part],
+    tables: &mut WindowTables<'_>,
     first: usize,
     count: usize,
     moved: bool,
-    mappings: &mut usize,
 ) -> bool
-    ensures notes { Notes (Change.Uncovered moved) lead first count result pages.old pages.new parts.old parts.new }
-    ensures mappings { result ≡ true → mappings.new ≡ kept_then mappings.old (mappings_at lead wholes.now pages.old first count) (mappings_at lead wholes.now pages.new first count) }
-    ensures same { result ≡ false → mappings.new ≡ mappings.old }
+    ensures notes { Notes (Change.Uncovered moved) tables.old.lead first count result tables.old.pages.now tables.new.pages.now tables.old.counts.now tables.new.counts.now }
+    ensures mappings { result ≡ true → tables.new.mappings.now ≡ kept_then tables.old.mappings.now (mappings_at tables.old.lead tables.old.parts.now tables.old.pages.now first count) (mappings_at tables.old.lead tables.old.parts.now tables.new.pages.now first count) }
+    ensures same { result ≡ false → tables.new.mappings.now ≡ tables.old.mappings.now }
+    ensures rest { tables.new ≡ with_pages tables.new.pages.now tables.new.counts.now (with_mappings tables.new.mappings.now tables.old) }
 {
     note_kept(
-        pages,
-        parts,
-        lead,
-        wholes,
+        tables.pages,
+        tables.counts,
+        tables.lead,
+        tables.parts,
         first,
         count,
         Change::Uncovered(moved),
-        mappings,
+        tables.mappings,
     )
 }
 
@@ -126,42 +117,45 @@ pub extern "C" fn pageshare_window_uncover(
 /// has more pages than its parts.
 #[unsafe(no_mangle)]
 pub extern "C" fn pageshare_window_give_up(
-    pages: &mut [WindowPage],
-    parts: &mut [PartCounts],
-    lead: usize,
+    tables: &mut WindowTables<'_>,
     first: usize,
     count: usize,
 ) -> bool
-    ensures { Notes Change.GivenUp lead first count result pages.old pages.new parts.old parts.new }
+    ensures pages { Notes Change.GivenUp tables.old.lead first count result tables.old.pages.now tables.new.pages.now tables.old.counts.now tables.new.counts.now }
+    ensures rest { tables.new ≡ with_pages tables.new.pages.now tables.new.counts.now tables.old }
 {
-    note(pages, parts, lead, first, count, Change::GivenUp)
+    note(
+        tables.pages,
+        tables.counts,
+        tables.lead,
+        first,
+        count,
+        Change::GivenUp,
+    )
 }
 
 /// Notes that so many pages were unmapped, or that something else was mapped in their place, and how many mappings there are then. They have left
 /// their window. Returns false, and notes nothing, if these pages aren't all there, or if the table has more pages than its parts.
 #[unsafe(no_mangle)]
 pub extern "C" fn pageshare_window_unmap(
-    pages: &mut [WindowPage],
-    parts: &mut [PartCounts],
-    lead: usize,
-    wholes: &[Part],
+    tables: &mut WindowTables<'_>,
     first: usize,
     count: usize,
-    mappings: &mut usize,
 ) -> bool
-    ensures notes { Notes Change.Unmapped lead first count result pages.old pages.new parts.old parts.new }
-    ensures mappings { result ≡ true → mappings.new ≡ kept_then mappings.old (mappings_at lead wholes.now pages.old first count) (mappings_at lead wholes.now pages.new first count) }
-    ensures same { result ≡ false → mappings.new ≡ mappings.old }
+    ensures notes { Notes Change.Unmapped tables.old.lead first count result tables.old.pages.now tables.new.pages.now tables.old.counts.now tables.new.counts.now }
+    ensures mappings { result ≡ true → tables.new.mappings.now ≡ kept_then tables.old.mappings.now (mappings_at tables.old.lead tables.old.parts.now tables.old.pages.now first count) (mappings_at tables.old.lead tables.old.parts.now tables.new.pages.now first count) }
+    ensures same { result ≡ false → tables.new.mappings.now ≡ tables.old.mappings.now }
+    ensures rest { tables.new ≡ with_pages tables.new.pages.now tables.new.counts.now (with_mappings tables.new.mappings.now tables.old) }
 {
     note_kept(
-        pages,
-        parts,
-        lead,
-        wholes,
+        tables.pages,
+        tables.counts,
+        tables.lead,
+        tables.parts,
         first,
         count,
         Change::Unmapped,
-        mappings,
+        tables.mappings,
     )
 }
 
@@ -169,41 +163,44 @@ pub extern "C" fn pageshare_window_unmap(
 /// there, or if the table has more pages than its parts.
 #[unsafe(no_mangle)]
 pub extern "C" fn pageshare_window_leave(
-    pages: &mut [WindowPage],
-    parts: &mut [PartCounts],
-    lead: usize,
+    tables: &mut WindowTables<'_>,
     first: usize,
     count: usize,
 ) -> bool
-    ensures { Notes Change.Left lead first count result pages.old pages.new parts.old parts.new }
+    ensures pages { Notes Change.Left tables.old.lead first count result tables.old.pages.now tables.new.pages.now tables.old.counts.now tables.new.counts.now }
+    ensures rest { tables.new ≡ with_pages tables.new.pages.now tables.new.counts.now tables.old }
 {
-    note(pages, parts, lead, first, count, Change::Left)
+    note(
+        tables.pages,
+        tables.counts,
+        tables.lead,
+        first,
+        count,
+        Change::Left,
+    )
 }
 
 /// Notes that the lender of so many pages is gone, and how many mappings there are then. No slot of theirs counts any more, and what they show stays.
 /// Returns false, and notes nothing, if these pages aren't all there, or if the table has more pages than its parts.
 #[unsafe(no_mangle)]
 pub extern "C" fn pageshare_window_detach(
-    pages: &mut [WindowPage],
-    parts: &mut [PartCounts],
-    lead: usize,
-    wholes: &[Part],
+    tables: &mut WindowTables<'_>,
     first: usize,
     count: usize,
-    mappings: &mut usize,
 ) -> bool
-    ensures notes { Notes Change.Detached lead first count result pages.old pages.new parts.old parts.new }
-    ensures mappings { result ≡ true → mappings.new ≡ kept_then mappings.old (mappings_at lead wholes.now pages.old first count) (mappings_at lead wholes.now pages.new first count) }
-    ensures same { result ≡ false → mappings.new ≡ mappings.old }
+    ensures notes { Notes Change.Detached tables.old.lead first count result tables.old.pages.now tables.new.pages.now tables.old.counts.now tables.new.counts.now }
+    ensures mappings { result ≡ true → tables.new.mappings.now ≡ kept_then tables.old.mappings.now (mappings_at tables.old.lead tables.old.parts.now tables.old.pages.now first count) (mappings_at tables.old.lead tables.old.parts.now tables.new.pages.now first count) }
+    ensures same { result ≡ false → tables.new.mappings.now ≡ tables.old.mappings.now }
+    ensures rest { tables.new ≡ with_pages tables.new.pages.now tables.new.counts.now (with_mappings tables.new.mappings.now tables.old) }
 {
     note_kept(
-        pages,
-        parts,
-        lead,
-        wholes,
+        tables.pages,
+        tables.counts,
+        tables.lead,
+        tables.parts,
         first,
         count,
         Change::Detached,
-        mappings,
+        tables.mappings,
     )
 }
