@@ -71,7 +71,7 @@ DROPPED = "madvise(address_of(window, first), bytes_of(count), MADV_DONTNEED) ==
 GUARDED = "return cause == 0 ? pagemap_are_guarded(&windows->pagemap, at, PART) : cause;"
 LEAVES = "(struct pageshare_window_facts){.leaves = true}"
 WATCHED = "is_begun ? PAGESHARE_WINDOW_TAKEN_WATCHED : PAGESHARE_WINDOW_NOT_TAKEN"
-ORDERED_HOME = "pageshare_window_order_home(TABLES(window), &table, pins_of(window), pins_in(window), why, first, count);"
+ORDERED_HOME = "pageshare_window_order_home(TABLES(window), why, first, count);"
 NOT_PUT = "hold->stuck_cause = cause;\n            return (struct came){.done = done, .refused = 1};"
 NOT_MAPPED = "note_failure(windows, WINDOW_NO_MAPPING, cause);\n        return (struct came){.refused = todo->count};"
 NOT_ENDED = "hold->stuck_cause = cause;\n    return (struct came){.refused = todo->count};"
@@ -91,7 +91,7 @@ BODIES = {
     "copies a part unguarded": Body("parts.c", GUARDED, "return faults_end_watch(&windows->faults, at, PART);", ["parts"]),
     "copies what may be pinned": Body("parts.c", "if (cause == 0 && may_pin(windows)) cause = EBUSY;", "", ["parts"]),
     "lends what a child may have": Body("pages.c", ".inherited = !window->advice.dont_fork,", ".inherited = false,", ["pages"]),
-    "lends what a device has": Body("pages.c", "window->pins != NULL ? window->count : 0;", "0 * window->count;", ["parts"]),
+    "lends what a device has": Body("pages.c", ".pins_count = has_pins ? window->count : 0,", ".pins_count = 0,", ["parts"]),
     "lends copies that a device may have": Body("pages.c", ".may_pin = windows->config.pins != WINDOWS_PINS_NEVER,", ".may_pin = false,", ["leaves"]),
     "lends what is locked": Body("pages.c", ".locked = windows->is_locked,", ".locked = false,", ["pages"]),
     "lends a frame that has its memory still": Body("lender/domain_lender.c", "bool may_lend = lender_trim(lender) == 0;", "bool may_lend = true;", ["guards"]),
@@ -107,10 +107,12 @@ BODIES = {
     "notes no page that was unmapped": Body("home.c", "pageshare_window_unmap(", LEFT_OUT, ["leaves"]),
     "notes no page that has left": Body("home.c", "pageshare_window_leave(", LEFT_OUT, ["leaves"]),
     "notes no lender that is gone": Body("windows.c", "pageshare_window_detach(", LEFT_OUT, ["leaves"]),
-    "notes no zeros": Body("pages.c", "pageshare_window_give_back(", LEFT_OUT, ["parts"]),
+    "notes no zeros": Body("pages.c", "pageshare_window_give_back(&window->pages[number], ", LEFT_OUT + "&window->pages[number], ", ["parts"]),
     "notes zeros as frames": Body("pages.c", "if (is_file) pageshare", "if (is_file || is_said) pageshare", ["pages"]),
-    "counts no mappings of frames": Body("pages.c", "count, frame, mappings);", "count, frame, &(size_t){0});", ["pages"]),
-    "counts no mappings of a part that changes": Body("parts.c", "is_whole, &counts->mappings);", "is_whole, &counts->mappings);\n    counts->mappings -= mappings_of(window, first, PART);", ["parts"]),
+    "counts no mappings of frames": Body("pages.c", "if (is_file) pageshare_window_cover(TABLES(window), first, count, frame);",
+                                          "const size_t taken = window->windows->counts.mappings;\n    if (is_file) pageshare_window_cover(TABLES(window), first, count, frame),"
+                                          " window->windows->counts.mappings = taken;", ["pages"]),
+    "counts no mappings of a part that changes": Body("parts.c", "    note_huge(window, first, is_whole);\n", "    note_huge(window, first, is_whole);\n    counts->mappings -= mappings_of(window, first, PART);\n", ["parts"]),
     "counts all pages in the first part": Body("set.h", "return &window->counts[(page + window->lead) / PART];",
                                                "return &window->counts[page * 0];", ["parts"]),
     "never says that a watch ended": Body("lend.c", ENDED, ENDED.replace(".done", ".refused"), ["guards"]),
@@ -121,8 +123,10 @@ BODIES = {
     "keeps memory of what stays": Body("home.c", "if (cause != 0 || home->stays[i]) unmap_apart(", "if (home->stays[i]) unmap_apart(", ["refusals"]),
     "forgets what can't be unmapped": Body("tasks.c", "    unmap_again();\n", "", ["guards"]),
     "keeps the memory of what can't be unmapped": Body("kernel.c", "madvise(at, bytes, MADV_DONTNEED); /*", "/*", ["guards"]),
-    "gives up without a mapping left": Body("home.c", "MAPPINGS(windows));", "windows->mappings_most, 0);", ["pages"]),
-    "puts zeros without a mapping left": Body("set.h", "(WINDOWS)->mappings_most, (WINDOWS)->counts.mappings", "(WINDOWS)->mappings_most, 0 * (WINDOWS)->counts.mappings", ["pages"]),
+    "gives up without a mapping left": Body("home.c", "    unsigned by = pageshare_window_given_up_by(TABLES(window), ",
+                                        "    struct pageshare_window_tables tables = tables_of(window);\n    tables.most = UINT64_MAX;\n"
+                                        "    unsigned by = pageshare_window_given_up_by(&tables, ", ["pages"]),
+    "puts zeros without a mapping left": Body("pages.c", ".most = windows->mappings_most,", ".most = UINT64_MAX,", ["pages"]),
     "takes reserved memory for another": Body("advice.c", ".is_reserved = has(flags, \" ac\")", ".is_reserved = false && has(flags, \" ac\")", ["pages"]),
     "leaves holes in place of zeros": Body("lend.c", "if (!hold->missing[i] ||", "if (true ||", ["pages"]),
     "shows what was given up": Body("lend.c", "is_done && !hold->given_up[i];", "is_done;", ["pages"]),
@@ -139,7 +143,7 @@ BODIES = {
     "takes memory for unlocked that isn't known": Body("tasks.c", "int refused = locked_kib(&kib);", "int refused = 0 * locked_kib(&kib);", ["pages"]),
     "leaves the scratch area half made": Body("tasks.c", "lacks_scratch ? make_scratch(windows) : 0;", "lacks_scratch ? 0 : 0;", ["guards"]),
     "takes a window for one mapping": Body("window.c", "window->seams = facts.mappings - 1;", "window->seams = 0 * facts.mappings;", ["pages"]),
-    "joins zeros of which too little was said": Body("pages.c", "count, is_said, mappings);", "count, true, mappings);", ["guards"]),
+    "joins zeros of which too little was said": Body("pages.c", "first, count, is_said);", "first, count, true);", ["guards"]),
     "joins zeros that were written": Body("pages.c", "|| memchr(written, true, count) == NULL", "|| count > 0", ["guards"]),
     "forgets what is stuck": Body("lend.c", "!= 0) add_stuck(window,", "!= 0 && false) add_stuck(window,", ["guards"]),
     "goes on with nothing that is stuck": Body("lend.c", "pageshare_window_row_again(stuck.byte);", "stuck.byte;", ["guards"]),
@@ -231,6 +235,12 @@ def is_found(folder: pathlib.Path, library: StrPath, words: Sequence[str]) -> bo
     return name == "stress" and program.exists() and run([program, trace]).returncode == 1
 
 
+def are_there(tally: Tally) -> None:
+    """What a wrong body takes away stands once in its file, so that each can be tried."""
+    for name, body in BODIES.items():
+        tally.equal(f"how often the line of a wrong body stands in {body.file}: {name}", (TOP / "window" / body.file).read_text().count(body.part), 1)
+
+
 def wrong_bodies(tally: Tally, library: StrPath) -> None:
     """Each wrong body must be found."""
     for name, body in BODIES.items():
@@ -239,6 +249,7 @@ def wrong_bodies(tally: Tally, library: StrPath) -> None:
 
 def all_tests(tally: Tally, library: StrPath, seconds: str) -> None:
     """Each test in turn."""
+    are_there(tally)
     needs_windows()
     OUT.mkdir(parents=True, exist_ok=True)
     for name, most in CASES.items():
