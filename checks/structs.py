@@ -30,6 +30,7 @@ NOT_OF_C = {"FAULT_ANSWER"}
 NUMBERS = {
     r"crates/page_lender/src/packed.rt number\w*": "PAGESHARE_WINDOW_",
     "crates/pageshare_window_c/src/holds.rt step_number": "PAGESHARE_WINDOW_HOLD_",
+    "crates/window_tables/src/runs.rt kind_number": "PAGESHARE_WINDOW_KIND_",
     "crates/part_scans/src/seen.rt step_number": "PAGESHARE_WINDOW_FIND_",
     "crates/pageshare_window_c/src/part.rt part_number": "PAGESHARE_WINDOW_",
     "crates/lend_steps/src/copies.rt number": "PAGESHARE_WINDOW_CHECK_",
@@ -53,7 +54,7 @@ STRUCTS = {
     "OfferedBounds": "pageshare_window_range_bounds", "Transfer": "pageshare_window_transfer", "FindOutcome": "pageshare_window_find_outcome",
     "WindowLook": "pageshare_window_look", "LookSteps": "pageshare_window_steps", "PartReturn": "pageshare_window_return",
     "WindowTask": "pageshare_window_task", "WindowRowOrder": "pageshare_window_row_order", "LookTasks": "pageshare_window_tasks", "TaskOutcome": "pageshare_window_outcome",
-    "Taken": "pageshare_window_taken", "LookFinds": "pageshare_window_finds", "LookTimes": "pageshare_window_times",
+    "Taken": "pageshare_window_taken", "PageRun": "pageshare_window_run", "LookFinds": "pageshare_window_finds", "LookTimes": "pageshare_window_times",
 }
 # A handle has a pointer and a flag; what is in it is private, and so are its names.
 HANDLES = {"Machine", "Slot", "DomainHandle", "DomainSlot", "HostHandle", "HostSlot", "Handle"}

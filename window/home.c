@@ -38,11 +38,13 @@ static bool is_watched_by_caller(struct window *window, size_t first, size_t cou
     return cause == EBUSY;
 }
 
-/* Gives up pages in the window that are alike. Where they are in several mappings they are in one then. With the lock. */
-static struct window_result give_up(struct window *window, size_t first, size_t count) {
+/* Gives up pages in the window, of one kind. Where they are in several mappings they are in one then. With the lock. */
+static struct window_result give_up(struct window *window, const struct pageshare_window_run *run) {
     const struct windows *windows = window->windows;
+    const size_t first = run->first, count = run->count;
+    const bool are_over = run->kind == PAGESHARE_WINDOW_KIND_IN_FRAMES;
     /* (what is mapped anew the caller's own userfaultfd watches no more) */
-    if (is_over(&window->pages[first]) && is_watched_by_caller(window, first, count)) return result_of(WINDOW_WATCHED, EBUSY);
+    if (are_over && is_watched_by_caller(window, first, count)) return result_of(WINDOW_WATCHED, EBUSY);
     unsigned by = pageshare_window_given_up_by(TABLES(window), first, count, windows->is_watched);
     bool is_anew = (by & PAGESHARE_WINDOW_BY_ZEROS) != 0 && map_pages(window, first, count, ZEROS, PROT_READ | PROT_WRITE) == 0;
     bool are_cleared = (by & PAGESHARE_WINDOW_BY_CLEARING) != 0 && !is_anew;
@@ -84,12 +86,12 @@ static int find_left(const struct window *window, size_t page, size_t most, stru
     return 0;
 }
 
-static struct window_result give_up_all_left(struct window *window, size_t first, size_t count) {
+static struct window_result give_up_all_left(struct window *window, const struct pageshare_window_run *run) {
     struct window_result result = result_of(WINDOW_OK, 0);
     struct mapping_facts facts = {.pages = 0};
-    for (size_t done = 0; done < count && result.status == WINDOW_OK; done += facts.pages) {
-        int cause = find_left(window, first + done, count - done, &facts);
-        result = cause == 0 ? give_up_left(window, first + done, &facts) : result_of(WINDOW_NO_MAPPING, cause);
+    for (size_t done = 0; done < run->count && result.status == WINDOW_OK; done += facts.pages) {
+        int cause = find_left(window, run->first + done, run->count - done, &facts);
+        result = cause == 0 ? give_up_left(window, run->first + done, &facts) : result_of(WINDOW_NO_MAPPING, cause);
     }
     return result;
 }
@@ -108,12 +110,9 @@ struct window_result for_parts(struct window *window, size_t first, size_t count
 
 static struct window_result discard_part(struct window *window, size_t first, size_t count) {
     struct window_result result = may_give_up(window, first, count) ? result_of(WINDOW_OK, 0) : result_of(WINDOW_STUCK, EBUSY);
-    for (size_t done = 0, run = 0; done < count && result.status == WINDOW_OK; done += run) {
-        run = alike(window, first + done, count - done);
-        if (!is_here(window, first + done)) continue;
-        result = is_out(&window->pages[first + done]) ? give_up_all_left(window, first + done, run)
-                                                      : give_up(window, first + done, run);
-    }
+    struct pageshare_window_run run = {.first = first};
+    while (result.status == WINDOW_OK && go_to_run(window, &run, first + count, ITS))
+        result = run.kind == PAGESHARE_WINDOW_KIND_LEFT ? give_up_all_left(window, &run) : give_up(window, &run);
     return result;
 }
 
@@ -124,8 +123,7 @@ struct window_result window_discard(struct window *window, size_t first, size_t 
 
 size_t window_run(struct window *window, size_t first, size_t most, bool *is_its) {
     lock_set(window->windows);
-    *is_its = is_here(window, first);
-    size_t count = pageshare_window_here(window->pages + first, most);
+    size_t count = run_of_its(window, first, most, is_its);
     unlock_set(window->windows);
     return count;
 }
@@ -214,32 +212,23 @@ static int bring_home(struct home *home) {
     return cause;
 }
 
-/* Whether a page is in the window and lies over a frame. */
-static bool is_in_frames(const struct window *window, size_t page) {
-    return is_over(&window->pages[page]) && !is_out(&window->pages[page]);
-}
-
 /* Gives pages that come home by that, at most PART, a copy of their own where they are. Returns 0 or an errno. */
-static int copy_in_place(struct window *window, size_t first, size_t count) {
-    if (madvise(address_of(window, first), bytes_of(count), MADV_POPULATE_WRITE) < 0) return errno;
-    pageshare_window_copied_home(TABLES(window), first, count);
-    for (size_t page = first; page < first + count; page++)
+static int copy_in_place(struct window *window, const struct pageshare_window_run *run) {
+    if (madvise(address_of(window, run->first), bytes_of(run->count), MADV_POPULATE_WRITE) < 0) return errno;
+    pageshare_window_copied_home(TABLES(window), run->first, run->count);
+    for (size_t page = run->first; page < run->first + run->count; page++)
         trace_copy(window->windows->trace, window->base + (uint32_t)page, address_of(window, page));
-    window->windows->counts.taken_home += count;
+    window->windows->counts.taken_home += run->count;
     return 0;
 }
 
 /* What may show frames still gets a copy of its own there. (A write to what is one already might wait for the monitor's own userfaultfd.) */
 static struct window_result settle_home(struct window *window, size_t first, size_t count) {
-    bool come[PART];
+    struct pageshare_window_run run = {.first = first};
     int cause = 0;
     order_home(window, first, count, &(struct pageshare_window_facts){.pinned = true});
-    pageshare_window_find_coming(TABLES(window), first, come, count);
-    for (size_t i = 0, end = 0; i < count && cause == 0; i = end) {
-        for (end = i + 1; end < count && come[end] == come[i]; end++) {
-        }
-        if (come[i]) cause = copy_in_place(window, first + i, end - i);
-    }
+    while (cause == 0 && go_to_run(window, &run, first + count, PAGESHARE_WINDOW_KIND_COMING))
+        cause = copy_in_place(window, &run);
     pageshare_window_refused_home(TABLES(window), first, count);
     return cause == 0 ? result_of(WINDOW_OK, 0) : result_of(WINDOW_NO_MAPPING, cause);
 }
@@ -255,15 +244,15 @@ struct window_result take_home(struct window *window, size_t first, size_t count
 
 struct window_result take_home_for(struct window *window, size_t first, size_t count, struct pageshare_window_facts why) {
     struct windows *windows = window->windows;
-    for (size_t done = 0, run = 0; done < count; done += run) {
-        run = least(alike(window, first + done, count - done), HOME_MOST);
-        if (!is_in_frames(window, first + done)) continue;
-        struct home home = {.window = window, .first = first + done, .count = run, .why = &why};
-        order_home(window, home.first, run, &why);
+    struct pageshare_window_run run = {.first = first};
+    while (go_to_run(window, &run, first + count, PAGESHARE_WINDOW_KIND_IN_FRAMES)) {
+        run.count = least(run.count, HOME_MOST);
+        struct home home = {.window = window, .first = run.first, .count = run.count, .why = &why};
+        order_home(window, run.first, run.count, &why);
         int cause = bring_home(&home);
-        pageshare_window_refused_home(TABLES(window), home.first, run);
+        pageshare_window_refused_home(TABLES(window), run.first, run.count);
         if (windows->stuck_count > 0) return result_of(WINDOW_STUCK, cause);
-        struct window_result result = settle_home(window, first + done, run);
+        struct window_result result = settle_home(window, run.first, run.count);
         if (result.status != WINDOW_OK) return result;
     }
     return may_go_on(window, first, count, why) ? result_of(WINDOW_OK, 0) : result_of(WINDOW_STUCK, EBUSY);
@@ -290,10 +279,9 @@ void take_all_home(struct windows *windows) {
 }
 
 void end_advice(struct window *window, size_t first, size_t count) {
-    for (size_t done = 0, run = 0; done < count; done += run) {
-        run = alike(window, first + done, count - done);
-        if (is_over(&window->pages[first + done]) || is_out(&window->pages[first + done])) continue;
-        int cause = advice_end(&window->found, address_of(window, first + done), run);
+    struct pageshare_window_run run = {.first = first};
+    while (go_to_run(window, &run, first + count, PAGESHARE_WINDOW_KIND_OWN)) {
+        int cause = advice_end(&window->found, address_of(window, run.first), run.count);
         if (cause != 0) window->windows->advice_cause = cause;
     }
 }
@@ -318,7 +306,8 @@ struct window_result window_leave(struct window *window, size_t first, size_t co
     if (!is_in(window, first, count)) return result_of(WINDOW_BAD_RANGE, EINVAL);
     struct window_result result = for_parts(window, first, count, cut_part);
     lock_set(window->windows);
-    for (size_t page = first; page < first + count; page++) found += is_over(&window->pages[page]) ? 1 : 0;
+    struct pageshare_window_run run = {.first = first};
+    while (go_to_run(window, &run, first + count, OVER_FRAMES)) found += run.count;
     unlock_set(window->windows);
     if (kept != NULL) *kept = found;
     return result;
@@ -326,7 +315,9 @@ struct window_result window_leave(struct window *window, size_t first, size_t co
 
 void window_forget(struct window *window, size_t first, size_t count) {
     struct windows *windows = window->windows;
-    for (size_t page = first; page < first + count; page++)
-        if (is_here(window, page)) trace_discard(windows->trace, window->base + (uint32_t)page);
+    struct pageshare_window_run run = {.first = first};
+    while (go_to_run(window, &run, first + count, ITS))
+        for (size_t page = run.first; page < run.first + run.count; page++)
+            trace_discard(windows->trace, window->base + (uint32_t)page);
     pageshare_window_unmap(TABLES(window), first, count);
 }

@@ -409,8 +409,7 @@ static void say_unsaid(struct window *window, struct unsaid *unsaid) {
 static void add_unsaid(struct window *window, struct unsaid *unsaid, size_t first, size_t count) {
     enum { APART_MOST = 16 /* a call takes as long as so many pages more */ };
     bool is_near = unsaid->end > unsaid->first && first >= unsaid->end && first - unsaid->end <= APART_MOST;
-    for (size_t page = unsaid->end; is_near && page < first; page++) is_near = !is_out(&window->pages[page]);
-    if (!is_near) {
+    if (!is_near || has_kind(window, unsaid->end, first, PAGESHARE_WINDOW_KIND_LEFT | PAGESHARE_WINDOW_KIND_GONE)) {
         say_unsaid(window, unsaid);
         unsaid->first = first;
     }

@@ -150,10 +150,9 @@ static void trace_part(struct window *window, size_t first, size_t count) {
  */
 static void make_ready(struct window *window, size_t first, size_t count, size_t *left) {
     if (first + count <= window->ready || first > window->ready || *left == 0 || window->ended) return;
-    for (size_t done = 0, run = 0; done < count; done += run) {
-        run = alike(window, first + done, count - done);
-        if (!is_here(window, first + done)) continue;
-        int cause = advice_say(address_of(window, first + done), run, MADV_UNMERGEABLE);
+    struct pageshare_window_run run = {.first = first};
+    while (go_to_run(window, &run, first + count, ITS)) {
+        int cause = advice_say(address_of(window, run.first), run.count, MADV_UNMERGEABLE);
         if (cause != 0) window->windows->advice_cause = cause;
         if (cause != 0) return; /* (a later look says it again) */
     }

@@ -87,8 +87,28 @@ void note_zero(struct window *window, size_t number, bool is_zero) {
 
 /* ---- what lies at pages' places ---- */
 
-size_t alike(const struct window *window, size_t first, size_t most) {
-    return pageshare_window_alike(window->pages + first, most);
+bool go_to_run(const struct window *window, struct pageshare_window_run *run, size_t end, uint8_t kinds) {
+    return pageshare_window_next_run(TABLES(window), run->first + run->count, end, kinds, run);
+}
+
+bool has_kind(const struct window *window, size_t first, size_t end, uint8_t kinds) {
+    struct pageshare_window_run run = {.first = first};
+    return go_to_run(window, &run, end, kinds);
+}
+
+bool has_kind_between(const struct window *window, const uint8_t *begin, const uint8_t *end, uint8_t kinds) {
+    const uint8_t *at = window->at, *stop = address_of(window, window->count);
+    if (window->ended || begin >= stop || end <= at) return false;
+    size_t first = begin > at ? (size_t)(begin - at) / WINDOW_PAGE_BYTES : 0;
+    size_t behind = end < stop ? ((size_t)(end - at) + WINDOW_PAGE_BYTES - 1) / WINDOW_PAGE_BYTES : window->count;
+    return has_kind(window, first, behind, kinds);
+}
+
+size_t run_of_its(const struct window *window, size_t first, size_t most, bool *is_its) {
+    struct pageshare_window_run other = {.first = first};
+    *is_its = has_kind(window, first, first + 1, ITS);
+    const bool ends = go_to_run(window, &other, first + most, *is_its ? PAGESHARE_WINDOW_KIND_GONE : ITS);
+    return ends ? other.first - first : most;
 }
 
 size_t mappings_of(const struct window *window, size_t first, size_t count) {

@@ -264,13 +264,23 @@ struct pageshare_window_facts {
 /* A page was given back as zeros and has no memory; or it has memory. Nothing is noted of a page over a frame. */
 void pageshare_window_give_back(struct pageshare_window_page *page, struct pageshare_window_counts *part, bool is_zeros);
 
-/*
- * How many of these pages, from the first one on,
- *   are over frames or not, and have left the window or not, as the first is and has;
- *   are the window's (a frame lies under them still, or they haven't left it), or aren't, as the first.
- */
-size_t pageshare_window_alike(const struct pageshare_window_page *pages, size_t count);
-size_t pageshare_window_here(const struct pageshare_window_page *pages, size_t count);
+/* Kinds of pages. Each page is of one of the first four, by its place. */
+enum pageshare_window_kind {
+    PAGESHARE_WINDOW_KIND_OWN = 1,       /* it is in the window, and has memory of its own */
+    PAGESHARE_WINDOW_KIND_IN_FRAMES = 2, /* it is in the window, and a frame lies under it */
+    PAGESHARE_WINDOW_KIND_LEFT = 4, /* it has left the window, and a frame lies under it still: a discard mustn't uncover it */
+    PAGESHARE_WINDOW_KIND_GONE = 8, /* it has left the window, and no frame lies under it: it is the caller's alone */
+    PAGESHARE_WINDOW_KIND_COMING =
+        16, /* a copy where it is brings it home: its frame is to be shown no more, or of a lender that is gone */
+    PAGESHARE_WINDOW_KIND_LEFT_OVER = 32 /* it has a copy of its own over a frame, and was asked about in vain most often */
+};
+
+/* Pages in a row, of one kind. */
+struct pageshare_window_run {
+    size_t first; /* the number of the first one */
+    size_t count;
+    uint8_t kind; /* enum pageshare_window_kind */
+};
 
 /* ---- tables of a window's pages ---- */
 
@@ -316,6 +326,14 @@ struct pageshare_window_tables {
 };
 
 /*
+ * Finds the next run of pages of these kinds, a sum of them: it begins with the first such page from `first` on and before `end`, and goes on as long
+ * as pages before `end` are of the same kind. A page that is COMING or LEFT_OVER counts as that where it is looked for, and else as it lies. Returns
+ * false, and leaves `run` as it is, if there is none.
+ */
+bool pageshare_window_next_run(const struct pageshare_window_tables *tables, size_t first, size_t end, uint8_t kinds,
+                               struct pageshare_window_run *run);
+
+/*
  * Of `count` pages from `first` on. Each returns false if they aren't all there.
  *
  * Whether a call of the monitor may go on by each of them, of which `why` is so from then on: no write to any of them waits, and none that must
@@ -350,14 +368,13 @@ bool pageshare_window_give_up(struct pageshare_window_tables *tables, size_t fir
 bool pageshare_window_leave(struct pageshare_window_tables *tables, size_t first, size_t count);
 /*
  * `count` pages from `first` on get memory of their own in place of frames. Each returns false, and changes nothing, if they aren't all there, or,
- * but for the two that find something, if the table has more pages than its parts.
+ * but for find_staying, if the table has more pages than its parts.
  *
  *   order_home: those that show their frames get the order to. `why` is so of them besides.
  *   find_staying: which of them stay where they are while writes to them wait: they are to get their copy there, or have one that a device may
  *     hold. `copies` says before whether each has memory of its own, and then whether it stays.
  *   moved_home: it was moved there. If a page was to get it, that was done. What looks have found of it counts no more.
- *   find_coming, copied_home: they get a copy where they are. That brings those of the window home that are found; `found` says of each whether it is
- *     one. None shows a frame of a lender that is gone any more.
+ *   copied_home: they got a copy where they are, which brings those home that are COMING. None shows a frame of a lender that is gone any more.
  *   refused_home: those that were to get memory of their own get none.
  */
 bool pageshare_window_order_home(struct pageshare_window_tables *tables, const struct pageshare_window_facts *why, size_t first,
@@ -365,16 +382,13 @@ bool pageshare_window_order_home(struct pageshare_window_tables *tables, const s
 bool pageshare_window_find_staying(const struct pageshare_window_tables *tables, const struct pageshare_window_facts *why,
                                    size_t first, bool *copies, size_t count);
 bool pageshare_window_moved_home(struct pageshare_window_tables *tables, size_t first, size_t count);
-bool pageshare_window_find_coming(const struct pageshare_window_tables *tables, size_t first, bool *found, size_t count);
 bool pageshare_window_copied_home(struct pageshare_window_tables *tables, size_t first, size_t count);
 bool pageshare_window_refused_home(struct pageshare_window_tables *tables, size_t first, size_t count);
 
 /*
- * Under which of these pages a frame lies. And memory with what they contained was moved to their places at once: what looks have found of those over
- * frames counts no more, and all have memory of their own. `*mappings` changes as above. Each returns false, and changes nothing, as those do.
+ * Memory with what these pages contained was moved to their places at once: what looks have found of those over frames counts no more, and all have
+ * memory of their own. `*mappings` changes as above. Returns false, and changes nothing, as those do.
  */
-bool pageshare_window_find_over(const struct pageshare_window_page *pages, size_t pages_count, size_t first, bool *found,
-                                size_t count);
 bool pageshare_window_one_memory(struct pageshare_window_tables *tables, size_t first, size_t count);
 
 /* What came of an attempt to hold a page. */
@@ -483,13 +497,13 @@ size_t pageshare_window_mappings_new(const struct pageshare_window_part *parts, 
  */
 bool pageshare_window_has_room_for_zeros(const struct pageshare_window_tables *tables, size_t first, size_t count);
 
-/* How alike pages are given up whose memory isn't given back at their places. */
+/* How pages of one kind are given up whose memory isn't given back at their places. */
 enum {
     PAGESHARE_WINDOW_BY_ZEROS = 1,   /* zeros are mapped there, */
     PAGESHARE_WINDOW_BY_CLEARING = 2 /* and what can't be so is cleared */
 };
 /*
- * Returns how `count` alike pages from `first` on are given up. With 0, or where only zeros could be mapped and the system refuses it, their memory is
+ * Returns how `count` pages of one kind from `first` on are given up. With 0, or where only zeros could be mapped and the system refuses it, their memory is
  * given back. `is_watched`: others watch the memory, and would miss what is mapped there.
  */
 uint8_t pageshare_window_given_up_by(const struct pageshare_window_tables *tables, size_t first, size_t count, bool is_watched);
@@ -661,8 +675,6 @@ bool pageshare_window_follow_changes(struct pageshare_window_tables *tables, con
 /* The numbers that say where glances look at the pages at these places, counted from `first` on. A glance is a number below 32,768. */
 void pageshare_window_glance_numbers(const struct pageshare_window_tables *tables, size_t first, const uint16_t *places,
                                      size_t places_count, uint64_t *numbers, size_t numbers_count);
-/* How many pages from the first on have copies of their own over frames, and were asked about in vain most often; or, if `are` is false, haven't. */
-size_t pageshare_window_left_over(const struct pageshare_window_page *pages, size_t count, bool are);
 /* A page is to be asked about at once; or it was to be held, and was, or wasn't. */
 void pageshare_window_ask_at_once(struct pageshare_window_page *page, struct pageshare_window_counts *part);
 void pageshare_window_held(struct pageshare_window_page *page, struct pageshare_window_counts *part, bool was_held);

@@ -57,7 +57,7 @@ int window_say_huge(struct window *window, size_t first, size_t count, bool may)
     for (size_t page = first, run = 0; page < first + count; page += run) {
         run = rest_of_part(window, page);
         if (run > first + count - page) run = first + count - page;
-        bool is_said = is_here(window, page) && (!may || (run == PART && part_of(window, page)->whole));
+        bool is_said = has_kind(window, page, page + 1, ITS) && (!may || (run == PART && part_of(window, page)->whole));
         int refused = is_said ? advice_say(address_of(window, page), run, may ? MADV_HUGEPAGE : MADV_NOHUGEPAGE) : 0;
         if (refused != 0) cause = refused;
     }
@@ -86,10 +86,9 @@ static void set_whole(struct window *window, size_t first, bool is_whole) {
 static void split(struct window *window, size_t first, bool is_huge) {
     int cause = 0;
     /* (what has left the window is the monitor's) */
-    for (size_t page = first, end = 0; page < first + PART && cause == 0; page = end) {
-        end = page + alike(window, page, first + PART - page);
-        if (!is_out(&window->pages[page])) cause = advice_split(address_of(window, page), end - page, is_huge);
-    }
+    struct pageshare_window_run run = {.first = first};
+    while (cause == 0 && go_to_run(window, &run, first + PART, IN_WINDOW))
+        cause = advice_split(address_of(window, run.first), run.count, is_huge);
     if (cause != 0) {
         window->windows->advice_cause = cause;
         return;
@@ -140,15 +139,14 @@ static int guard_part(struct window *window, size_t first) {
 /* Notes that all pages of a part have memory of their own, in one mapping. */
 static void note_one_memory(struct window *window, size_t first) {
     struct windows *windows = window->windows;
-    bool were_over[PART];
-    pageshare_window_find_over(window->pages, window->count, first, were_over, PART);
+    struct pageshare_window_run run = {.first = first};
+    while (go_to_run(window, &run, first + PART, OVER_FRAMES)) {
+        windows->counts.taken_home += run.count;
+        for (size_t page = run.first; page < run.first + run.count; page++)
+            trace_copy(windows->trace, window->base + (uint32_t)page, address_of(window, page));
+    }
     pageshare_window_one_memory(TABLES(window), first, PART);
     note_cleared(window, first, PART, false);
-    for (size_t i = 0; i < PART; i++) {
-        if (!were_over[i]) continue;
-        windows->counts.taken_home++;
-        trace_copy(windows->trace, window->base + (uint32_t)(first + i), address_of(window, first + i));
-    }
 }
 
 /*

@@ -178,11 +178,6 @@ static inline struct pageshare_window_look look_now(const struct windows *window
                                           .rest_most = windows->config.tuning.rest_most};
 }
 
-/* Whether a page is the window's: no other may be touched. */
-static inline bool is_here(const struct window *window, size_t page) {
-    return !is_out(&window->pages[page]) || is_over(&window->pages[page]);
-}
-
 /* Whether anything of a window may be lent. A child of a fork would go on showing frames that are released. With the lock. */
 static inline bool can_lend(const struct window *window) {
     const struct windows *windows = window->windows;
@@ -220,6 +215,24 @@ void note_failure(struct windows *windows, enum window_status status, int cause)
 size_t mappings_of(const struct window *window, size_t first, size_t count);
 
 /* ---- what the library decides of pages. All with the lock ---- */
+
+/* Pages by how they lie: sums of enum pageshare_window_kind. */
+enum {
+    IN_WINDOW = PAGESHARE_WINDOW_KIND_OWN | PAGESHARE_WINDOW_KIND_IN_FRAMES,
+    OVER_FRAMES = PAGESHARE_WINDOW_KIND_IN_FRAMES | PAGESHARE_WINDOW_KIND_LEFT,
+    ITS = IN_WINDOW | PAGESHARE_WINDOW_KIND_LEFT /* the window's: no other may be touched */
+};
+/*
+ * Goes on to the next run of pages of these kinds, behind `run` and before page `end`. Returns false if there is none. To begin with a page, a run of
+ * no pages is passed whose first one it is.
+ */
+bool go_to_run(const struct window *window, struct pageshare_window_run *run, size_t end, uint8_t kinds);
+/* Whether there is a page of these kinds, from `first` on and before `end`. */
+bool has_kind(const struct window *window, size_t first, size_t end, uint8_t kinds);
+/* Whether there is one between two addresses, if the window hasn't ended. */
+bool has_kind_between(const struct window *window, const uint8_t *begin, const uint8_t *end, uint8_t kinds);
+/* How many pages from `first` on, of at most `most`, are all the window's or all not; and which. */
+size_t run_of_its(const struct window *window, size_t first, size_t most, bool *is_its);
 
 /* A window's tables and what is so of it and its process, as the library takes them. That stays so while the lock is held. */
 struct pageshare_window_tables tables_of(const struct window *window);
@@ -314,9 +327,6 @@ void follow_limit(struct windows *windows);
 
 /* Frees a window's tables. */
 void free_window(struct window *window);
-
-/* How many pages from `first` on, of at most `most`, are in the window, or not, and over frames, or not, as the first one is. */
-size_t alike(const struct window *window, size_t first, size_t most);
 
 /*
  * Gives pages, at most PART, memory of their own in place of frames and of copies of frames. A copy that a device may have pinned stays

@@ -75,12 +75,8 @@ static bool has_page_between(void *set, const uint8_t *begin, const uint8_t *end
     struct windows *windows = set;
     bool has = false;
     lock_for_look(windows);
-    for (struct window *window = windows->first; window != NULL && !has; window = window->next) {
-        const uint8_t *at = window->at, *stop = address_of(window, window->count);
-        if (window->ended || begin >= stop || end <= at) continue;
-        size_t page = begin > at ? (size_t)(begin - at) / WINDOW_PAGE_BYTES : 0;
-        for (; page < window->count && address_of(window, page) < end && !has; page++) has = !is_out(&window->pages[page]);
-    }
+    for (struct window *window = windows->first; window != NULL && !has; window = window->next)
+        has = has_kind_between(window, begin, end, IN_WINDOW);
     unlock_set(windows);
     return has;
 }
@@ -249,13 +245,11 @@ static bool end(struct look *look) {
 static size_t find_left_over(const struct window *window, size_t part, size_t *at) {
     enum { ROW_LEAST = 8 };
     const size_t first = part == 0 ? 0 : part * PART - window->lead, end = first + rest_of_part(window, first);
-    for (*at = first; *at < end;) {
-        *at += pageshare_window_left_over(window->pages + *at, end - *at, false);
-        const size_t count = least(pageshare_window_left_over(window->pages + *at, end - *at, true), HOME_MOST);
-        if (count >= ROW_LEAST) return count;
-        *at += count;
-    }
-    return 0;
+    struct pageshare_window_run run = {.first = first};
+    while (run.count < ROW_LEAST)
+        if (!go_to_run(window, &run, end, PAGESHARE_WINDOW_KIND_LEFT_OVER)) return 0;
+    *at = run.first;
+    return least(run.count, HOME_MOST);
 }
 
 /*

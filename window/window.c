@@ -33,10 +33,7 @@ static struct window_result find_numbers(const struct windows *windows, struct w
 static bool meets_other(const struct windows *windows, const uint8_t *at, size_t pages) {
     const uint8_t *end = at + bytes_of(pages);
     for (const struct window *window = windows->first; window != NULL; window = window->next) {
-        if (window->ended || at >= address_of(window, window->count) || end <= window->at) continue;
-        size_t page = at > window->at ? (size_t)(at - window->at) / WINDOW_PAGE_BYTES : 0;
-        for (; page < window->count && address_of(window, page) < end; page++)
-            if (is_here(window, page)) return true;
+        if (has_kind_between(window, at, end, ITS)) return true;
     }
     return false;
 }
@@ -168,9 +165,8 @@ static void set_ends(struct window *window, bool ends) {
 
 /* Whether frames lie under pages of a window, or of those that have left it. Takes the lock. */
 static bool has_frames(struct window *window) {
-    bool has = false;
     lock_set(window->windows);
-    for (size_t page = 0; page < window->count && !has; page++) has = is_over(&window->pages[page]);
+    const bool has = has_kind(window, 0, window->count, OVER_FRAMES);
     unlock_set(window->windows);
     return has;
 }
@@ -201,8 +197,9 @@ struct window_result window_free(struct window *window, enum window_end end) {
 static int say_everywhere(struct window *window, int advice) {
     int cause = 0;
     for (size_t page = 0, run = 0; page < window->count; page += run) {
-        run = pageshare_window_here(window->pages + page, window->count - page);
-        if (is_here(window, page) && madvise(address_of(window, page), bytes_of(run), advice) < 0 && cause == 0) cause = errno;
+        bool is_its = false;
+        run = run_of_its(window, page, window->count - page, &is_its);
+        if (is_its && madvise(address_of(window, page), bytes_of(run), advice) < 0 && cause == 0) cause = errno;
     }
     return cause;
 }

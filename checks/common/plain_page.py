@@ -228,6 +228,17 @@ class Page:
         """A copy in its place brings it home to its window."""
         return not self.out and (self.belief in HOMES or self.shows_past())
 
+    def is_left_over(self) -> bool:
+        """It has a copy of its own over a frame of this lender, in its window, and was asked about in vain most often."""
+        is_copy = self.over and not self.out and not self.same and self.belief == PRIVATE
+        return is_copy and (self.looks, self.asks) == (3, 3)
+
+    def counts_as(self, kinds: int) -> int:
+        """The number of its kind, of those in this sum: 32 if it is left over, 16 if it comes home, and else by its place. 0: of none."""
+        place = (4 if self.over else 8) if self.out else 2 if self.over else 1
+        kind = 32 if kinds & 32 and self.is_left_over() else 16 if kinds & 16 and self.comes_home() else place
+        return kinds & kind
+
     def order_home(self, facts: Facts) -> None:
         """It gets its order, if it shows its frame."""
         if self.belief in SHOWING:

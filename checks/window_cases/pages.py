@@ -145,9 +145,6 @@ class Table:
     def one_memory(self, first: int, count: int) -> None:
         """Memory with what pages contained is moved to their places. Their lenders hear that, and those over frames are forgotten."""
         known = self.known[first : first + count]
-        found = self.library.array("bool", [False] * count)
-        self.seen.holds("find_over", self.library.call("find_over", self.pages, PAGES, first, found, count))
-        self.seen.equal("over", values_of(found)[:count], tuple(page.over for page in known))
         self.call_kept("one_memory", first, count)
         for behind, page in enumerate(known):
             if page.over:
@@ -195,7 +192,7 @@ class Table:
                 getattr(page, name)()
 
     def ask_home(self, first: int, count: int) -> None:
-        """Which pages stay where they are, and which come home where they are."""
+        """Which pages stay where they are."""
         given, facts_of = self.some_table()
         why, is_there = some_facts(self.chance), first + count <= PAGES
         were = [self.chance.random() < 0.5 for _ in range(count)]
@@ -203,10 +200,6 @@ class Table:
         said = self.library.call("find_staying", self.tables(**given), self.facts(why), first, found, count)
         due = [self.known[first + at].stays(facts_of(first + at, why), was) for at, was in enumerate(were)] if is_there else were
         self.seen.equal("find_staying", (said, values_of(found)[:count]), (is_there, tuple(due)))
-        found = self.library.array("bool", were)
-        said = self.library.call("find_coming", self.tables(), first, found, count)
-        due = [self.known[first + at].comes_home() for at in range(count)] if is_there else were
-        self.seen.equal("find_coming", (said, values_of(found)[:count]), (is_there, tuple(due)))
 
     def ask(self, first: int, count: int) -> None:
         """What changes nothing, of pages in a row."""
@@ -221,14 +214,16 @@ class Table:
         self.seen.equal("may_give_up", library.call("may_give_up", tables, first, count), due)
 
     def ask_runs(self) -> None:
-        """How far what is so of the first page goes on."""
-        first = self.known[0]
-        here = [not it.out or it.over for it in self.known]
-        for name, due in (
-            ("alike", [(it.over, it.out) == (first.over, first.out) for it in self.known]),
-            ("here", [it == here[0] for it in here]),
-        ):
-            self.seen.equal(name, self.library.call(name, self.pages, PAGES), [*due, False].index(False))
+        """The next run of pages of some kinds."""
+        chance, run = self.chance, self.library.array("run", [(98, 99, 97)])[0]
+        kinds = chance.choice([chance.randrange(64), 7, 15, 1 << chance.randrange(6)])
+        first, end, due = chance.randrange(PAGES), chance.randrange(PAGES + 3), (98, 99, 97)
+        numbers = [page.counts_as(kinds) for page in self.known[:end]]
+        begins = next((at for at in range(first, len(numbers)) if numbers[at]), None)
+        if begins is not None:
+            due = (begins, [*[it == numbers[begins] for it in numbers[begins:]], False].index(False), numbers[begins])
+        self.seen.equal("next_run", self.library.call("next_run", self.tables(), first, end, kinds, run), begins is not None)
+        self.seen.equal("its run", values_of(run), due)
 
     def some_parts(self) -> tuple[Any, list[bool]]:
         """Two parts, of which some are whole, and which."""

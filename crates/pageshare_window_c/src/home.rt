@@ -3,7 +3,7 @@ ghost use Rattle.std.specs.Prelude.{◌≡◌, ◌+◌, ◌||◌, false, length,
 ghost use Rattle.pageshare_window_c.specs.Rooms.{given_up_by, has_room};
 ghost use Rattle.page_lender.specs.declared.order.Outcome.TheVariants as Outcome;
 ghost use Rattle.window_tables.specs.Facts.{facts_at};
-ghost use Rattle.window_tables.specs.Homes.{Answers, Changes, HasMoved, IsCalled, IsCopied, IsHome, OneMemory, comes_home_at, over_at, stays_at};
+ghost use Rattle.window_tables.specs.Homes.{Answers, Changes, HasMoved, IsCalled, IsCopied, IsHome, OneMemory, stays_at};
 ghost use Rattle.window_tables.specs.Mappings.{IsSet, is_part, kept_then, mappings_at};
 ghost use Rattle.window_tables.specs.Ranges.{has_pages};
 ghost use Rattle.window_tables.specs.Rooms.{are_alone};
@@ -15,9 +15,7 @@ use crate::WindowTables;
 use look_tasks::room::fits;
 use page_looks::parts::Part;
 use window_pages::{WindowFacts, WindowPage};
-use window_tables::homes::{
-    copied, find_coming, find_over, find_staying, moved, one_memory, order, refused,
-};
+use window_tables::homes::{copied, find_staying, moved, one_memory, order, refused};
 use window_tables::rooms::{lies_over, wants_zeros, zeros_more};
 use window_tables::{put_zeros, set_whole};
 
@@ -59,21 +57,6 @@ pub extern "C" fn pageshare_window_find_staying(
     ensures same { result ≡ false → copies.new ≡ copies.old }
 {
     find_staying(tables.pages, &tables.facts, tables.pins, why, first, copies)
-}
-
-/// Finds which pages of the window come home by a copy where they are: they show a frame that they are to show no more, or one of a lender that is
-/// gone. Returns false, and finds nothing, if they aren't all there.
-#[unsafe(no_mangle)]
-pub extern "C" fn pageshare_window_find_coming(
-    tables: &WindowTables<'_>,
-    first: usize,
-    found: &mut [bool],
-) -> bool
-    ensures there { result ≡ has_pages first (length found.old) tables.now.pages.now }
-    ensures found { result ≡ true → Answers comes_home_at first (length found.old) tables.now.pages.now found.old found.new }
-    ensures same { result ≡ false → found.new ≡ found.old }
-{
-    find_coming(tables.pages, first, found)
 }
 
 /// Learns that other memory was moved to the places of so many pages. What looks have found of them counts no more. Returns false, and learns
@@ -204,20 +187,6 @@ pub extern "C" fn pageshare_window_set_whole(
     ensures same_parts { result ≡ false → parts.new ≡ parts.old }
 {
     set_whole(pages, parts, lead, first, is_whole, mappings)
-}
-
-/// Finds under which pages a frame lies. Returns false, and finds nothing, if they aren't all there.
-#[unsafe(no_mangle)]
-pub extern "C" fn pageshare_window_find_over(
-    pages: &[WindowPage],
-    first: usize,
-    found: &mut [bool],
-) -> bool
-    ensures there { result ≡ has_pages first (length found.old) pages.now }
-    ensures found { result ≡ true → Answers over_at first (length found.old) pages.now found.old found.new }
-    ensures same { result ≡ false → found.new ≡ found.old }
-{
-    find_over(pages, first, found)
 }
 
 /// Learns that memory with what so many pages contained was moved to their places at once, and how many mappings there are then. What looks have

@@ -6,15 +6,13 @@
 #![tactic(auto)]
 
 ghost use Rattle.std.specs.Prelude.{◌≡◌, ◌+◌, if◌then◌else◌, length, slice_get, true, false};
-ghost use Rattle.std.specs.List.{list_any, prefix_len};
-ghost use Rattle.std.specs.Option.{option_map_or};
+ghost use Rattle.std.specs.List.{list_any};
 ghost use Rattle.look_tasks.specs.Budgets.{begun, credited, paced};
 ghost use Rattle.look_tasks.specs.Chores.{again_at};
 ghost use Rattle.look_tasks.specs.Rooms.{fits, most_of};
 ghost use Rattle.offered_ranges.specs.Pieces.{IsFirst, meets};
 ghost use Rattle.offered_ranges.specs.Tables.{added, can_add, can_take_out, is_of, ranges_of, taken_out};
 ghost use Rattle.page_looks.specs.Parts.{order_of, part_then};
-ghost use Rattle.window_pages.specs.Runs.{is_here_as, lies_as};
 ghost use Rattle.pageshare_window_c.specs.Budgets.{ledger_of, rates};
 ghost use Rattle.window_pages.specs.Bytes.{known_of};
 ghost use Rattle.window_pages.specs.Changed.{Becomes, given_back};
@@ -31,6 +29,7 @@ mod numbers;
 mod part;
 mod pins;
 mod ranges;
+mod runs;
 mod scan;
 pub mod session;
 mod tables;
@@ -70,9 +69,10 @@ pub use pins::{
     pageshare_window_unpin,
 };
 pub use ranges::{pageshare_window_bounds, pageshare_window_is_all_left};
+pub use runs::pageshare_window_next_run;
 pub use scan::{
     pageshare_window_begin_scan, pageshare_window_follow_changes, pageshare_window_glance_numbers,
-    pageshare_window_left_over, pageshare_window_scan_done,
+    pageshare_window_scan_done,
 };
 pub use tables::{
     pageshare_window_are_movable, pageshare_window_cover, pageshare_window_detach,
@@ -88,10 +88,11 @@ pub use times::{
     pageshare_window_pause_ms,
 };
 pub use window::WindowTables;
+use window_pages::give_back;
 pub use window_pages::{PartCounts, WindowFacts, WindowPage};
-use window_pages::{alike, give_back, here};
 pub use window_tables::TableFacts;
 pub use window_tables::pins::Transfer;
+pub use window_tables::runs::PageRun;
 
 /// Begins a budget at these readings of the clocks: the time, and the processor time that the thread has used. A share is 1 to 100
 /// percent of one processor, and a burst is no less.
@@ -228,22 +229,6 @@ pub extern "C" fn pageshare_window_give_back(
     ensures { Becomes (given_back is_zeros (known_of page.old)) false page.old page.new part.old part.new }
 {
     give_back(page, part, is_zeros);
-}
-
-/// Returns how many pages from the first on lie as it does: over frames or not, and in the window or not.
-#[unsafe(no_mangle)]
-pub extern "C" fn pageshare_window_alike(pages: &[WindowPage]) -> usize
-    ensures { result ≡ option_map_or (λ first. prefix_len (lies_as first) pages.now) (slice_get pages.now 0) 0 }
-{
-    alike(pages)
-}
-
-/// Returns how many pages from the first on are their window's, or aren't, as the first is.
-#[unsafe(no_mangle)]
-pub extern "C" fn pageshare_window_here(pages: &[WindowPage]) -> usize
-    ensures { result ≡ option_map_or (λ first. prefix_len (is_here_as first) pages.now) (slice_get pages.now 0) 0 }
-{
-    here(pages)
 }
 
 /// Returns the number of what is to be done with a part of a window after a look: 0 nothing, 1 it is split, 2 it is made whole. The caller

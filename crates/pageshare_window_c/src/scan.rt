@@ -1,7 +1,5 @@
 //! A scan of a part of a window, all its pages at once.
 ghost use Rattle.std.specs.Prelude.{◌≡◌, length};
-ghost use Rattle.std.specs.List.{prefix_len};
-ghost use Rattle.part_scans.specs.LeftOver.{is_left_as};
 ghost use Rattle.part_scans.specs.Scans.{AreNumbers, BeginsAt, FollowsAt, GoesOnAt, RowGoes, has_past};
 ghost use Rattle.window_tables.specs.Tables.{part_at};
 ghost use Rattle.pageshare_window_c.specs.Looks.{scan_of};
@@ -11,8 +9,7 @@ use crate::looks::config_of;
 use crate::{WindowLook, WindowTables};
 use page_looks::finds::FindOutcome;
 use page_looks::parts::Part;
-use part_scans::{Scan, begin, done, find_numbers, follow, left_over};
-use window_pages::WindowPage;
+use part_scans::{Scan, begin, done, find_numbers, follow};
 
 // Returns the scan of a part.
 fn scan_of(look: &WindowLook, part: &Part) -> Scan
@@ -123,13 +120,4 @@ pub extern "C" fn pageshare_window_glance_numbers(
     ensures { AreNumbers first tables.now.pages.now places.now numbers.old numbers.new }
 {
     find_numbers(tables.pages, first, places, numbers);
-}
-
-/// Returns how many pages from the first on have copies of their own over frames and were asked about in vain most often; or of how many that
-/// isn't so, if `are` is false.
-#[unsafe(no_mangle)]
-pub extern "C" fn pageshare_window_left_over(pages: &[WindowPage], are: bool) -> usize
-    ensures { result ≡ prefix_len (is_left_as are) pages.now }
-{
-    left_over(pages, are)
 }

@@ -1,3 +1,2 @@
-pub mod LeftOver
 pub mod Scans
 pub mod Seen

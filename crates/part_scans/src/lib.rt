@@ -3,7 +3,6 @@
 
 mod beside;
 mod glances;
-mod left;
 mod outcomes;
 mod scan;
 mod seen;
@@ -11,7 +10,6 @@ mod taking;
 
 pub use beside::follow;
 pub use glances::find_numbers;
-pub use left::left_over;
 pub use outcomes::done;
 pub use scan::Scan;
 pub use taking::begin;

@@ -1,5 +1,5 @@
--- How far what is so of the first of some pages goes on.
-use Rattle.std.specs.Prelude.{◌+◌, Bool, true, false, not, ◌&&◌, ◌||◌, ◌==◌}
+-- Pages in a row whose orders one call of the system can carry out.
+use Rattle.std.specs.Prelude.{◌+◌, Bool, true, false, not, ◌&&◌, ◌==◌}
 use Rattle.std.specs.Option.{option_map_or}
 use Rattle.page_lender.specs.Decisions.{equal_to}
 use Rattle.page_lender.specs.declared.belief.Belief.{Belief}
@@ -8,20 +8,10 @@ use Rattle.page_lender.specs.declared.belief.Target.TheVariants.{Frame, Zeros}
 use Rattle.window_pages.specs.Bytes.{belief_of, known_of}
 use Rattle.window_pages.specs.declared.page.WindowPage.{WindowPage}
 
+-- both are so, or neither
 abbrev pub same : Bool → Bool → Bool
 same true b = b
 same false b = not b
-
--- both are over frames or neither, and both have left the window or neither
-abbrev pub lies_as : WindowPage → WindowPage → Bool
-lies_as x y = same (known_of x).over (known_of y).over && same (known_of x).out (known_of y).out
-
--- the page is the window's
-abbrev pub is_here : WindowPage → Bool
-is_here x = not (known_of x).out || (known_of x).over
-
-abbrev pub is_here_as : WindowPage → WindowPage → Bool
-is_here_as x y = same (is_here x) (is_here y)
 
 -- the second is the frame behind the first, or both are zeros
 abbrev pub follows : Target → Target → Bool

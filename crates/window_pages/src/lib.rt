@@ -20,4 +20,3 @@ pub use place::{
     begin, cover, detach, forget, give_back, give_up, leave, see, stays, stop_past, uncover, unmap,
     write_notes,
 };
-pub use runs::{alike, here};

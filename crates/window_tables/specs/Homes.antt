@@ -139,11 +139,3 @@ pub record Answers (says : ℕ → Bool → WindowPage → Bool) (first count : 
 -- the page has to stay where it is, of which this was said: it has memory of its own
 abbrev pub stays_at : TableFacts → List ℕ → WindowFacts → ℕ → ℕ → Bool → WindowPage → Bool
 stays_at table pins why first n is_copy page = stays (facts_at table pins why (first + n)) is_copy (known_of page)
-
--- it comes home, whatever was there
-abbrev pub comes_home_at : ℕ → Bool → WindowPage → Bool
-comes_home_at n was page = comes_home page
-
--- a frame lies under it
-abbrev pub over_at : ℕ → Bool → WindowPage → Bool
-over_at n was page = (known_of page).over

@@ -7,5 +7,6 @@ pub mod PinLaws
 pub mod Pins
 pub mod Ranges
 pub mod Rooms
+pub mod Runs
 pub mod Tables
 pub mod Transfers

@@ -3,5 +3,6 @@ mod answers;
 mod home;
 mod steps;
 
-pub use answers::{find_coming, find_over, find_staying};
+pub use answers::find_staying;
 pub use home::{copied, moved, one_memory, order, refused};
+pub(crate) use steps::is_homing;

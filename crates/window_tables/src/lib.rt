@@ -12,6 +12,7 @@ mod mappings;
 mod parts;
 pub mod pins;
 pub mod rooms;
+pub mod runs;
 
 pub use ask::{are_movable, may_give_up, may_go_on};
 pub use changes::{Change, can_note, note};
