@@ -1,7 +1,7 @@
 """A host of VMM processes by its rules, as plain Python: sessions, slots, loans and frames.
 
-A page is the number of its content. Where the rules leave something open (which free slot or frame a page gets, and which machine of
-several that have its content), what the library chose is taken if it may be chosen.
+A page is the number of its content. A page that nobody has gets the lowest free frame of its machine. Where the rules leave something
+open (which free slot a page gets, and which machine of several that have its content), what the library chose is taken if it may be chosen.
 """
 from __future__ import annotations
 
@@ -216,7 +216,7 @@ class PlainHost:
 
     def lend_one(self, session: Session, content: int, given: Loan) -> Loan:
         """A page goes beside a frame with its content, where its machine has a free slot; else to the first machine with a free slot and
-        a free frame."""
+        a free frame, of which it gets the lowest."""
         slots = self.slots()
         has_slot = [sum(slot >> 32 == m for slot in slots) < SLOTS for m in range(MACHINES)]
         equal = [frame for frame, it in self.contents.items() if it == content and has_slot[frame // FRAMES]]
@@ -225,8 +225,9 @@ class PlainHost:
         if len(session.slots) >= QUOTA or not (equal or room):
             return NOT_LENT
         may_be = slot not in slots and slot % 2**32 < SLOTS and slot >> 32 == frame // FRAMES
-        if not may_be or not (frame in equal if equal else frame // FRAMES == room[0] and frame not in self.contents):
-            return (slot, equal[0] if equal else NO_FRAME - 1, 0)  # (no loan that may be)
+        frames = equal or [min(it for it in range(room[0] * FRAMES, (room[0] + 1) * FRAMES) if it not in self.contents)]
+        if not may_be or frame not in frames:
+            return (slot, frames[0], 0)  # (no loan that may be)
         session.slots[slot] = frame
         self.contents[frame] = content
         return (slot, frame, sum(it == frame for it in slots.values()) + 1)

@@ -1,6 +1,6 @@
 -- Slots may go to another thread, and be read by several, as what they hold may.
-use Rattle.std.proofs.Common.{ℕ, List, [], ◌∷◌, Bool, true, false}
-use base.Fml.{Fml, ftrue}
+use Rattle.std.proofs.Common.{List, [], ◌∷◌, Bool, true, false}
+use base.Fml.{Fml}
 use base.Shift.{Keyless}
 use mir.Syntax.{Ty}
 use denote.Param.Send.{IsSend, IsSync, AllSend, Common, owning_send, struct_send, struct_sync, sendable}

@@ -1,7 +1,7 @@
 //! Machine memory: frames of 4,096 bytes, numbered by machine page numbers (MPNs) below a fixed total.
 #![tactic(auto)]
 
-ghost use Rattle.std.specs.Prelude.{◌≡◌, ◌≢◌, ◌+◌, ◌≤◌, ◌<◌, ◌↔◌, ◌⊎◌, length, None, Some, IsNone};
+ghost use Rattle.std.specs.Prelude.{◌≡◌, ◌≢◌, ◌+◌, ◌≤◌, ◌<◌, ◌↔◌, ◌⊎◌, ℕ, length, None, Some, IsNone};
 ghost use Rattle.std.specs.Prelude.{IfNone, IfSome, IfOk, IfErr, slice_set, option_map};
 ghost use Rattle.page_model.specs.Pages.{blank, written};
 ghost use Rattle.machine_frames.specs.FrameMap.{frame, IsTaken, used, no_frames, IsPage};
@@ -18,6 +18,8 @@ use pages::Pages;
 use region::Memory;
 pub use region::Region;
 use std::alloc::{AllocError, Allocator, Global};
+use std::cmp::Reverse;
+use std::collections::BinaryHeap;
 use std::marker::Model;
 use thiserror::Error;
 
@@ -54,19 +56,20 @@ impl From<AllocError> for FramesFault {
 pub struct Frames<A: Allocator = Global> {
     // The page of each frame that was ever taken, by MPN, and room for the pages of all others.
     pages: Pages<A>,
-    // The frames that were given back.
-    free: Vec<u32, A>,
+    // The frames that were given back, the lowest first. Each of them is below all that were never taken.
+    free: BinaryHeap<Reverse<u32>, A>,
 }
 
 impl<A: Allocator> Model for Frames<A> {
-    ghost use Rattle.std.specs.Prelude.{◌≤◌, ℕ, List, Option, vec_capacity};
+    ghost use Rattle.std.specs.Prelude.{◌≤◌, ℕ, List, Option};
+    ghost use Rattle.std.specs.BinaryHeap.{heap_items, heap_capacity};
     ghost use Rattle.machine_frames.specs.Places.{frames_of, IsSound};
 
     ghost Value = { List (Option (List ℕ)) };
 
-    ghost view = { λ f. frames_of f.free.items f.pages };
+    ghost view = { λ f. frames_of (heap_items f.free) f.pages };
 
-    ghost invariant = { λ f. IsSound f.free.items f.pages × (f.pages.room ≤ vec_capacity f.free) };
+    ghost invariant = { λ f. IsSound (heap_items f.free) f.pages × (f.pages.room ≤ heap_capacity f.free) };
 }
 
 impl<A: Allocator> Frames<A> {
@@ -81,7 +84,7 @@ impl<A: Allocator> Frames<A> {
         if count == 0 || count > MAX_FRAMES {
             return Err(FramesFault::Frames);
         }
-        let free = Vec::with_capacity(alloc.clone()?, count as usize)?;
+        let free = BinaryHeap::with_capacity(alloc.clone()?, count as usize)?;
         let pages = Pages::new(alloc, count)?;
         Ok(Frames { pages, free })
     }
@@ -103,7 +106,7 @@ impl<A: Allocator> Frames<A> {
         if memory.slots.len() != count as usize {
             return Err(FramesFault::Region);
         }
-        let free = Vec::with_capacity(alloc, count as usize)?;
+        let free = BinaryHeap::with_capacity(alloc, count as usize)?;
         let pages = Pages::in_memory(memory);
         Ok(Frames { pages, free })
     }
@@ -123,14 +126,15 @@ impl<A: Allocator> Frames<A> {
         self.pages.capacity()
     }
 
-    /// Takes a free frame, which then holds zeros. Returns `None` if no frame is free.
+    /// Takes the lowest free frame, which then holds zeros. Returns `None` if no frame is free.
     pub fn take_zeroed(&mut self) -> Option<u32>
         ensures full { IsNone result ↔ (used self.old ≡ length self.old) }
         ensures none { IfNone result (self.new ≡ self.old) }
         ensures free { IfSome result (λ mpn. (mpn < length self.old) × (frame self.old mpn ≡ None)) }
+        ensures lowest { IfSome result (λ mpn. (n : ℕ) → n < mpn → IsTaken self.old n) }
         ensures taken { IfSome result (λ mpn. self.new ≡ slice_set self.old mpn (Some blank)) }
     {
-        if let Some(mpn) = self.free.pop() {
+        if let Some(Reverse(mpn)) = self.free.pop() {
             self.pages.clear(mpn);
             return Some(mpn);
         }
@@ -140,15 +144,16 @@ impl<A: Allocator> Frames<A> {
         Some(self.pages.add_zeroed())
     }
 
-    /// Takes a free frame, which then holds the bytes of the frame `mpn`. Returns `None` if no frame is free.
+    /// Takes the lowest free frame, which then holds the bytes of the frame `mpn`. Returns `None` if no frame is free.
     pub fn take_copy(&mut self, mpn: u32) -> Option<u32>
         requires { IsTaken self.old mpn }
         ensures full { IsNone result ↔ (used self.old ≡ length self.old) }
         ensures none { IfNone result (self.new ≡ self.old) }
         ensures free { IfSome result (λ copy. (copy < length self.old) × (frame self.old copy ≡ None)) }
+        ensures lowest { IfSome result (λ copy. (n : ℕ) → n < copy → IsTaken self.old n) }
         ensures taken { IfSome result (λ copy. self.new ≡ slice_set self.old copy (frame self.old mpn)) }
     {
-        if let Some(copy) = self.free.pop() {
+        if let Some(Reverse(copy)) = self.free.pop() {
             self.pages.copy(mpn, copy);
             return Some(copy);
         }
@@ -176,11 +181,11 @@ impl<A: Allocator> Frames<A> {
         self.pages.write(mpn, at as usize, bytes);
     }
 
-    /// Frees a frame.
+    /// Frees a frame. Asks for no memory: there is room to list every frame.
     pub fn give_back(&mut self, mpn: u32)
         requires { IsTaken self.old mpn }
         ensures { self.new ≡ slice_set self.old mpn None }
     {
-        self.free.push_reserved(mpn);
+        self.free.push(Reverse(mpn)).unwrap();
     }
 }

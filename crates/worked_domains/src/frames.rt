@@ -1,4 +1,4 @@
-//! Free frames of a machine, and some that are taken in another order.
+//! Free frames of a machine, and some that were taken before.
 ghost use Rattle.std.specs.Prelude.{◌≡◌, ◌∷◌, [], None, Some};
 ghost use Rattle.machine_frames.specs.FrameMap.{no_frames};
 ghost use Rattle.page_model.specs.Pages.{blank};
@@ -24,8 +24,8 @@ fn take_two(rt: &impl Abort, frames: &mut Frames)
     holds(rt, frames.take_zeroed() == Some(1));
 }
 
-/// Returns three free frames, of which frame 1 is taken first.
-pub fn turned_frames(rt: &impl Abort, alloc: Global) -> Frames
+/// Returns three free frames: frame 0 was given back, and then frame 1.
+pub fn returned_frames(rt: &impl Abort, alloc: Global) -> Frames
     ensures { result ≡ no_frames 3 }
 {
     let mut frames = three_frames(rt, alloc);

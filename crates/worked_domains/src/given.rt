@@ -1,6 +1,6 @@
 //! A domain whose frames are given for one machine after the other.
 use crate::checks::holds;
-use crate::frames::{three_frames, turned_frames};
+use crate::frames::{returned_frames, three_frames};
 use page_digest::FoldHash;
 use share_domain::{Domain, DomainConfig, GivenFrames};
 
@@ -26,12 +26,12 @@ fn first_frames(domain: &mut Domain<FoldHash>) -> [Option<u32>; 2] {
     first
 }
 
-/// The frames of the two machines are taken in different orders, so the first frame of each shows whose it is.
+/// Machine 0 has frames 0 to 2, and machine 1 frames 3 to 5. Each takes its lowest first, not the one that was given back last.
 #[test]
 fn each_machine_has_the_frames_that_were_given_for_it(rt: HostRuntime) {
     let mut given = GivenFrames::new(rt.alloc(), 2, 3).expect(&rt, "there is memory");
     given.add(three_frames(&rt, rt.alloc()));
-    given.add(turned_frames(&rt, rt.alloc()));
+    given.add(returned_frames(&rt, rt.alloc()));
     let mut domain = Domain::with_frames(rt.alloc(), &CONFIG, FoldHash, given.into_frames()).expect(
         &rt,
         "there is memory",
@@ -39,5 +39,5 @@ fn each_machine_has_the_frames_that_were_given_for_it(rt: HostRuntime) {
     holds(&rt, domain.enter() == Some(0));
     let first = first_frames(&mut domain);
     holds(&rt, first[0] == Some(0));
-    holds(&rt, first[1] == Some(4));
+    holds(&rt, first[1] == Some(3));
 }

@@ -1,9 +1,9 @@
-//! A host of two machines, whose frames are taken in different orders.
+//! A host of two machines, one of whose frames were taken before.
 ghost use Rattle.std.specs.Prelude.{◌≡◌, replicate};
 ghost use Rattle.machine_frames.specs.FrameMap.{no_frames};
 
 use crate::checks::holds;
-use crate::frames::{three_frames, turned_frames};
+use crate::frames::{returned_frames, three_frames};
 use host_messages::{ClientMessage, Lent};
 use host_sessions::{Allowance, Host, HostConfig, Received};
 use machine_frames::Frames;
@@ -19,7 +19,7 @@ fn frames_of(rt: &impl Abort, alloc: Global) -> Vec<Frames>
 {
     let mut frames = Vec::with_capacity(alloc, 2).expect(rt, "there is memory");
     frames.push_reserved(three_frames(rt, alloc));
-    frames.push_reserved(turned_frames(rt, alloc));
+    frames.push_reserved(returned_frames(rt, alloc));
     frames
 }
 
@@ -71,7 +71,7 @@ fn lend_16(host: &mut Host<FoldHash>) -> [Option<u32>; 2] {
     }
 }
 
-/// Machine 0 has frames 0 to 2, and machine 1 frames 3 to 5, of which it takes frame 4 first.
+/// Machine 0 has frames 0 to 2, and machine 1 frames 3 to 5. Each takes its lowest first, not the one that was given back last.
 #[test]
 fn each_machine_has_its_own_frames(rt: HostRuntime) {
     let mut host = host_of_two(&rt, rt.alloc());
@@ -83,5 +83,5 @@ fn each_machine_has_its_own_frames(rt: HostRuntime) {
     }
     let first = lend_16(&mut host);
     holds(&rt, first[0] == Some(0));
-    holds(&rt, first[1] == Some(4));
+    holds(&rt, first[1] == Some(3));
 }

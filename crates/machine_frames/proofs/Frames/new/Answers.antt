@@ -1,4 +1,4 @@
-use Rattle.std.proofs.Common.{◌∙◌, ap, arith}
+use Rattle.std.proofs.Common.{◌∙◌, ap, arith, heap_items}
 use Rattle.machine_frames.specs.PageLists.{PageList}
 use Rattle.machine_frames.specs.FrameMap.{no_frames}
 use Rattle.machine_frames.proofs.Places.{fresh}
@@ -7,11 +7,11 @@ use Rattle.machine_frames.proofs.Frames.new.Goals as goal
 pub invariant_of-result : goal.invariant_of-result
 invariant_of-result g c =
     let room = ap (λ (l : PageList). l.room) c.in_ok-pages.ensures in
-    let made = fresh c.in_ok-free.free.items c.in_ok-pages.pages c.in_ok-free.ensures.items (ap (λ (l : PageList). l.pages) c.in_ok-pages.ensures) (omega (arith, room, c.if-count-gt-MAX_FRAMES.false)) in
+    let made = fresh (heap_items c.in_ok-free.free) c.in_ok-pages.pages c.in_ok-free.ensures.items c.in_ok-free.ensures.heap_order (ap (λ (l : PageList). l.pages) c.in_ok-pages.ensures) (omega (arith, room, c.if-count-gt-MAX_FRAMES.false)) in
     (made.sound, omega (arith, c.in_ok-free.ensures.capacity, room))
 
 pub returns-clause-ok : goal.returns-clause-ok
 returns-clause-ok g c =
     let room = ap (λ (l : PageList). l.room) c.in_ok-pages.ensures in
-    let made = fresh c.in_ok-free.free.items c.in_ok-pages.pages c.in_ok-free.ensures.items (ap (λ (l : PageList). l.pages) c.in_ok-pages.ensures) (omega (arith, room, c.if-count-gt-MAX_FRAMES.false)) in
+    let made = fresh (heap_items c.in_ok-free.free) c.in_ok-pages.pages c.in_ok-free.ensures.items c.in_ok-free.ensures.heap_order (ap (λ (l : PageList). l.pages) c.in_ok-pages.ensures) (omega (arith, room, c.if-count-gt-MAX_FRAMES.false)) in
     made.is ∙ ap no_frames room

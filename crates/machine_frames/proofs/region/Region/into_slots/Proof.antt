@@ -1,13 +1,13 @@
 -- `into_slots` hands the region's memory to std's row of slots.
-use Rattle.std.proofs.Common.{◌≡◌, ℕ, List, Bool, [], ◌∷◌, ◌++◌, length, refl, sym, ap, subst, ◌∙◌, ◌^◌, w64}
+use Rattle.std.proofs.Common.{◌≡◌, List, [], ◌∷◌, ◌++◌, length, refl, sym, ap, subst, ◌∙◌, ◌^◌, w64}
 use lib.Dec.{T}
-use base.Fml.{ftrue, fsep, flft, flt}
+use base.Fml.{ftrue, fsep, flft}
 use base.Fraction.{full_share}
 use base.Logic.{SProp, ent, emp, id⊢, never}
 use contract.BorrowLft.{◌⊑◌, ⊑_static}
 use contract.Monad.{fact, fact_i}
 use contract.Running.{tables}
-use mir.Val.{Val, vint, vptr, vstruct, vcons, vnil, of_list, has_ty, WT}
+use mir.Val.{Val, vint, vptr, vstruct, of_list, has_ty, WT}
 use prog.Wp.{WpFn}
 use types.ByLocal.{alloc_all, pass_all, free_all, look_at, get, get_in, sets, lands_last, env}
 use types.Kit.{‵, raw, ◌⊛◌, some, later, at_ret, ◌$◌, ◌∵◌, !, qed, move, keep, drop, use0, use1, split, join, pick, await, fsplit, fjoin, fjoin3, fpick, feq_i, feq_l, flt_l, flt_i, rewrite, suffices, done}

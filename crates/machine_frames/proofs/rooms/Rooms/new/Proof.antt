@@ -1,6 +1,6 @@
 -- `new` puts the memory beside the number of its pages, which is 0.
-use Rattle.std.proofs.Common.{◌≡◌, ◌≤◌, ◌<◌, ℕ, List, [], ◌∷◌, ◌++◌, refl, sym, ap, subst, ◌^◌, arith, w32}
-use lib.Dec.{T, lit<}
+use Rattle.std.proofs.Common.{◌≡◌, ◌≤◌, List, [], ◌∷◌, ◌++◌, refl, sym, subst, ◌^◌, arith, w32}
+use lib.Dec.{lit<}
 use base.Fml.{ftrue, fsep}
 use base.Logic.{SProp, ent, emp, id⊢}
 use contract.Monad.{fact, fact_i}
@@ -8,19 +8,18 @@ use contract.Running.{tables}
 use mir.Val.{Val, vint, vstruct, vcons, vnil}
 use prog.Wp.{WpFn}
 use types.ByLocal.{alloc_all, pass_all, free_all, look_at, get, sets}
-use types.Kit.{‵, raw, ◌⊛◌, ◌$◌, ◌∵◌, !, qed, by, move, keep, drop, split, join, fsplit, fjoin, fpack, feq_i, flt_i, use0, rewrite, suffices, done}
+use types.Kit.{‵, raw, ◌⊛◌, ◌$◌, ◌∵◌, !, qed, by, move, keep, split, fsplit, fjoin, fpack, feq_i, flt_i, use0, rewrite, suffices}
 use types.Part.{agg}
 use types.Run.{enter, lit, of_opd, no_more, and_then, returns}
 use denote.Builtin.{u32}
 use denote.Exit.{yes}
 use denote.Laws.{Is, shows}
-use denote.Model.{Model}
 use denote.RattleType.{RattleType, Valss, owns}
 use denote.Signature.{plain, types_at}
 use denote.Steps.{nothing, peeks, heard}
 use denote.Struct.Owning.{shape}
 use denote.Struct.Struct.{within}
-use denote.Triple.Walked.{Stays, stay_dropped, walk_of, says, ends_at}
+use denote.Triple.Walked.{Stays, stay_dropped, walk_of}
 use Rattle.core.proofs.alloc.Calls.{Goes-blank}
 use Rattle.core.proofs.mem.Param.{El, one}
 use Rattle.core.specs.Mem.Slots.{slots_len}
