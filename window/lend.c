@@ -599,10 +599,9 @@ bool copy_for_lender(struct look *look) {
     lock_for_look(windows);
     find_copies(window, batch, checks);
     for (size_t i = 0; i < count; i++) {
-        const size_t at = windows->frames_fall ? count - 1 - i : i;
-        outcomes[at] = copy_one(window, batch->pages[at], checks[at], windows->lender.pages[kept], batch->fingerprints[at]);
-        copied[kept] = batch->pages[at];
-        kept += outcomes[at] == PAGESHARE_WINDOW_COPY_GOOD ? 1 : 0;
+        outcomes[i] = copy_one(window, batch->pages[i], checks[i], windows->lender.pages[kept], batch->fingerprints[i]);
+        copied[kept] = batch->pages[i];
+        kept += outcomes[i] == PAGESHARE_WINDOW_COPY_GOOD ? 1 : 0;
     }
     /* (the lock was held: of each good copy a loan is to be asked for) */
     pageshare_window_copied(TABLES(window), batch->pages, count, outcomes, count, lends, count);
@@ -619,28 +618,6 @@ static void note_loan(struct windows *windows, uint32_t frame, uint8_t answer) {
     windows->counts.no_frame += (answer & PAGESHARE_WINDOW_LOAN_NO_FRAME) != 0 ? 1 : 0;
     if ((answer & PAGESHARE_WINDOW_LOAN_WRONG) != 0) note_failure(windows, WINDOW_LENDER_FAILED, EPROTO);
     if (is_read) trace_frame(windows->trace, frame, windows->frames_at + bytes_of(frame));
-}
-
-/*
- * Whether a host gives frames from the last one to the first, by the new frames of a batch: as it does once those of a process that has ended
- * are free. Then a batch's last page is lent first, so that pages in a row get frames in a row all the same. `otherwise`: where no two tell.
- */
-static bool do_fall(const struct window_loan *loans, size_t count, bool otherwise) {
-    size_t rising = 0, falling = 0;
-    for (size_t i = 1; i < count; i++) {
-        const bool are_new = loans[i].is_new && loans[i - 1].is_new;
-        rising += are_new && loans[i].frame == loans[i - 1].frame + 1 ? 1 : 0;
-        falling += are_new && loans[i].frame + 1 == loans[i - 1].frame ? 1 : 0;
-    }
-    return rising == falling ? otherwise : falling > rising;
-}
-
-static void turn_round(uint32_t *pages, size_t count) {
-    for (size_t i = 0; i < count / 2; i++) {
-        const uint32_t kept = pages[i];
-        pages[i] = pages[count - 1 - i];
-        pages[count - 1 - i] = kept;
-    }
 }
 
 /* Takes the loans of a batch, or that none was made: a slot is released if its page doesn't come to show the frame. Leaves the pages that have
@@ -662,8 +639,6 @@ static void take_loans(struct window *window, struct batch *batch, const struct 
         kept += (answers[i] & PAGESHARE_WINDOW_LOAN_GOT) != 0 ? 1 : 0;
     }
     unlock_set(windows);
-    if (windows->frames_fall) turn_round(batch->pages, kept);
-    if (are_got) windows->frames_fall = do_fall(loans, count, windows->frames_fall);
     batch->count = kept;
     batch->done = 0;
 }

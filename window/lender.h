@@ -31,7 +31,6 @@
  */
 struct window_loan {
     uint32_t frame;
-    bool is_new; /* no other slot has the frame */
     uint64_t slot;
 };
 

@@ -135,7 +135,6 @@ struct windows {
     bool has_lender, lender_waits; /* waits: it didn't answer, and is left alone until the next look */
     bool awaits_loans; /* it isn't known whether copied pages were lent (window_lender), and so they stay as they are */
     struct turn turn;
-    bool frames_fall; /* the last loans' frames came from the last one to the first */
     int frames_fd;
     uint8_t *frames_at;    /* the frames' file, for reading; NULL once nothing is lent any more. With the lock */
     bool frames_are_given; /* it is mapped as windows show frames, and no child has it: parts of it can be put in a window */

@@ -28,18 +28,14 @@ static void collect_part(struct slots *slots, struct window *window, size_t firs
     for (size_t i = before; i < slots->count; i++) slots->windows[i] = window;
 }
 
-/*
- * Orders pages to be released whose slots are to be, and collects these, the last page's first: a host gives frames anew that became free last, so
- * that pages in a row get frames in a row. Takes the lock.
- */
+/* Orders pages to be released whose slots are to be, and collects these. Takes the lock. */
 static void collect(struct windows *windows, struct slots *slots) {
     slots->count = 0;
     lock_for_look(windows);
     for (struct window *window = windows->first; window != NULL && slots->count < WINDOW_BATCH; window = window->next)
         for (size_t first = 0; first < window->count; first += rest_of_part(window, first))
             if (part_counts(window, first)->releases > 0) collect_part(slots, window, first);
-    for (size_t i = 0; i < slots->count; i++)
-        slots->slots[slots->count - 1 - i] = slot_number(slots->windows[i]->pages[slots->pages[i]].slot);
+    for (size_t i = 0; i < slots->count; i++) slots->slots[i] = slot_number(slots->windows[i]->pages[slots->pages[i]].slot);
     unlock_set(windows);
 }
 

@@ -85,8 +85,7 @@ static int lend(void *opaque, const uint32_t *pages, size_t count, struct window
     if (cause != 0) return cause;
     memcpy(lent, answer.loans, count * sizeof *lent);
     if (!pageshare_window_hear_loans(&remote->session, remote->frame_count, lent, count)) return broken(remote, EPROTO);
-    for (size_t i = 0; i < count; i++)
-        loans[i] = (struct window_loan){.frame = lent[i].frame, .is_new = lent[i].sharers == 1, .slot = lent[i].slot};
+    for (size_t i = 0; i < count; i++) loans[i] = (struct window_loan){.frame = lent[i].frame, .slot = lent[i].slot};
     return 0;
 }
 

@@ -82,7 +82,7 @@ static struct window_loan lend_one(struct lender *lender, const unsigned char *p
     if (has_failed || loan.status != PAGESHARE_OK) return (struct window_loan){.frame = WINDOW_NO_FRAME};
     lender->is_free[loan.frame] = 0;
     lender->counts.lends++;
-    return (struct window_loan){.frame = loan.frame, .is_new = loan.sharers == 1, .slot = loan.slot};
+    return (struct window_loan){.frame = loan.frame, .slot = loan.slot};
 }
 
 /*

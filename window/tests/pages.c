@@ -666,37 +666,6 @@ static void odd_lenders(void) {
     munmap(at, PAGES * PAGE);
 }
 
-/* A lender that notes whether a batch's last page is lent first. */
-static struct {
-    const struct window_lender *own;
-    bool fell;
-} in_order;
-
-static int lend_in_order(void *opaque, const uint32_t *numbers, size_t count, struct window_loan *loans) {
-    in_order.fell = in_order.fell || (count > 1 && numbers[0] > numbers[1]);
-    return in_order.own->lend(opaque, numbers, count, loans);
-}
-
-/* Pages that join frames from the last one to the first say nothing of the frames to come: new pages in a row get frames in a row. */
-static void frames_that_fall(void) {
-    enum { SOME = PAGES / 4 };
-    FIXTURE(&never_pinned, PAGES, PAGES);
-    struct window_lender lender = *lender_interface(fixture.lender);
-    in_order.own = lender_interface(fixture.lender);
-    lender.lend = lend_in_order;
-    windows_detach(fixture.windows);
-    must(windows_attach(fixture.windows, &lender), "windows_attach");
-    for (size_t i = 0; i < SOME; i++) memset(at + i * PAGE, (int)i + 1, PAGE), memset(at + (SOME + i) * PAGE, (int)i + 1, PAGE);
-    check(look_until(&fixture, 2 * SOME) == 2 * SOME, "pages are lent");
-    for (size_t i = 0; i < SOME; i++) memset(at + (2 * SOME + i) * PAGE, (int)(SOME - i), PAGE);
-    check(look_until(&fixture, 3 * SOME) == 3 * SOME, "others join their frames the other way round");
-    for (size_t i = 0; i < SOME; i++) memset(at + (3 * SOME + i) * PAGE, (int)(SOME + 1 + i / 2), PAGE);
-    check(look_until(&fixture, PAGES) == PAGES, "new ones are lent");
-    check(!in_order.fell, "the first of them first");
-    fixture_end(&fixture, window);
-    munmap(at, PAGES * PAGE);
-}
-
 /* A lender whose first reply to a lend is lost. */
 static struct {
     const struct window_lender *own;
@@ -955,7 +924,6 @@ int main(void) {
     lenders();
     changes();
     odd_lenders();
-    frames_that_fall();
     lost_replies();
     glances();
     samples();
