@@ -268,10 +268,9 @@ void pageshare_window_give_back(struct pageshare_window_page *page, struct pages
 enum pageshare_window_kind {
     PAGESHARE_WINDOW_KIND_OWN = 1,       /* it is in the window, and has memory of its own */
     PAGESHARE_WINDOW_KIND_IN_FRAMES = 2, /* it is in the window, and a frame lies under it */
-    PAGESHARE_WINDOW_KIND_LEFT = 4, /* it has left the window, and a frame lies under it still: a discard mustn't uncover it */
+    PAGESHARE_WINDOW_KIND_LEFT = 4, /* it has left the window, and a frame lies under it still, which a discard mustn't uncover */
     PAGESHARE_WINDOW_KIND_GONE = 8, /* it has left the window, and no frame lies under it: it is the caller's alone */
-    PAGESHARE_WINDOW_KIND_COMING =
-        16, /* a copy where it is brings it home: its frame is to be shown no more, or of a lender that is gone */
+    PAGESHARE_WINDOW_KIND_COMING = 16,   /* a copy where it is brings it home: its frame is shown no more, or of the past */
     PAGESHARE_WINDOW_KIND_LEFT_OVER = 32 /* it has a copy of its own over a frame, and was asked about in vain most often */
 };
 
