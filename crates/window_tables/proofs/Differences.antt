@@ -81,7 +81,7 @@ at_most lead parts pages first count =
     (sum_most (λ place. digit (begins_at lead parts pages place)) first (min (count + 1) (length pages - first)) (λ i. digit_most (begins_at lead parts pages i)))
 
 -- before a range, in it, and beyond it
-in_three : (lead : ℕ) (parts : List Part) (pages : List WindowPage) (first count n : ℕ) → length pages ≡ n →
+pub in_three : (lead : ℕ) (parts : List Part) (pages : List WindowPage) (first count n : ℕ) → length pages ≡ n →
     mappings_of lead parts pages
     ≡ mappings_from lead parts pages 0 first + mappings_at lead parts pages first count + mappings_from lead parts pages (first + (count + 1)) n
 in_three lead parts pages first count n e =

@@ -9,3 +9,5 @@ mod PinPlaces
 mod Pinned
 pub mod Places
 mod Sums
+mod ZerosRoom
+mod SetParts

@@ -1,14 +1,16 @@
 -- Lives of a table, and what its counts are worth: those of its parts, and that of its mappings.
-use Rattle.std.specs.Prelude.{◌≡◌, ⊤, ℕ, ◌+◌, ◌-◌, ◌*◌, ◌<◌, ◌≤◌, Bool, false, true, List, length, replicate, Some, slice_get}
+use Rattle.std.specs.Prelude.{◌≡◌, ⊤, ℕ, ◌+◌, ◌-◌, ◌*◌, ◌%◌, ◌<◌, ◌≤◌, Bool, false, true, List, length, replicate, Some, slice_get}
 use Rattle.window_pages.specs.Bytes.{known_of}
 use Rattle.window_pages.specs.Counted.{is_to_release}
 use Rattle.window_pages.specs.Laws.{new_page, no_counts}
 use Rattle.window_pages.specs.declared.counts.PartCounts.{PartCounts}
 use Rattle.window_pages.specs.declared.page.WindowPage.{WindowPage}
 use Rattle.window_tables.specs.Changes.{keeps_mappings}
-use Rattle.window_tables.specs.Mappings.{StaysOutside, mapped_at, mappings_at, mappings_more, mappings_of}
+use Rattle.window_tables.specs.Mappings.{IsSet, StaysOutside, is_whole, mapped_at, mappings_at, mappings_more, mappings_of}
+use Rattle.window_tables.specs.Rooms.{are_alone, zeros_more}
 use Rattle.window_tables.specs.Tables.{Counted, Notes, OneChanges, part_at}
 use Rattle.window_tables.specs.declared.changes.Change.{Change}
+use Rattle.window_tables.specs.declared.changes.Change.TheVariants.{Uncovered}
 use Rattle.page_looks.specs.declared.parts.part.Part.{Part}
 
 -- whatever becomes of a page
@@ -49,6 +51,28 @@ abbrev pub NoMoreCome : Type 0
 NoMoreCome =
     (lead first count : ℕ) (parts parts_new : List Part) (old new : List WindowPage) → StaysOutside lead first count parts parts_new old new →
     mappings_of lead parts_new new ≤ mappings_of lead parts old + mappings_more lead parts old first count
+
+-- Zeros are put in the place of some pages in parts that are all whole or all split, and the system lets be said of them what is said of the window.
+-- The page behind them is as calls leave each page: it begins what was moved only if it was moved. Then no more mappings come than `zeros_more` says.
+abbrev pub ZerosTakeNoMore : Type 0
+ZerosTakeNoMore =
+    (lead first count : ℕ) (old new : List WindowPage) (counts counts_new : List PartCounts) (parts : List Part) → 0 < count →
+    ((i : ℕ) → first ≤ i → i < first + count → is_whole lead parts i ≡ is_whole lead parts first) →
+    ((x : WindowPage) → slice_get old (first + count) ≡ Some x → (known_of x).begins ≡ true → (known_of x).moved ≡ true) →
+    Notes (Uncovered (are_alone lead parts old first count)) lead first count true old new counts counts_new →
+    mappings_of lead parts new ≤ mappings_of lead parts old + zeros_more lead parts old first count
+
+-- One part is whole from now on, or split, of which this is the first page. What is mapped outside of it stays.
+abbrev pub SetsStayInside : Type 0
+SetsStayInside =
+    (is_whole : Bool) (lead first : ℕ) (pages : List WindowPage) (parts parts_new : List Part) → (first + lead) % 512 ≡ 0 → IsSet is_whole lead first parts parts_new →
+    StaysOutside lead first 512 parts parts_new pages pages
+
+-- and at most two mappings more come: one at each of its ends
+abbrev pub SetsTakeTwo : Type 0
+SetsTakeTwo =
+    (is_whole : Bool) (lead first : ℕ) (pages : List WindowPage) (parts parts_new : List Part) → (first + lead) % 512 ≡ 0 → IsSet is_whole lead first parts parts_new →
+    mappings_of lead parts_new pages ≤ mappings_of lead parts pages + 2
 
 -- what is noted of pages leaves what is mapped outside their range
 abbrev pub NotesStayInside : Type 0
