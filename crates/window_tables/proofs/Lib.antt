@@ -11,3 +11,4 @@ pub mod Places
 mod Sums
 mod ZerosRoom
 mod SetParts
+mod NextRuns

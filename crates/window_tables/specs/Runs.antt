@@ -1,5 +1,5 @@
 -- Runs of pages of one kind.
-use Rattle.std.specs.Prelude.{ℕ, ◌+◌, Bool, true, false, not, ◌&&◌, ◌==◌, List, take, drop, Option, option_map, slice_get, if◌then◌else◌}
+use Rattle.std.specs.Prelude.{◌≡◌, ℕ, ◌+◌, ◌<◌, ◌≤◌, Bool, true, false, not, ◌&&◌, ◌==◌, List, take, drop, Option, None, Some, option_map, slice_get, if◌then◌else◌}
 use Rattle.std.specs.List.{prefix_len}
 use Rattle.page_lender.specs.Decisions.{is_private}
 use Rattle.page_looks.specs.Idle.{is_again}
@@ -70,3 +70,25 @@ between first end pages = drop first (take end pages)
 -- the first run between two pages
 abbrev pub next_run : ℕ → ℕ → ℕ → List WindowPage → Option PageRun
 next_run kinds first end pages = first_run kinds first (between first end pages)
+
+-- ---- what such a run is ----
+
+-- The run lies between two pages. No page before it counts as a kind that is looked for, each page of it counts as its kind, and the page behind it, if
+-- there is one before the end, doesn't.
+pub record IsNextRun (kinds first end : ℕ) (pages : List WindowPage) (run : PageRun) : Type 0 where
+  pub begins : first ≤ run.first
+  pub ends : run.first + run.count ≤ end
+  pub some : 0 < run.count
+  pub looked_for : run.kind ≡ 0 → ⊥
+  pub before : (i : ℕ) (x : WindowPage) → first ≤ i → i < run.first → slice_get pages i ≡ Some x → counts_as kinds x ≡ 0
+  pub each : (i : ℕ) (x : WindowPage) → run.first ≤ i → i < run.first + run.count → slice_get pages i ≡ Some x → counts_as kinds x ≡ run.kind
+  pub behind : (x : WindowPage) → run.first + run.count < end → slice_get pages (run.first + run.count) ≡ Some x → counts_as kinds x ≡ run.kind → ⊥
+
+abbrev pub EachRunIsNext : Type 0
+EachRunIsNext = (kinds first end : ℕ) (pages : List WindowPage) (run : PageRun) → next_run kinds first end pages ≡ Some run → IsNextRun kinds first end pages run
+
+-- where there is none, no page between them counts as a kind that is looked for
+abbrev pub NoRunIsMissed : Type 0
+NoRunIsMissed =
+    (kinds first end : ℕ) (pages : List WindowPage) → next_run kinds first end pages ≡ None →
+    (i : ℕ) (x : WindowPage) → first ≤ i → i < end → slice_get pages i ≡ Some x → counts_as kinds x ≡ 0

@@ -1,11 +1,19 @@
 //! What the counts of a table are worth. The functions' bodies are empty: the contract is all there is.
 ghost use Rattle.window_tables.specs.Laws.{DifferencesCount, EachNumberIsRight, EachTableIsCounted, NoMoreCome, NoneIsMissed, NotesStayInside, SetsStayInside, SetsTakeTwo, SomeKeepMappings, ZerosTakeNoMore};
+ghost use Rattle.window_tables.specs.Runs.{EachRunIsNext, NoRunIsMissed};
 
 /// Whatever calls there are for the pages of a table whose bytes are zeros at first, in whatever order, the counts of each part are right of its
 /// pages. And where a part counts no slot to release, none of its pages has one that is.
 pub fn table_law()
     ensures counted { EachTableIsCounted }
     ensures missed { NoneIsMissed }
+{}
+
+/// The next run of pages of some kinds between two pages is the first one, and the longest: no page before it is of these kinds, all its pages count as
+/// the same one of them, and the page behind it doesn't. Where there is none, no page between the two is of these kinds.
+pub fn runs_law()
+    ensures next { EachRunIsNext }
+    ensures none { NoRunIsMissed }
 {}
 
 /// Where only pages of a range change, a table has as many mappings as before, less `mappings_at` of the range before, and more by `mappings_at` of

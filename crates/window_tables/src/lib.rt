@@ -18,6 +18,6 @@ pub use ask::{are_movable, may_give_up, may_go_on};
 pub use changes::{Change, can_note, note};
 pub use facts::{TableFacts, facts_of};
 pub use kept::{note_kept, put_zeros, set_whole};
-pub use laws::{mappings_law, table_law};
+pub use laws::{mappings_law, runs_law, table_law};
 pub use mappings::{mappings_at, mappings_more, mappings_new};
 pub use parts::PART;
