@@ -106,7 +106,8 @@ class Place:
         busybox = shutil.which("busybox") or "busybox"
         self.initrd.write_bytes(initramfs(busybox, modules))
         self.small_initrd.write_bytes(initramfs(busybox, modules, 12 << 20))
-        self.kernel = kernel
+        # (anybody may read the copy, also where this tree is root's alone)
+        self.kernel = pathlib.Path(shutil.copyfile(kernel, self.room / "kernel"))
 
     def clean(self) -> None:
         """Ends what a case started."""

@@ -4,6 +4,7 @@ from __future__ import annotations
 import json
 import os
 import pathlib
+import shutil
 import struct
 import subprocess
 import sys
@@ -78,12 +79,17 @@ def case_estimate() -> None:
 # ---- what a status shows ----
 
 
+def client_folder() -> str:
+    """A folder with raw_client.py that anybody may read, also where this tree is root's alone."""
+    shutil.copy(pathlib.Path(__file__).with_name("raw_client.py"), HERE.place.room)
+    return str(HERE.place.room)
+
+
 def named(path: str, *words: str) -> int:
     """A client whose command line has these words."""
     code = "import sys, time; sys.path.insert(0, sys.argv[1]); from raw_client import RawClient; it = RawClient(sys.argv[2]); "
     code += "print('in', flush=True); time.sleep(60)"
-    folder = str(pathlib.Path(__file__).resolve().parent)
-    client = subprocess.Popen([*AS_NOBODY, sys.executable, "-c", code, folder, path, *words], stdout=subprocess.PIPE, text=True)
+    client = subprocess.Popen([*AS_NOBODY, sys.executable, "-c", code, client_folder(), path, *words], stdout=subprocess.PIPE, text=True)
     HERE.place.started.append(client)
     must(client.stdout is not None and client.stdout.readline() == "in\n", f"a client with {words} isn't taken")
     return client.pid
@@ -125,8 +131,7 @@ def counting(path: str, written: bytes, why: bytes = b"", seals: str = "fcntl.F_
     code += "file = os.memfd_create('pageshare-counts', os.MFD_CLOEXEC | os.MFD_ALLOW_SEALING); os.ftruncate(file, 4096); "
     code += "os.pwrite(file, bytes.fromhex(sys.argv[3]), 0); os.pwrite(file, bytes.fromhex(sys.argv[4]), 1024); "
     code += f"fcntl.fcntl(file, fcntl.F_ADD_SEALS, {seals}); print('in', flush=True); time.sleep(60)"
-    folder = str(pathlib.Path(__file__).resolve().parent)
-    words = [*AS_NOBODY, sys.executable, "-c", code, folder, path, written.hex(), why.hex()]
+    words = [*AS_NOBODY, sys.executable, "-c", code, client_folder(), path, written.hex(), why.hex()]
     client = subprocess.Popen(words, stdout=subprocess.PIPE, text=True)
     HERE.place.started.append(client)
     must(client.stdout is not None and client.stdout.readline() == "in\n", "a client that counts isn't taken")
