@@ -3,11 +3,12 @@
 
     checks/builds.py [PART ..]
 
-The parts, by default all: `made`, what make builds of C (the libraries, the host, what monitors preload); `sources`, each C file of the
-tree by itself, as gcc and clang see it, plain and with the address and undefined-behaviour sanitizers, and with a record of events
-where there is one; `headers`, each public header by itself as C and C++; `benches`, the benchmarks in C and Rust. Warnings are errors.
-A C file that is in no folder of FLAGS has failed, so that none is left out. The objects go to out/builds. What this computer has no
-compiler for is left out, and so said. The last line is `N passed, M failed`, of files (status 0 where none failed, else 1).
+The parts, by default all: `made`, what make builds of C (the libraries, the host, what monitors preload); `made-v3`, the library for
+x86-64-v3; `sources`, each C file of the tree by itself, as gcc and clang see it, plain and with the address and undefined-behaviour
+sanitizers, and with a record of events where there is one; `headers`, each public header by itself as C and C++; `benches`, the
+benchmarks in C and Rust. Warnings are errors. A C file that is in no folder of FLAGS has failed, so that none is left out. The objects
+go to out/builds. What this computer has no compiler for is left out, and so said. The last line is `N passed, M failed`, of files
+(status 0 where none failed, else 1).
 """
 from __future__ import annotations
 
@@ -25,7 +26,8 @@ from common.benches import built_in_c, built_in_rust
 from harness import OUT, TOP, LeftOut, Tally, needs, run
 
 BUILT = OUT / "builds"
-MADE = ["libpageshare.a", "v3/libpageshare.a", "libpageshare_host.a", "libpageshare_window.a", "host/pageshare-host", "host/libpageshare-window.so"]
+MADE = ["libpageshare.a", "libpageshare_host.a", "libpageshare_window.a", "host/pageshare-host", "host/libpageshare-window.so"]
+MADE_V3 = ["v3/libpageshare.a"]
 STRICT = "-std=c11 -O2 -g -Wall -Wextra -Wconversion -Werror -pthread -Ilib/include".split()
 PRELOAD = ["-Iwindow", "-Ihost", "-Ihost/preload"]
 POSIX = ["-D_POSIX_C_SOURCE=200809L"]
@@ -51,9 +53,9 @@ SECONDS = 300
 Call = tuple[str, Sequence[str]]
 
 
-def made(tally: Tally) -> None:
+def made(names: Sequence[str], tally: Tally) -> None:
     """What make builds of C."""
-    for name in MADE:
+    for name in names:
         done = run(["make", "--no-print-directory", f"out/{name}"], seconds=2 * SECONDS, cwd=TOP)
         tally.case(f"make out/{name}", [] if done.returncode == 0 else [(done.stdout + done.stderr).decode("utf-8", "replace")[-3000:]])
 
@@ -180,7 +182,9 @@ def opponents(tally: Tally) -> None:
     tally.case("the package of benches/", [] if done.returncode == 0 else [done.stderr.decode("utf-8", "replace")[-3000:]])
 
 
-PARTS = {"made": made, "sources": sources, "headers": headers, "benches": benches}
+PARTS: dict[str, Callable[[Tally], object]] = {
+    "made": functools.partial(made, MADE), "made-v3": functools.partial(made, MADE_V3), "sources": sources, "headers": headers, "benches": benches,
+}
 
 
 def main() -> int:

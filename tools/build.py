@@ -2,7 +2,7 @@
 """Builds programs and the libraries for C from what a gate on this machine has proved.
 
     tools/build.py CRATE FILE [--cpu LEVEL]
-    tools/build.py --products
+    tools/build.py --products [LEVEL]
     tools/build.py --libraries
 
 First the crates are proved, many side by side, but for what was proved of the same files: by an earlier run on this computer where
@@ -11,8 +11,9 @@ it was proved, and a static library is compiled from what was checked of it. Wha
 proved as it is built, over the same libraries; so are static libraries with a kit that keeps what it proved, since it leaves nothing of
 them that can be compiled. A note, FILE.of, says of which files FILE was built, and nothing is done where these are as they were.
 
---products builds all that is installed and all that `make check` needs, side by side, and ends with 'N passed, M failed'. --libraries
-does the same for the static libraries of x86-64-v2: out/proved.a, out/proved_host.a and out/libpageshare_window.a. Status 0 where each FILE was written, else 1.
+--products builds all that is installed and all that `make check` needs, or of these what is for a processor LEVEL, side by side, and ends
+with 'N passed, M failed'. --libraries does the same for the static libraries of x86-64-v2: out/proved.a, out/proved_host.a and
+out/libpageshare_window.a. Status 0 where each FILE was written, else 1.
 """
 from __future__ import annotations
 
@@ -62,6 +63,7 @@ PRODUCTS = [
     Product("pageshare", OUT / "pageshare"),
     Product("window_trace", OUT / "window_trace"),
 ]
+LEVELS = sorted({it.cpu for it in PRODUCTS})
 LIBRARIES = [it for it in PRODUCTS if it.file.suffix == ".a" and it.cpu == DEFAULT]
 
 
@@ -191,15 +193,16 @@ def build(kit: Any, products: Sequence[Product]) -> list[Product]:
 
 def main() -> int:
     options = argparse.ArgumentParser(description=__doc__.splitlines()[0])
-    options.add_argument("--products", action="store_true", help="build all that is installed and that `make check` needs")
+    options.add_argument("--products", metavar="LEVEL", nargs="?", const="", choices=["", *LEVELS],
+                         help="build all that is installed and that `make check` needs, or what of it is for this processor level")
     options.add_argument("--libraries", action="store_true", help="build the static libraries for x86-64-v2")
     options.add_argument("crate", nargs="?")
     options.add_argument("file", nargs="?", type=pathlib.Path)
     options.add_argument("--cpu", default=DEFAULT)
     given = options.parse_args()
-    if given.products + given.libraries + (given.file is not None) != 1:
+    if (given.products is not None) + given.libraries + (given.file is not None) != 1:
         options.error("give a crate and a file, --products or --libraries")
-    several = PRODUCTS if given.products else LIBRARIES if given.libraries else []
+    several = LIBRARIES if given.libraries else [] if given.products is None else [it for it in PRODUCTS if given.products in ("", it.cpu)]
     products = several or [Product(given.crate, given.file, given.cpu)]
     kit = load_kit()
     os.environ["RT_JOBS"] = str(lanes())

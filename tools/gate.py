@@ -31,6 +31,7 @@ from __future__ import annotations
 
 import argparse
 import collections
+import concurrent.futures
 import contextlib
 import fcntl
 import os
@@ -60,13 +61,13 @@ PROGRAM = "crates/pageshare/out/pageshare"
 
 class Work(typing.NamedTuple):
     """A step of a command: the words that run it, an option of the command that it takes, after how many seconds it is ended, if at all,
-    and whether it runs beside those that come after all such steps."""
+    and its lane. Steps without a lane come first, one by one; then lanes run side by side, each with its steps one by one."""
 
     name: str
     words: list[str]
     takes: str = ""
     seconds: typing.Optional[int] = None
-    is_beside: bool = False
+    lane: str = ""
 
 
 LIBRARY = "out/libpageshare.a"
@@ -74,30 +75,33 @@ COMMANDS = {
     "packages": [Work("packages", ["tools/packages.py"], seconds=1200)],
     "test": [
         Work("rt ci", ["tools/ci.py"], takes="--anew"),
-        Work("runs", ["checks/quick.py", PROGRAM]),
-        Work("libraries of C", ["tools/build.py", "--libraries"]),
-        Work("frames of C", ["checks/frames.py"]),
-        Work("rows", ["checks/rows.py"]),
-        Work("harness", ["checks/harness_test.py"]),
-        Work("benches", ["checks/benches_test.py"]),
-        Work("documents", ["checks/names.py"]),
-        Work("limits", ["checks/limits.py"]),
-        Work("structs of C", ["checks/structs.py"]),
-        Work("map of crates", ["tools/map.py", "--check"]),
+        Work("runs", ["checks/quick.py", PROGRAM], lane="program"),
+        Work("libraries of C", ["tools/build.py", "--libraries"], lane="libraries"),
+        Work("frames of C", ["checks/frames.py"], lane="libraries"),
+        Work("rows", ["checks/rows.py"], lane="libraries"),
+        Work("harness", ["checks/harness_test.py"], lane="texts"),
+        Work("benches", ["checks/benches_test.py"], lane="texts"),
+        Work("documents", ["checks/names.py"], lane="texts"),
+        Work("limits", ["checks/limits.py"], lane="texts"),
+        Work("structs of C", ["checks/structs.py"], lane="texts"),
+        Work("map of crates", ["tools/map.py", "--check"], lane="texts"),
     ],
     "edits": [Work("edits' test", ["checks/edits_test.py"]), Work("edits", ["checks/edits.py"], takes="--all")],
-    # (the proofs below come from `make test`; alone the first step may take as long as that. What runs beside others measures no time.)
+    # (the proofs come from `make test`; alone the first step may take as long as that. What runs beside others measures no time, but for the
+    # last cases of the host. The first lanes are the longest, since as many run at a time as there are processors.)
     "check": [
-        Work("libraries", ["tools/build.py", "--products"]),
-        Work("builds", ["checks/builds.py"], seconds=1200),
-        Work("library", ["checks/embed.sh", LIBRARY], seconds=1800, is_beside=True),
-        Work("journals", ["checks/embed.py", "100"], seconds=900, is_beside=True),
-        Work("installed", ["checks/package.py", "--installed"], seconds=1200, is_beside=True),
-        Work("fleet", ["checks/fleet.py"], seconds=1200, is_beside=True),
-        Work("python", ["checks/python.py"], seconds=900, is_beside=True),
-        Work("windows", ["checks/windows.py", LIBRARY, "5"], seconds=1200),
-        Work("monitor", ["checks/guests.py", LIBRARY, "0"], seconds=300),
-        Work("host", ["checks/host.py", "--gate"], seconds=2400),
+        Work("products", ["tools/build.py", "--products", "x86-64-v2"]),
+        Work("made", ["checks/builds.py", "made"], seconds=600),
+        Work("host", ["checks/host.py", "--gate"], seconds=2400, lane="host"),
+        Work("products for x86-64-v3", ["tools/build.py", "--products", "x86-64-v3"], lane="builds"),
+        Work("builds", ["checks/builds.py", "made-v3", "sources", "headers", "benches"], seconds=1200, lane="builds"),
+        Work("installed", ["checks/package.py", "--installed"], seconds=1200, lane="builds"),
+        Work("windows", ["checks/windows.py", LIBRARY, "5"], seconds=1200, lane="windows"),
+        Work("monitor", ["checks/guests.py", LIBRARY, "0"], seconds=300, lane="windows"),
+        Work("library", ["checks/embed.sh", LIBRARY], seconds=1800, lane="library"),
+        Work("journals", ["checks/embed.py", "100"], seconds=900, lane="library"),
+        Work("fleet", ["checks/fleet.py"], seconds=1200, lane="library"),
+        Work("python", ["checks/python.py"], seconds=900, lane="library"),
     ],
 }
 # What each command takes from nothing, in processor minutes, on processors of 2.5 GHz; `check` after `make test`.
@@ -350,15 +354,13 @@ class Run:
             self.run(work)
 
     def run_all(self) -> None:
-        """Runs the steps one after another. Those that may run beside others do so with those behind them."""
+        """Runs the steps that have no lane one after another, and then the lanes side by side."""
         works = COMMANDS[self.command]
-        beside = [it for it in works if it.is_beside]
-        first = works[: works.index(beside[0])] if beside else works
-        self.run_each(first)
-        others = threading.Thread(target=self.run_each, args=(beside,))
-        others.start()
-        self.run_each(works[len(first) + len(beside) :])
-        others.join()
+        self.run_each([it for it in works if not it.lane])
+        names = dict.fromkeys(it.lane for it in works if it.lane)
+        with concurrent.futures.ThreadPoolExecutor(len(os.sched_getaffinity(0))) as pool:
+            for ran in [pool.submit(self.run_each, [it for it in works if it.lane == name]) for name in names]:
+                ran.result()
 
 
 def run_command(command: str, options: Sequence[str]) -> int:

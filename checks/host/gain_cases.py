@@ -106,7 +106,8 @@ def is_settled(host: Host, seconds: float) -> bool:
 class Taken:
     """
     What two processes and their host take: by their memory cgroup, by MemAvailable, by that less the free pages in processors' lists, and by
-    Pss. Then the net gain that --status says, and how many processors others took before.
+    Pss. Then the net gain that --status says, and how many processors others took. Memory that others take changes within seconds, so what the
+    system counts of these is what is given back when they end.
     """
 
     group: float
@@ -122,22 +123,21 @@ def pss_of(processes: Sequence[int]) -> int:
 
 
 def taken_in(group: Group, kind: Kind, mib: int, is_shared: bool) -> Taken:
-    begun, busy = time.time(), busy_seconds()
-    taken, listed = median_of(lambda: (taken_bytes(), listed_bytes()))
-    others = (busy_seconds() - busy) / (time.time() - begun)
     host = Host("--lent", f"{2 * mib}M", memory=f"{mib // 2}M", before=group.inside()) if is_shared else None
     made = [Guest(number, mib, kind, 900, host, before=group.inside(), percent=100) for number in range(2)]
     must(until(100 + mib / 10, lambda: all("filled" in it.said for it in made), 0.2)[0], "they aren't filled")
     if host and not is_settled(host, 30 + mib / 10):
         print("    more is shared still when it is measured")
     its = [it.process.pid for it in made] + ([host.process.pid] if host else [])
-    of_group, now_taken, now_listed, pss, net = median_of(
-        lambda: (group.used(), taken_bytes(), listed_bytes(), pss_of(its), host.status()["net_bytes"] if host else 0)
-    )
+    of_group, pss, net = median_of(lambda: (group.used(), pss_of(its), host.status()["net_bytes"] if host else 0))
+    taken, listed = median_of(lambda: (taken_bytes(), listed_bytes()))
     HERE.place.clean()
     for it in made:
         it.process.wait(20)
-    return Taken(of_group, now_taken - taken, now_taken - taken - (now_listed - listed), pss, net, others)
+    begun, busy = time.time(), busy_seconds()
+    left, left_listed = median_of(lambda: (taken_bytes(), listed_bytes()))
+    others = (busy_seconds() - busy) / (time.time() - begun)
+    return Taken(of_group, taken - left, taken - left - (listed - left_listed), pss, net, others)
 
 
 def taken_by(kind: Kind, mib: int, is_shared: bool) -> Taken:

@@ -24,7 +24,7 @@ Cases = Mapping[str, Callable[[], object]]
 # The seconds of a case outside the gate.
 SECONDS_OF_CASE = 1800
 # How many cases of the gate run side by side: most of them wait most of their time.
-LANES = 2
+LANES = 3 if len(os.sched_getaffinity(0)) > 2 else 2
 
 
 def cases_in(modules: Iterable[types.ModuleType]) -> Cases:
