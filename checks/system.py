@@ -11,7 +11,7 @@ read no wrong byte. Guests are emulated.
 
 Needs root, mmdebstrap, systemd-nspawn, dpkg-deb, a mirror of Debian, and out/host (`make host`). What is missing is left out, and so
 said. AppArmor, udev and KVM aren't in the container, and are not tried. FOLDER (by default one below /var/tmp) keeps the Debian for the
-next run with --keep, and is removed without it. The last line is `N passed, M failed` (status 0 where none failed, else 1).
+next run with --keep, and is removed without it; one with anything else in it is refused. The last line is `N passed, M failed` (status 0 where none failed, else 1).
 """
 from __future__ import annotations
 
@@ -45,6 +45,8 @@ WEB, BUILD = "/run/pageshare/web.sock", "/run/pageshare/build.sock"
 LIBRARY = "/usr/lib/x86_64-linux-gnu/libpageshare-window.so"
 METRICS = "/var/lib/prometheus/node-exporter"
 SECONDS = 400
+# A file of each Debian that this script made: no other folder is used, or removed.
+MADE = "etc/pageshare-system"
 # A guest of libvirt: its name, memory and emulator, its kernel's words and a log of what it says, and maybe variables of QEMU.
 DOMAIN = """\
 <domain type='qemu' xmlns:qemu='http://libvirt.org/schemas/domain/qemu/1.0'>
@@ -90,7 +92,7 @@ class Shop:
 
     def __init__(self, root: pathlib.Path, suite: str, mirror: str) -> None:
         self.root, self.log = root, root.with_name(f"{root.name}.log")
-        if not (root / "etc/os-release").exists():
+        if not (root / MADE).exists():
             make_root(root, suite, mirror)
         self.process: subprocess.Popen[bytes] | None = None
         self.leader = 0
@@ -156,6 +158,7 @@ def make_root(root: pathlib.Path, suite: str, mirror: str) -> None:
     if ran.returncode != 0:
         shutil.rmtree(root, ignore_errors=True)
         raise LeftOut(f"the Debian, which mmdebstrap couldn't make from {mirror}: {ran.stderr[-300:]}")
+    (root / MADE).touch()
 
 
 class Guest:
@@ -455,6 +458,8 @@ def main(words: Sequence[str] | None = None) -> int:
     options.add_argument("--keep", action="store_true", help="keep the Debian for the next run")
     given, tally = options.parse_args(words), Tally()
     signal.signal(signal.SIGTERM, lambda *_: sys.exit(1))  # (so that the container ends with this script)
+    if given.root.exists() and not (given.root / MADE).exists() and (not given.root.is_dir() or any(given.root.iterdir())):
+        options.error(f"{given.root} is there, and no Debian that this script made")
     given.root.parent.mkdir(parents=True, exist_ok=True)
     tally.part(run_day, given)
     return tally.close()
