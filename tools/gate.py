@@ -106,7 +106,7 @@ COMMANDS = {
     ],
 }
 # What each command takes from nothing, in processor minutes, on processors of 2.5 GHz; `check` after `make test`.
-MINUTES = {"packages": 2, "test": 170, "edits": 20, "check": 29}
+MINUTES = {"packages": 2, "test": 170, "edits": 20, "check": 35}
 TICKS = os.sysconf("SC_CLK_TCK")
 # How much of a line of a step is printed where no terminal shows it; its log has it whole.
 LINE = 120
