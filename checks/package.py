@@ -113,8 +113,11 @@ fn main() {
 
 
 def run(*words: StrPath, env: Mapping[str, str] = PLAIN, folder: StrPath | None = None) -> Said:
-    """The status, the output and the errors of a program, which may take long."""
-    done = harness.run(words, seconds=3600, env=env, cwd=folder)
+    """The status, the output and the errors of a program, which may take long. One that can't be started has status 126, as in a shell."""
+    try:
+        done = harness.run(words, seconds=3600, env=env, cwd=folder)
+    except OSError as cause:
+        return 126, "", str(cause)
     return done.returncode, done.stdout.decode("utf-8", "replace"), done.stderr.decode("utf-8", "replace")
 
 
