@@ -11,7 +11,8 @@ read no wrong byte. Guests are emulated.
 
 Needs root, mmdebstrap, systemd-nspawn, dpkg-deb, a mirror of Debian, and out/host (`make host`). What is missing is left out, and so
 said. AppArmor, udev and KVM aren't in the container, and are not tried. FOLDER (by default one below /var/tmp) keeps the Debian for the
-next run with --keep, and is removed without it; one with anything else in it is refused. The last line is `N passed, M failed` (status 0 where none failed, else 1).
+next run with --keep, and is removed without it; one with anything else in it is refused. The last line is `N passed, M failed` (status 0
+where none failed, else 1).
 """
 from __future__ import annotations
 

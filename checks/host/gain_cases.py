@@ -135,9 +135,9 @@ def taken_in(group: Group, kind: Kind, mib: int, is_shared: bool) -> Taken:
     for it in made:
         it.process.wait(20)
     begun, busy = time.time(), busy_seconds()
-    left, left_listed = median_of(lambda: (taken_bytes(), listed_bytes()))
+    rest, rest_listed = median_of(lambda: (taken_bytes(), listed_bytes()))
     others = (busy_seconds() - busy) / (time.time() - begun)
-    return Taken(of_group, taken - left, taken - left - (listed - left_listed), pss, net, others)
+    return Taken(of_group, taken - rest, taken - rest - (listed - rest_listed), pss, net, others)
 
 
 def taken_by(kind: Kind, mib: int, is_shared: bool) -> Taken:
