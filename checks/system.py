@@ -46,8 +46,6 @@ WEB, BUILD = "/run/pageshare/web.sock", "/run/pageshare/build.sock"
 LIBRARY = "/usr/lib/x86_64-linux-gnu/libpageshare-window.so"
 METRICS = "/var/lib/prometheus/node-exporter"
 SECONDS = 400
-# A file of each Debian that this script made: no other folder is used, or removed.
-MADE = "etc/pageshare-system"
 # A guest of libvirt: its name, memory and emulator, its kernel's words and a log of what it says, and maybe variables of QEMU.
 DOMAIN = """\
 <domain type='qemu' xmlns:qemu='http://libvirt.org/schemas/domain/qemu/1.0'>
@@ -93,7 +91,7 @@ class Shop:
 
     def __init__(self, root: pathlib.Path, suite: str, mirror: str) -> None:
         self.root, self.log = root, root.with_name(f"{root.name}.log")
-        if not (root / MADE).exists():
+        if not (root / "etc/os-release").exists():
             make_root(root, suite, mirror)
         self.process: subprocess.Popen[bytes] | None = None
         self.leader = 0
@@ -151,15 +149,32 @@ class Shop:
                 self.process.wait()
 
 
+def mark_of(root: pathlib.Path) -> pathlib.Path:
+    """A file beside a folder that says that this script made it. No other folder is used, or removed."""
+    return root.parent / f"{root.name}.made"
+
+
+def is_ours(root: pathlib.Path) -> bool:
+    return mark_of(root).exists() or not root.exists() or (root.is_dir() and not any(root.iterdir()))
+
+
+def remove(root: pathlib.Path) -> None:
+    """Removes a folder that this script made. What can't be removed yet is removed by the next run."""
+    shutil.rmtree(root, ignore_errors=True)
+    if not root.exists():
+        mark_of(root).unlink(missing_ok=True)
+
+
 def make_root(root: pathlib.Path, suite: str, mirror: str) -> None:
     print(f"makes a Debian ({suite}) in {root}", flush=True)
+    remove(root)
+    mark_of(root).touch()
     words = ["mmdebstrap", "--quiet", "--variant=minbase", "--mode=root", "--components=main", f"--include={INCLUDED}"]
     words += ["--aptopt=Acquire::Languages \"none\"", suite, str(root), mirror]
     ran = subprocess.run(words, stdin=subprocess.DEVNULL, capture_output=True, text=True)
     if ran.returncode != 0:
-        shutil.rmtree(root, ignore_errors=True)
+        remove(root)
         raise LeftOut(f"the Debian, which mmdebstrap couldn't make from {mirror}: {ran.stderr[-300:]}")
-    (root / MADE).touch()
 
 
 class Guest:
@@ -429,7 +444,7 @@ def run_day(tally: Tally, options: argparse.Namespace) -> None:
         finally:
             shop.end()
             if not options.keep:
-                shutil.rmtree(options.root, ignore_errors=True)
+                remove(options.root)
 
 
 def do_step(tally: Tally, name: str, step: Callable[[], None]) -> bool:
@@ -459,7 +474,7 @@ def main(words: Sequence[str] | None = None) -> int:
     options.add_argument("--keep", action="store_true", help="keep the Debian for the next run")
     given, tally = options.parse_args(words), Tally()
     signal.signal(signal.SIGTERM, lambda *_: sys.exit(1))  # (so that the container ends with this script)
-    if given.root.exists() and not (given.root / MADE).exists() and (not given.root.is_dir() or any(given.root.iterdir())):
+    if not is_ours(given.root):
         options.error(f"{given.root} is there, and no Debian that this script made")
     given.root.parent.mkdir(parents=True, exist_ok=True)
     tally.part(run_day, given)
