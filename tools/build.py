@@ -7,9 +7,9 @@
 
 First the crates are proved, many side by side, but for what was proved of the same files: by an earlier run on this computer where
 the kit keeps that, and else in this tree, for example by `make test`. A program for x86-64-v2 is then put to FILE as it was built when
-it was proved, and a static library is compiled from what was checked of it. What is for another processor LEVEL, such as x86-64-v3, is
-proved as it is built, over the same libraries; so are static libraries with a kit that keeps what it proved, since it leaves nothing of
-them that can be compiled. A note, FILE.of, says of which files FILE was built, and nothing is done where these are as they were.
+it was proved, and a static library is compiled from what was checked of it in this tree. A static library of which nothing was checked
+here, and what is for another processor LEVEL, such as x86-64-v3, is proved as it is built, over the same libraries. A note, FILE.of,
+says of which files FILE was built, and nothing is done where these are as they were.
 
 --products builds all that is installed and all that `make check` needs, or of these what is for a processor LEVEL, side by side, and ends
 with 'N passed, M failed'. --libraries does the same for the static libraries of x86-64-v2: out/proved.a, out/proved_host.a and
@@ -49,9 +49,9 @@ class Product(typing.NamedTuple):
     file: pathlib.Path
     cpu: str = DEFAULT
 
-    def is_given(self, kit: Any, crate: Any) -> bool:
-        """Whether a proof of the crate leaves what it is made of: a program, or what was checked of a static library."""
-        return self.cpu == DEFAULT and not (crate.is_static and proved.keeps(kit))
+    def is_given(self, crate: Any) -> bool:
+        """Whether a proof of the crate left what it is made of: a program, or what was checked of a static library."""
+        return self.cpu == DEFAULT and (not crate.is_static or checked_of(crate).is_dir())
 
 
 PRODUCTS = [
@@ -65,6 +65,11 @@ PRODUCTS = [
 ]
 LEVELS = sorted({it.cpu for it in PRODUCTS})
 LIBRARIES = [it for it in PRODUCTS if it.file.suffix == ".a" and it.cpu == DEFAULT]
+
+
+def checked_of(crate: Any) -> pathlib.Path:
+    """Where a proof in this tree leaves what it checked of a static library."""
+    return TOP / "crates" / str(crate.name) / "out/checked"
 
 
 def note_of(product: Product) -> pathlib.Path:
@@ -85,12 +90,12 @@ def is_built(product: Product, sums: Mapping[str, str]) -> bool:
     return True
 
 
-def wanted_of(kit: Any, every: Mapping[str, Any], products: Iterable[Product]) -> list[str]:
+def wanted_of(every: Mapping[str, Any], products: Iterable[Product]) -> list[str]:
     """The crates that are to be proved before these products are built: what isn't given is proved as it is built."""
     wanted = []
     for it in products:
         crate = every[it.crate]
-        wanted += [it.crate] if it.is_given(kit, crate) else [below.name for below in crate.deps]
+        wanted += [it.crate] if it.is_given(crate) else [below.name for below in crate.deps]
     return list(dict.fromkeys(wanted))
 
 
@@ -129,7 +134,7 @@ def compile_checked(kit: Any, crate: Any, words: Sequence[str], to: str) -> int:
     for flag in ("--logic-built", "--jobs"):
         at = whole.index(flag)
         del whole[at : at + 2]
-    ran = [kit.rtlib.RATTLE, "build", *whole, "--crate-checked", f"{crate.folder}/out/checked", "-o", to]
+    ran = [kit.rtlib.RATTLE, "build", *whole, "--crate-checked", str(checked_of(crate)), "-o", to]
     return subprocess.run([*kit.rtlib.guarded(), *ran], cwd=crate.folder, stdin=subprocess.DEVNULL, stdout=crate.out, stderr=crate.out, check=False).returncode
 
 
@@ -137,16 +142,15 @@ def compiled(kit: Any, crate: Any, product: Product) -> str | None:
     """Builds a crate for a processor level, and returns where its program or library lies."""
     level = "" if product.cpu == DEFAULT else f"-{product.cpu}"
     made = f"{crate.folder}/out/{f'lib{crate.name}{level}.a' if crate.is_static else f'{crate.name}{level}'}"
-    is_given = product.is_given(kit, crate)
+    is_given = product.is_given(crate)
     if is_given and not crate.is_static and os.path.isfile(made):
         return made
     os.makedirs(f"{crate.folder}/out", exist_ok=True)
     words = [*crate.words(["--jobs", "1"], keeps=False), "--toolchain", f"{kit.KIT}/toolchain", "--backend", "llvm"]
     to, crate = made if crate.is_static else f"{made}.o", copy.copy(crate)
     with tempfile.TemporaryFile("a+", errors="replace") as crate.out:
-        if is_given and crate.is_static:
-            status = compile_checked(kit, crate, words, to)
-        else:
+        status = compile_checked(kit, crate, words, to) if is_given and crate.is_static else 1
+        if status:
             status = crate.prove(["build", *words, "--cpu", product.cpu, "-o", to])
         status = status or (0 if crate.is_static else crate.link(to, os.path.relpath(made, crate.folder)))
         crate.out.seek(0)
@@ -182,7 +186,7 @@ def build(kit: Any, products: Sequence[Product]) -> list[Product]:
     for it in there:
         print(f"{it.crate} for {it.cpu} is built already of the same files")
     products = [it for it in products if it not in there]
-    names = wanted_of(kit, every, products)
+    names = wanted_of(every, products)
     if not products or not (prove_kept(names) if proved.keeps(kit) else proved.prove(kit, names)):
         return there
     if not proved.keeps(kit):

@@ -3,8 +3,8 @@
 
     tools/ci.py [--anew]
 
-`tools/build.py` compiles the libraries from there, so that they aren't proved twice. A kit that keeps what it proved runs as it is, and takes
---anew. All that is printed, and the status, are those of `rt ci`.
+`tools/build.py` compiles the libraries from there, so that they aren't proved twice. A kit that keeps what it proved takes --anew. All that
+is printed, and the status, are those of `rt ci`.
 """
 from __future__ import annotations
 
@@ -12,18 +12,13 @@ import os
 import sys
 
 import checks_path  # noqa: F401
-from common import proved
 from common.kit import load_kit
 from harness import TOP
 
 
 def main() -> int:
-    kit, words = load_kit(), ["ci", *sys.argv[1:]]
     os.chdir(TOP)
-    if proved.keeps(kit):
-        sys.stdout.flush()
-        os.execvp("rt", ["rt", *words])
-    return int(kit.main(words) or 0)
+    return int(load_kit().main(["ci", *sys.argv[1:]]) or 0)
 
 
 if __name__ == "__main__":

@@ -22,15 +22,14 @@ def leave_checked(kit: Any) -> None:
 
 
 def load_kit() -> Any:
-    """The kit's own command as a module, set as `rt ci` sets it. (One that keeps what it proved proves static libraries in its own way.)"""
+    """The kit's own command as a module, set as `rt ci` sets it."""
     path = os.path.realpath(shutil.which("rt") or "rt")
     loader = importlib.machinery.SourceFileLoader("rt", path)
     spec = importlib.util.spec_from_loader("rt", loader)
     assert spec is not None
     made: Any = importlib.util.module_from_spec(spec)
     loader.exec_module(made)
-    if not hasattr(made, "Kept"):
-        leave_checked(made)
+    leave_checked(made)
     made.Crate.cuts_libraries = True
     made.rtlib.Crate = made.Crate
     made.rtlib.guarded()
