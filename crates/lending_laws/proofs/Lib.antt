@@ -5,6 +5,7 @@ pub mod Kept
 pub mod Lender
 pub mod Looks
 pub mod Notes
+pub mod Orders
 pub mod Outcomes
 pub mod Over
 pub mod Pages

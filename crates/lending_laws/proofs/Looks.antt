@@ -23,23 +23,23 @@ reads_if true m x e = cc
 reads_if false true x e = refl
 reads_if false false x e = cc
 
-first_of : (a b : Bool) → (a && b) ≡ true → a ≡ true
+pub first_of : (a b : Bool) → (a && b) ≡ true → a ≡ true
 first_of true b e = refl
 first_of false b e = cc
 
-rest_of : (a b : Bool) → (a && b) ≡ true → b ≡ true
+pub rest_of : (a b : Bool) → (a && b) ≡ true → b ≡ true
 rest_of true b e = e
 rest_of false b e = cc
 
-no_more : (b : Bool) → not b ≡ true → b ≡ false
+pub no_more : (b : Bool) → not b ≡ true → b ≡ false
 no_more true e = cc
 no_more false e = refl
 
-neither_left : (a b : Bool) → (a || b) ≡ false → a ≡ false
+pub neither_left : (a b : Bool) → (a || b) ≡ false → a ≡ false
 neither_left true b e = cc
 neither_left false b e = refl
 
-neither_right : (a b : Bool) → (a || b) ≡ false → b ≡ false
+pub neither_right : (a b : Bool) → (a || b) ≡ false → b ≡ false
 neither_right true b e = cc
 neither_right false b e = e
 

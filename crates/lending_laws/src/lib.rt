@@ -10,6 +10,7 @@ ghost use Rattle.lending_laws.specs.Holds.{EachComparisonIsTrue, EachHoldReadsTh
 ghost use Rattle.lending_laws.specs.Looks.{EachStepReadsWhatItMay};
 ghost use Rattle.lending_laws.specs.ProcessCalls.{EachCallGoesOnInAll};
 ghost use Rattle.lending_laws.specs.Notes.{EachIsDetached, EachLookIsCalls, EachNoteIsACall, EachStepTells};
+ghost use Rattle.lending_laws.specs.Orders.{EachCopyMay, EachHoldMay, EachListHasRoom, EachLoanMay, EachMapMay, EachQuestionMay, EachReturnMay};
 ghost use Rattle.lending_laws.specs.Processes.{EachPageOfAllIsRead, EachSlotIsOneWindows, EachWindowIsAlone, NoSlotOfAllIsLost, NoneOfAllIsReleasedShown};
 ghost use Rattle.lending_laws.specs.Reading.{EachBeliefIsRight, EachEventKeepsReading, EachFrameIsNoted, EachOrderIsDue, EachOrderIsPossible, EachPageIsRead, StartBegins};
 ghost use Rattle.lending_laws.specs.Slots.{EachSlotIsOnes, NoSlotIsLost, NoneIsReleasedShown};
@@ -59,6 +60,20 @@ pub fn lender_law()
     ensures windows { EachCallGoesOnInAll }
     ensures ends { EachEndIsWell }
     ensures ends_in_all { EachEndIsWellInAll }
+{}
+
+/// *An order names only a page that may be lent*: one that is in its window and stays there, and that no call of the monitor, transfer, device,
+/// child of a fork or lock bars, by the facts of the call that gives the order. So it is with each question to a host, each copy, each loan that is
+/// asked for, each hold, and each frame or zeros that are mapped in a page's place. Pages are asked about, held and given back only where there is
+/// room for their mappings, and the pages of a list that others have take no more together than there may be (`room`).
+pub fn orders_law()
+    ensures asks { EachQuestionMay }
+    ensures copies { EachCopyMay }
+    ensures loans { EachLoanMay }
+    ensures holds { EachHoldMay }
+    ensures returns { EachReturnMay }
+    ensures maps { EachMapMay }
+    ensures room { EachListHasRoom }
 {}
 
 /// With a host that gives only slots that it hasn't given: *each slot that it gave and hasn't got back is exactly one page's*, at each
