@@ -7,6 +7,8 @@ pub mod Looks
 pub mod Notes
 pub mod Outcomes
 pub mod Over
+pub mod Owned
+pub mod OwnedLists
 pub mod Pages
 pub mod ProcessCalls
 pub mod Processes

@@ -4,6 +4,7 @@ pub mod Holds
 pub mod Lender
 pub mod Looks
 pub mod Notes
+pub mod Owned
 pub mod ProcessCalls
 pub mod Processes
 pub mod Reading
