@@ -1,7 +1,7 @@
 -- Each call of a value that owns all windows of a process is a call for the pages of one window.
 use Rattle.std.proofs.Common.{◌≡◌, ◌∙◌, ◌⊎◌, inl, inr, ℕ, ◌+◌, ◌<◌, ◌≤◌, Bool, true, false, not, ◌||◌, List, [], length, Option, Some, None, refl, ap, sym, subst}
-use Rattle.std.proofs.lemmas.Bool.{cases_eq, cases_lt}
-use Rattle.std.proofs.lemmas.List.{get_or_past, get_or-set_other, get_or-set_same}
+use Rattle.std.proofs.lemmas.Bool.{cases_eq}
+use Rattle.std.proofs.lemmas.List.{get_or-set_other, set-get_or}
 use Rattle.std.specs.Prelude.{nat_lt, slice_index_or, slice_set}
 use Rattle.lend_steps.specs.Asks.{AnsweredAt, AsksAt, has_room, is_passing, takes_if_found, takes_none}
 use Rattle.lend_steps.specs.Copies.{CopiedAt, CopiesAt, copied_by, facts_in, is_ready}
@@ -20,7 +20,7 @@ use Rattle.process_lender.specs.Lists.{Answered, CameOfCopies, CameOfLoans, Came
 use Rattle.process_lender.specs.Notices.{Becomes, BecomeOne, IsNoted}
 use Rattle.process_lender.specs.Rows.{BeginsRow, CameOfOrder, FindsNext, nothing_next}
 use Rattle.process_lender.specs.Scans.{BeginsScan, CameOfSteps, FollowsChanges, scan_of}
-use Rattle.process_lender.specs.Windows.{InPages, InWindow, Lender, Window, in_it, in_none, is_not_there, is_there, table_facts, window_at, with_mappings, with_pages, with_window}
+use Rattle.process_lender.specs.Windows.{AtPlace, HasPages, Lender, Stay, Window, table_facts, window_at}
 use Rattle.process_lender.specs.declared.choice.Choice.{Choice}
 use Rattle.process_lender.specs.declared.choice.Choice.TheVariants.{ToAsk, ToHold, ToGiveBack}
 use Rattle.process_lender.specs.declared.facts.ProcessFacts.{ProcessFacts}
@@ -34,7 +34,7 @@ use Rattle.window_tables.specs.Facts.{facts_at}
 use Rattle.window_tables.specs.Homes.{Changes, HasMoved, IsCalled, IsCopied, IsHome, OneMemory}
 use Rattle.window_tables.specs.Mappings.{is_whole}
 use Rattle.window_tables.specs.Rooms.{are_alone}
-use Rattle.window_tables.specs.Tables.{Notes, can_note, part_at}
+use Rattle.window_tables.specs.Tables.{Counted, Notes, can_note, part_at}
 use Rattle.window_tables.specs.declared.changes.Change.TheVariants as Change
 use Rattle.window_tables.specs.declared.facts.TableFacts.{TableFacts}
 use Rattle.lending_laws.proofs.Kept.{IsKept}
@@ -46,23 +46,11 @@ use Rattle.lending_laws.specs.Histories.{Moment}
 use Rattle.lending_laws.specs.Lender as call
 use Rattle.lending_laws.specs.Lender.{AreSo, Called, CopiesAreSo, CopyIsSo, HomesAreSo, IsSoOf, LoanIsSo, row_outcome}
 use Rattle.lending_laws.specs.Owned as owned
-use Rattle.lending_laws.specs.Owned.{EachIsSo, EachOwnedCallGoesOn, Knows, NoticeIsSo, OwnedCall, OwnedGoesOn, ShowNone}
+use Rattle.lending_laws.specs.Owned.{AreCounted, EachIsSo, EachOwnedCallCounts, EachOwnedCallGoesOn, Knows, NoticeIsSo, OwnedCall, OwnedGoesOn, ShowNone}
 use Rattle.lending_laws.specs.ProcessCalls.{GivesFor}
 use Rattle.lending_laws.specs.Processes.{OthersStay, Process, ProcessHistory, Span, moment_of}
 
 -- ---- the list of windows
-
-no_none : (w : Window) → None ≡ Some w → ⊥
-no_none w e = cc
-
-within : (place : ℕ) (ws : List (Option Window)) (w : Window) → window_at place ws ≡ Some w → place < length ws
-within place ws w e = pick (cases_lt place (length ws)) where
-  pick : (place < length ws) ⊎ (length ws ≤ place) → place < length ws
-  pick (inl l) = l
-  pick (inr l) = absurd (no_none w (sym (get_or_past ws place None l) ∙ e))
-
-own : (place : ℕ) (ws : List (Option Window)) (w v : Window) → window_at place ws ≡ Some w → window_at place (slice_set ws place (Some v)) ≡ Some v
-own place ws w v e = get_or-set_same ws place (Some v) None (within place ws w e)
 
 other : (j place : ℕ) (ws : List (Option Window)) (v : Option Window) → (j ≡ place → ⊥) → window_at j (slice_set ws place v) ≡ window_at j ws
 other j place ws v n = get_or-set_other ws place j v None n
@@ -166,44 +154,47 @@ goes f spans number place x gives old new w v h k g b (is_same e) =
       reads = λ j i o l. each_page_of_all_is_read f spans j i x h o l;
     }
 
-nothing_goes : (f : Bool) (spans : ℕ → Span) (number : ℕ → ℕ) (place : ℕ) (x : Process) (old new : Lender) → ProcessHistory f spans x → Knows number old x → new ≡ old → OwnedGoesOn f spans number place x old new
-nothing_goes f spans number place x old new h k e =
-    subst (λ l. OwnedGoesOn f spans number place x old l) (sym e)
-        (record {
-          now = x;
-          history = h;
-          knows = k;
-          beside = λ j n. refl;
-          others = stays_so (number place) x;
-          stored = refl;
-          world = refl;
-          reads = λ j i o l. each_page_of_all_is_read f spans j i x h o l;
-        })
-
-one_becomes : (place : ℕ) (old new : Lender) (w v : Window) → window_at place old.windows ≡ Some w → new.windows ≡ slice_set old.windows place (Some v) → OneBecomes place old new w v
-one_becomes place old new w v there e = record {
-  there = there;
-  after = subst (λ l. window_at place l ≡ Some v) (sym e) (own place old.windows w v there);
-  beside = λ j n. subst (λ l. window_at j l ≡ window_at j old.windows) (sym e) (other j place old.windows (Some v) n);
+same_known : (number : ℕ → ℕ) (x : Process) (old new : Lender) → new.windows ≡ old.windows → Knows number old x → Knows number new x
+same_known number x old new e k = record {
+  pages = λ i u f. k.pages i u (subst (λ l. window_at i l ≡ Some u) e f);
+  is_open = λ i u f. k.is_open i u (subst (λ l. window_at i l ≡ Some u) e f);
+  apart = λ i j t u f q n. k.apart i j t u (subst (λ l. window_at i l ≡ Some t) e f) (subst (λ l. window_at j l ≡ Some u) e q) n;
 }
 
-by_pages : (f : Bool) (spans : ℕ → Span) (number : ℕ → ℕ) (place : ℕ) (x : Process) (gives : (ℕ → Bool) → ℕ → Bool) (old new : Lender) (Says : Window → List WindowPage → List PartCounts → Type 0) (Nothing : Type 0) → ProcessHistory f spans x →
-    Knows number old x → GivesFor f (number place) x gives → InPages Says Nothing place old new →
+nothing_goes : (f : Bool) (spans : ℕ → Span) (number : ℕ → ℕ) (place : ℕ) (x : Process) (old new : Lender) → ProcessHistory f spans x → Knows number old x → new.windows ≡ old.windows → OwnedGoesOn f spans number place x old new
+nothing_goes f spans number place x old new h k e = record {
+  now = x;
+  history = h;
+  knows = same_known number x old new e k;
+  beside = λ j n. ap (λ l. window_at j l) e;
+  others = stays_so (number place) x;
+  stored = refl;
+  world = refl;
+  reads = λ j i o l. each_page_of_all_is_read f spans j i x h o l;
+}
+
+-- where there is no window, the list of windows stays
+none_stays : (place : ℕ) (old new : Lender) → new.windows ≡ slice_set old.windows place (window_at place new.windows) → window_at place old.windows ≡ None → window_at place new.windows ≡ None → new.windows ≡ old.windows
+none_stays place old new e was is = e ∙ ap (λ o. slice_set old.windows place o) (is ∙ sym was) ∙ set-get_or old.windows place None
+
+one_becomes : (place : ℕ) (old new : Lender) (w v : Window) → new.windows ≡ slice_set old.windows place (window_at place new.windows) → window_at place old.windows ≡ Some w → window_at place new.windows ≡ Some v → OneBecomes place old new w v
+one_becomes place old new w v e was is = record {
+  there = was;
+  after = is;
+  beside = λ j n. ap (λ l. window_at j l) e ∙ other j place old.windows (window_at place new.windows) n;
+}
+
+by_place : (f : Bool) (spans : ℕ → Span) (number : ℕ → ℕ) (place : ℕ) (x : Process) (gives : (ℕ → Bool) → ℕ → Bool) (old new : Lender) (Says : Window → List WindowPage → List PartCounts → Type 0) (Nothing : Type 0) → ProcessHistory f spans x →
+    Knows number old x → GivesFor f (number place) x gives → new.windows ≡ slice_set old.windows place (window_at place new.windows) → AtPlace (HasPages Says) Nothing (window_at place old.windows) (window_at place new.windows) →
     ((w : Window) (pages : List WindowPage) (counts : List PartCounts) → x.pages (number place) ≡ w.pages → Says w pages counts → Became gives (spans (number place)).first (moment_of (number place) x) w pages) →
     OwnedGoesOn f spans number place x old new
-by_pages f spans number place x gives old new Says Nothing h k g (is_there w pages counts there e says) became =
-    goes f spans number place x gives old new w (with_pages pages counts w) h k g (one_becomes place old new w (with_pages pages counts w) there (ap (λ l. l.windows) e))
-        (became w pages counts (k.pages place w there) says)
-by_pages f spans number place x gives old new Says Nothing h k g (is_not_there none e nothing) became = nothing_goes f spans number place x old new h k e
-
-by_window : (f : Bool) (spans : ℕ → Span) (number : ℕ → ℕ) (place : ℕ) (x : Process) (gives : (ℕ → Bool) → ℕ → Bool) (old new : Lender) (Says : Window → List WindowPage → List PartCounts → ℕ → Type 0) (Nothing : Type 0) → ProcessHistory f spans x →
-    Knows number old x → GivesFor f (number place) x gives → InWindow Says Nothing place old new →
-    ((w : Window) (pages : List WindowPage) (counts : List PartCounts) (mappings : ℕ) → x.pages (number place) ≡ w.pages → Says w pages counts mappings → Became gives (spans (number place)).first (moment_of (number place) x) w pages) →
-    OwnedGoesOn f spans number place x old new
-by_window f spans number place x gives old new Says Nothing h k g (in_it w pages counts mappings there e says) became =
-    goes f spans number place x gives old new w (with_pages pages counts w) h k g (one_becomes place old new w (with_pages pages counts w) there (ap (λ l. l.windows) e))
-        (became w pages counts mappings (k.pages place w there) says)
-by_window f spans number place x gives old new Says Nothing h k g (in_none none e nothing) became = nothing_goes f spans number place x old new h k e
+by_place f spans number place x gives old new Says Nothing h k g e at became = pick (window_at place old.windows) (window_at place new.windows) refl refl at where
+  pick : (a b : Option Window) → window_at place old.windows ≡ a → window_at place new.windows ≡ b → AtPlace (HasPages Says) Nothing a b → OwnedGoesOn f spans number place x old new
+  pick None None was is there = nothing_goes f spans number place x old new h k (none_stays place old new e was is)
+  pick None (Some v) was is there = absurd there
+  pick (Some w) None was is there = absurd there
+  pick (Some w) (Some v) was is there =
+      goes f spans number place x gives old new w v h k g (one_becomes place old new w v e was is) (became w v.pages v.counts (k.pages place w was) there.says)
 
 -- ---- notices
 
@@ -400,44 +391,116 @@ release_taken gives first m w pages counts numbers is_heard false e b so = is_sa
 
 pub each_owned_call_goes_on : EachOwnedCallGoesOn
 each_owned_call_goes_on f spans number place x gives old new h k g (owned.notes notice from n is c so) =
-    by_window f spans number place x gives old new (IsNoted notice old.facts from n is old.mappings) (is ≡ false) h k g c
-        (λ w pages counts mappings e b. noted gives (spans (number place)).first (moment_of (number place) x) old.facts w pages counts notice from n is e b.becomes so)
+    by_place f spans number place x gives old new (IsNoted notice old.facts from n is old.mappings new.mappings) (Stay (is ≡ false) old.mappings new.mappings) h k g (ap (λ l. l.windows) c.others) c.there
+        (λ w pages counts e b. noted gives (spans (number place)).first (moment_of (number place) x) old.facts w pages counts notice from n is e b.becomes so)
 each_owned_call_goes_on f spans number place x gives old new h k g (owned.begins_row from takings row row_new is c so) =
-    by_pages f spans number place x gives old new (BeginsRow from takings is row row_new) (NoAnswer is row row_new) h k g c
+    by_place f spans number place x gives old new (BeginsRow from takings is row row_new) (NoAnswer is row row_new) h k g (ap (λ l. l.windows) c.others) c.there
         (λ w pages counts e b. row_begun gives (spans (number place)).first (moment_of (number place) x) w pages counts from takings row row_new is e b so)
 each_owned_call_goes_on f spans number place x gives old new h k g (owned.finds_next from row order c) =
-    by_pages f spans number place x gives old new (FindsNext old.facts from row order) (order ≡ nothing_next) h k g c
+    by_place f spans number place x gives old new (FindsNext old.facts from row order) (order ≡ nothing_next) h k g (ap (λ l. l.windows) c.others) c.there
         (λ w pages counts e b. next_found gives (spans (number place)).first (moment_of (number place) x) old.facts w pages counts from row order e b)
 each_owned_call_goes_on f spans number place x gives old new h k g (owned.row_done from begin done refused row row_new is c so) =
-    by_pages f spans number place x gives old new (CameOfOrder from begin done refused is row row_new) (NoAnswer is row row_new) h k g c
+    by_place f spans number place x gives old new (CameOfOrder from begin done refused is row row_new) (NoAnswer is row row_new) h k g (ap (λ l. l.windows) c.others) c.there
         (λ w pages counts e b. order_done gives (spans (number place)).first (moment_of (number place) x) w pages counts from begin done refused row row_new is e b so)
 each_owned_call_goes_on f spans number place x gives old new h k g (owned.begins_scan scan from memory row row_new is c) =
-    by_pages f spans number place x gives old new (BeginsScan old.facts scan from memory is row row_new) (NoAnswer is row row_new) h k g c
+    by_place f spans number place x gives old new (BeginsScan old.facts scan from memory is row row_new) (NoAnswer is row row_new) h k g (ap (λ l. l.windows) c.others) c.there
         (λ w pages counts e b. scan_begun gives (spans (number place)).first (moment_of (number place) x) old.facts w pages counts scan from memory row row_new is e b)
 each_owned_call_goes_on f spans number place x gives old new h k g (owned.scan_done scan from outcomes row row_new is c so) =
-    by_pages f spans number place x gives old new (CameOfSteps scan from outcomes is row row_new) (NoAnswer is row row_new) h k g c
+    by_place f spans number place x gives old new (CameOfSteps scan from outcomes is row row_new) (NoAnswer is row row_new) h k g (ap (λ l. l.windows) c.others) c.there
         (λ w pages counts e b. steps_done gives (spans (number place)).first (moment_of (number place) x) w pages counts scan from outcomes row row_new is e b so)
 each_owned_call_goes_on f spans number place x gives old new h k g (owned.follows scan from memory row row_new is c) =
-    by_pages f spans number place x gives old new (FollowsChanges old.facts scan from memory is row row_new) (NoAnswer is row row_new) h k g c
+    by_place f spans number place x gives old new (FollowsChanges old.facts scan from memory is row row_new) (NoAnswer is row row_new) h k g (ap (λ l. l.windows) c.others) c.there
         (λ w pages counts e b. changes_followed gives (spans (number place)).first (moment_of (number place) x) old.facts w pages counts scan from memory row row_new is e b)
 each_owned_call_goes_on f spans number place x gives old new h k g (owned.chooses what numbers answers answers_new is c) =
-    by_pages f spans number place x gives old new (Chooses what old.facts old.mappings numbers is answers answers_new) (NoAnswer is answers answers_new) h k g c
+    by_place f spans number place x gives old new (Chooses what old.facts old.mappings numbers is answers answers_new) (NoAnswer is answers answers_new) h k g (ap (λ l. l.windows) c.others) c.there
         (λ w pages counts e b. chosen gives (spans (number place)).first (moment_of (number place) x) old.facts w pages counts what old.mappings numbers answers answers_new is e b)
 each_owned_call_goes_on f spans number place x gives old new h k g (owned.answered numbers fingerprints seen answers answers_new is c) =
-    by_pages f spans number place x gives old new (Answered old.facts old.mappings numbers fingerprints seen is answers answers_new) (NoAnswer is answers answers_new) h k g c
+    by_place f spans number place x gives old new (Answered old.facts old.mappings numbers fingerprints seen is answers answers_new) (NoAnswer is answers answers_new) h k g (ap (λ l. l.windows) c.others) c.there
         (λ w pages counts e b. answers_taken gives (spans (number place)).first (moment_of (number place) x) old.facts w pages counts old.mappings numbers fingerprints seen answers answers_new is e b)
 each_owned_call_goes_on f spans number place x gives old new h k g (owned.to_copy numbers there fingerprints answers answers_new is c) =
-    by_pages f spans number place x gives old new (ChoosesCopies old.facts numbers there fingerprints is answers answers_new) (NoAnswer is answers answers_new) h k g c
+    by_place f spans number place x gives old new (ChoosesCopies old.facts numbers there fingerprints is answers answers_new) (NoAnswer is answers answers_new) h k g (ap (λ l. l.windows) c.others) c.there
         (λ w pages counts e b. copies_chosen gives (spans (number place)).first (moment_of (number place) x) old.facts w pages counts numbers there fingerprints answers answers_new is e b)
 each_owned_call_goes_on f spans number place x gives old new h k g (owned.copied numbers outcomes answers answers_new is c so) =
-    by_pages f spans number place x gives old new (CameOfCopies old.facts numbers outcomes is answers answers_new) (NoAnswer is answers answers_new) h k g c
+    by_place f spans number place x gives old new (CameOfCopies old.facts numbers outcomes is answers answers_new) (NoAnswer is answers answers_new) h k g (ap (λ l. l.windows) c.others) c.there
         (λ w pages counts e b. copies_taken gives (spans (number place)).first (moment_of (number place) x) old.facts w pages counts numbers outcomes answers answers_new is e b so)
 each_owned_call_goes_on f spans number place x gives old new h k g (owned.loaned numbers slots given answers answers_new frames is_heard is c so) =
-    by_pages f spans number place x gives old new (CameOfLoans numbers slots given frames is_heard is answers answers_new) (NoAnswer is answers answers_new) h k g c
+    by_place f spans number place x gives old new (CameOfLoans numbers slots given frames is_heard is answers answers_new) (NoAnswer is answers answers_new) h k g (ap (λ l. l.windows) c.others) c.there
         (λ w pages counts e b. loans_taken gives (spans (number place)).first (moment_of (number place) x) w pages counts numbers slots given answers answers_new frames is_heard is e b so)
 each_owned_call_goes_on f spans number place x gives old new h k g (owned.to_release from n count places places_new c) =
-    by_pages f spans number place x gives old new (FindsReleases old.facts from n count places places_new) (NoneFound count places places_new) h k g c
+    by_place f spans number place x gives old new (FindsReleases old.facts from n count places places_new) (NoneFound count places places_new) h k g (ap (λ l. l.windows) c.others) c.there
         (λ w pages counts e b. releases_found gives (spans (number place)).first (moment_of (number place) x) old.facts w pages counts from n count places places_new e b)
 each_owned_call_goes_on f spans number place x gives old new h k g (owned.released numbers is_heard is c so) =
-    by_pages f spans number place x gives old new (CameOfRelease numbers is_heard is) (is ≡ false) h k g c
+    by_place f spans number place x gives old new (CameOfRelease numbers is_heard is) (is ≡ false) h k g (ap (λ l. l.windows) c.others) c.there
         (λ w pages counts e b. release_taken gives (spans (number place)).first (moment_of (number place) x) w pages counts numbers is_heard is e b so)
+
+-- ---- counts of parts
+
+counted_one : (place : ℕ) (old new : Lender) (w v : Window) → OneBecomes place old new w v → AreCounted old → (Counted w.lead w.pages w.counts → Counted v.lead v.pages v.counts) → AreCounted new
+counted_one place old new w v b all step i u e = pick (cases_eq i place) where
+  pick : (i ≡ place) ⊎ (i ≡ place → ⊥) → Counted u.lead u.pages u.counts
+  pick (inl q) =
+      let its : window_at place new.windows ≡ Some u = subst (λ j. window_at j new.windows ≡ Some u) q e in
+      subst (λ z. Counted z.lead z.pages z.counts) (some_is v u (sym b.after ∙ its)) (step (all place w b.there))
+  pick (inr n) = all i u (sym (b.beside i n) ∙ e)
+
+place_counted : (place : ℕ) (old new : Lender) (Says : Window → List WindowPage → List PartCounts → Type 0) (Nothing : Type 0) → new.windows ≡ slice_set old.windows place (window_at place new.windows) →
+    AtPlace (HasPages Says) Nothing (window_at place old.windows) (window_at place new.windows) → AreCounted old →
+    ((w : Window) (pages : List WindowPage) (counts : List PartCounts) → Says w pages counts → Counted w.lead w.pages w.counts → Counted w.lead pages counts) → AreCounted new
+place_counted place old new Says Nothing e at all step = pick (window_at place old.windows) (window_at place new.windows) refl refl at where
+  pick : (a b : Option Window) → window_at place old.windows ≡ a → window_at place new.windows ≡ b → AtPlace (HasPages Says) Nothing a b → AreCounted new
+  pick None None was is there = λ i u q. all i u (subst (λ l. window_at i l ≡ Some u) (none_stays place old new e was is) q)
+  pick None (Some v) was is there = absurd there
+  pick (Some w) None was is there = absurd there
+  pick (Some w) (Some v) was is there = counted_one place old new w v (one_becomes place old new w v e was is) all
+      (λ k. subst (λ lead. Counted lead v.pages v.counts) (sym (ap (λ z. z.lead) there.rest)) (step w v.pages v.counts there.says k))
+
+noted_counted : (facts : ProcessFacts) (w : Window) (pages : List WindowPage) (counts : List PartCounts) (notice : Notice) (from n : ℕ) (is : Bool) → Becomes notice facts from n is w pages counts → Counted w.lead w.pages w.counts → Counted w.lead pages counts
+noted_counted facts w pages counts (Notice.Covered frame) from n is b k = b.counted k
+noted_counted facts w pages counts Notice.Uncovered from n is b k = b.counted k
+noted_counted facts w pages counts Notice.MovedThere from n is b k = b.counted k
+noted_counted facts w pages counts (Notice.ZerosMapped is_said) from n is b k = b.counted k
+noted_counted facts w pages counts Notice.Unmapped from n is b k = b.counted k
+noted_counted facts w pages counts Notice.Detached from n is b k = b.counted k
+noted_counted facts w pages counts Notice.OneMemory from n is b k = b.counted k
+noted_counted facts w pages counts Notice.GivenUp from n is b k = b.counted k
+noted_counted facts w pages counts Notice.Left from n is b k = b.counted k
+noted_counted facts w pages counts Notice.MovedHome from n is b k = b.counted k
+noted_counted facts w pages counts Notice.CopiedHome from n is b k = b.counted k
+noted_counted facts w pages counts Notice.RefusedHome from n is b k = b.counted k
+noted_counted facts w pages counts (Notice.CalledHome why) from n is b k = b.counted k
+
+chosen_counted : (facts : ProcessFacts) (w : Window) (pages : List WindowPage) (counts : List PartCounts) (what : Choice) (taken : ℕ) (numbers answers answers_new : List ℕ) (is : Bool) → Chooses what facts taken numbers is answers answers_new w pages counts →
+    Counted w.lead w.pages w.counts → Counted w.lead pages counts
+chosen_counted facts w pages counts (ToAsk config look) taken numbers answers answers_new is b k = b.counted k
+chosen_counted facts w pages counts ToHold taken numbers answers answers_new is b k = b.counted k
+chosen_counted facts w pages counts ToGiveBack taken numbers answers answers_new is b k = b.counted k
+
+pub each_owned_call_counts : EachOwnedCallCounts
+each_owned_call_counts gives first m place old new all (owned.notes notice from n is c so) =
+    place_counted place old new (IsNoted notice old.facts from n is old.mappings new.mappings) (Stay (is ≡ false) old.mappings new.mappings) (ap (λ l. l.windows) c.others) c.there all (λ w pages counts b k. noted_counted old.facts w pages counts notice from n is b.becomes k)
+each_owned_call_counts gives first m place old new all (owned.begins_row from takings row row_new is c so) =
+    place_counted place old new (BeginsRow from takings is row row_new) (NoAnswer is row row_new) (ap (λ l. l.windows) c.others) c.there all (λ w pages counts b k. b.counted k)
+each_owned_call_counts gives first m place old new all (owned.finds_next from row order c) =
+    place_counted place old new (FindsNext old.facts from row order) (order ≡ nothing_next) (ap (λ l. l.windows) c.others) c.there all (λ w pages counts b k. b.counted k)
+each_owned_call_counts gives first m place old new all (owned.row_done from begin done refused row row_new is c so) =
+    place_counted place old new (CameOfOrder from begin done refused is row row_new) (NoAnswer is row row_new) (ap (λ l. l.windows) c.others) c.there all (λ w pages counts b k. b.counted k)
+each_owned_call_counts gives first m place old new all (owned.begins_scan scan from memory row row_new is c) =
+    place_counted place old new (BeginsScan old.facts scan from memory is row row_new) (NoAnswer is row row_new) (ap (λ l. l.windows) c.others) c.there all (λ w pages counts b k. b.counted k)
+each_owned_call_counts gives first m place old new all (owned.scan_done scan from outcomes row row_new is c so) =
+    place_counted place old new (CameOfSteps scan from outcomes is row row_new) (NoAnswer is row row_new) (ap (λ l. l.windows) c.others) c.there all (λ w pages counts b k. b.counted k)
+each_owned_call_counts gives first m place old new all (owned.follows scan from memory row row_new is c) =
+    place_counted place old new (FollowsChanges old.facts scan from memory is row row_new) (NoAnswer is row row_new) (ap (λ l. l.windows) c.others) c.there all (λ w pages counts b k. b.counted k)
+each_owned_call_counts gives first m place old new all (owned.chooses what numbers answers answers_new is c) =
+    place_counted place old new (Chooses what old.facts old.mappings numbers is answers answers_new) (NoAnswer is answers answers_new) (ap (λ l. l.windows) c.others) c.there all (λ w pages counts b k. chosen_counted old.facts w pages counts what old.mappings numbers answers answers_new is b k)
+each_owned_call_counts gives first m place old new all (owned.answered numbers fingerprints seen answers answers_new is c) =
+    place_counted place old new (Answered old.facts old.mappings numbers fingerprints seen is answers answers_new) (NoAnswer is answers answers_new) (ap (λ l. l.windows) c.others) c.there all (λ w pages counts b k. b.counted k)
+each_owned_call_counts gives first m place old new all (owned.to_copy numbers there fingerprints answers answers_new is c) =
+    place_counted place old new (ChoosesCopies old.facts numbers there fingerprints is answers answers_new) (NoAnswer is answers answers_new) (ap (λ l. l.windows) c.others) c.there all (λ w pages counts b k. b.counted k)
+each_owned_call_counts gives first m place old new all (owned.copied numbers outcomes answers answers_new is c so) =
+    place_counted place old new (CameOfCopies old.facts numbers outcomes is answers answers_new) (NoAnswer is answers answers_new) (ap (λ l. l.windows) c.others) c.there all (λ w pages counts b k. b.counted k)
+each_owned_call_counts gives first m place old new all (owned.loaned numbers slots given answers answers_new frames is_heard is c so) =
+    place_counted place old new (CameOfLoans numbers slots given frames is_heard is answers answers_new) (NoAnswer is answers answers_new) (ap (λ l. l.windows) c.others) c.there all (λ w pages counts b k. b.counted k)
+each_owned_call_counts gives first m place old new all (owned.to_release from n count places places_new c) =
+    place_counted place old new (FindsReleases old.facts from n count places places_new) (NoneFound count places places_new) (ap (λ l. l.windows) c.others) c.there all (λ w pages counts b k. b.counted k)
+each_owned_call_counts gives first m place old new all (owned.released numbers is_heard is c so) =
+    place_counted place old new (CameOfRelease numbers is_heard is) (is ≡ false) (ap (λ l. l.windows) c.others) c.there all (λ w pages counts b k. b.counted k)

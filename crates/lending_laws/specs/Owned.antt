@@ -9,7 +9,7 @@ use Rattle.page_holds.specs.declared.rows.run.RowOrder.{RowOrder}
 use Rattle.page_lender.specs.declared.order.Outcome.TheVariants.{Done, Refused}
 use Rattle.page_looks.specs.declared.finds.step.FindOutcome.{FindOutcome}
 use Rattle.process_lender.specs.Lists.{Answered, CameOfCopies, CameOfLoans, CameOfRelease, Chooses, ChoosesCopies, FindsReleases, NoAnswer, NoneFound}
-use Rattle.process_lender.specs.Notices.{IsNoted}
+use Rattle.process_lender.specs.Notices.{TakesNote}
 use Rattle.process_lender.specs.Rows.{BeginsRow, CameOfOrder, FindsNext, nothing_next}
 use Rattle.process_lender.specs.Scans.{BeginsScan, CameOfSteps, FollowsChanges}
 use Rattle.process_lender.specs.Windows.{InPages, InWindow, Lender, Window, window_at}
@@ -19,6 +19,7 @@ use Rattle.process_lender.specs.declared.notice.Notice.{Notice}
 use Rattle.process_lender.specs.declared.notice.Notice.TheVariants as Notice
 use Rattle.window_pages.specs.Bytes.{belief_of}
 use Rattle.window_pages.specs.declared.page.WindowPage.{WindowPage}
+use Rattle.window_tables.specs.Tables.{Counted}
 use Rattle.lending_laws.specs.Histories.{Moment, Reads}
 use Rattle.lending_laws.specs.Lender.{AreSo, CopiesAreSo, CopyIsSo, HomesAreSo, IsSoOf, LoanIsSo, row_outcome}
 use Rattle.lending_laws.specs.Notes.{ShowsNone}
@@ -70,7 +71,7 @@ EachIsSo IsSo m numbers = (n : ℕ) (now : Moment) → n < length numbers → Be
 
 -- A call for pages of the window at a place, by its contract, whatever it returns. If it did something, what it says is so.
 pub data OwnedCall (gives : (ℕ → Bool) → ℕ → Bool) (first : ℕ) (m : Moment) (place : ℕ) (old new : Lender) : Type 0 where
-  notes : (notice : Notice) (from n : ℕ) (is : Bool) → InWindow (IsNoted notice old.facts from n is old.mappings) (is ≡ false) place old new
+  notes : (notice : Notice) (from n : ℕ) (is : Bool) → InWindow (TakesNote notice old.facts from n is) (is ≡ false) place old new
       → (is ≡ true → NoticeIsSo gives first m from n notice) → OwnedCall gives first m place old new
   begins_row : (from : ℕ) (takings row row_new : List ℕ) (is : Bool) → InPages (BeginsRow from takings is row row_new) (NoAnswer is row row_new) place old new
       → (is ≡ true → AreSo gives m from 0 (length row) (λ n x. asks_for (belief_of x) (taking_at takings n))) → OwnedCall gives first m place old new
@@ -115,3 +116,11 @@ abbrev pub EachOwnedCallGoesOn : Type 0
 EachOwnedCallGoesOn =
     (is_fair : Bool) (spans : ℕ → Span) (number : ℕ → ℕ) (place : ℕ) (x : Process) (gives : (ℕ → Bool) → ℕ → Bool) (old new : Lender) → ProcessHistory is_fair spans x → Knows number old x →
     GivesFor is_fair (number place) x gives → OwnedCall gives (spans (number place)).first (moment_of (number place) x) place old new → OwnedGoesOn is_fair spans number place x old new
+
+-- The counts of the parts of each window are right of its pages.
+abbrev pub AreCounted : Lender → Type 0
+AreCounted lender = (place : ℕ) (w : Window) → window_at place lender.windows ≡ Some w → Counted w.lead w.pages w.counts
+
+-- they stay so, whatever a call says
+abbrev pub EachOwnedCallCounts : Type 0
+EachOwnedCallCounts = (gives : (ℕ → Bool) → ℕ → Bool) (first : ℕ) (m : Moment) (place : ℕ) (old new : Lender) → AreCounted old → OwnedCall gives first m place old new → AreCounted new

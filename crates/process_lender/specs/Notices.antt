@@ -9,7 +9,7 @@ use Rattle.window_tables.specs.Mappings.{kept_then, mappings_at}
 use Rattle.window_tables.specs.Rooms.{are_alone}
 use Rattle.window_tables.specs.Tables.{Counted, Notes, can_note}
 use Rattle.window_tables.specs.declared.changes.Change.TheVariants as Change
-use Rattle.process_lender.specs.Windows.{Window, table_facts}
+use Rattle.process_lender.specs.Windows.{HasPages, Window, table_facts}
 use Rattle.process_lender.specs.declared.facts.ProcessFacts.{ProcessFacts}
 use Rattle.process_lender.specs.declared.notice.Notice.{Notice}
 use Rattle.process_lender.specs.declared.notice.Notice.TheVariants as Notice
@@ -64,6 +64,10 @@ mappings_then notice first count is w pages mappings =
     else mappings
 
 -- This was noted of so many pages of a window.
-pub record IsNoted (notice : Notice) (facts : ProcessFacts) (first count : ℕ) (is : Bool) (mappings : ℕ) (w : Window) (pages : List WindowPage) (counts : List PartCounts) (mappings_new : ℕ) : Type 0 where
+pub record IsNoted (notice : Notice) (facts : ProcessFacts) (first count : ℕ) (is : Bool) (mappings mappings_new : ℕ) (w : Window) (pages : List WindowPage) (counts : List PartCounts) : Type 0 where
   pub becomes : Becomes notice facts first count is w pages counts
   pub kept : mappings_new ≡ mappings_then notice first count is w pages mappings
+
+-- A window gets its pages and counts by what was noted.
+abbrev pub TakesNote : Notice → ProcessFacts → ℕ → ℕ → Bool → ℕ → ℕ → Window → Window → Type 0
+TakesNote notice facts first count is mappings mappings_new old new = HasPages (IsNoted notice facts first count is mappings mappings_new) old new

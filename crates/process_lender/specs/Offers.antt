@@ -1,6 +1,7 @@
 -- Windows that are offered, and that end.
-use Rattle.std.specs.Prelude.{◌≡◌, ℕ, ◌+◌, ◌-◌, ◌/◌, ◌%◌, ◌^◌, Bool, true, false, not, ◌&&◌, nat_lt, if◌then◌else◌, min, List, [], ◌∷◌, ◌++◌, length, replicate, Option, Some, None, slice_set}
-use Rattle.std.specs.List.{list_any, position_or_len}
+use Rattle.std.specs.Prelude.{◌≡◌, ℕ, ◌+◌, ◌-◌, ◌/◌, ◌%◌, ◌^◌, Bool, true, false, not, ◌&&◌, nat_lt, if◌then◌else◌, min, List, [], ◌∷◌, ◌++◌, length, replicate, Option, Some, None, is_none, position, slice_set, unwrap_or}
+use Rattle.std.specs.Int.{div_ceil}
+use Rattle.std.specs.List.{list_any}
 use Rattle.std.specs.Option.{option_map_or}
 use Rattle.page_looks.specs.declared.parts.part.Part.{Part}
 use Rattle.window_pages.specs.Laws.{new_page, no_counts}
@@ -20,7 +21,7 @@ new_part = record { whole = false; pause = 0; alone = 0; rest = 0; left = 0; is_
 
 -- how many parts so many pages are in, where so many pages of the first part lie before them
 abbrev pub parts_in : ℕ → ℕ → ℕ
-parts_in lead count = (count + lead + 511) / 512
+parts_in lead count = div_ceil (count + lead) 512
 
 -- a window of which nothing is known: how many pages of its first part lie before it follows from the number of its first page in memory
 abbrev pub new_window : ℕ → ℕ → ℕ → WindowState → Window
@@ -43,13 +44,9 @@ more n count = min (2 ^ 64 - 1) (n + count)
 abbrev pub its_mappings : Window → ℕ
 its_mappings w = mappings_of w.lead w.parts w.pages
 
-abbrev pub is_free : Option Window → Bool
-is_free None = true
-is_free (Some w) = false
-
 -- the first free place, or the number of places
 abbrev pub first_free : List (Option Window) → ℕ
-first_free windows = position_or_len is_free windows
+first_free windows = unwrap_or (position is_none windows) (length windows)
 
 -- with this window at the first free place, or at a new one
 abbrev pub with_first : Window → List (Option Window) → List (Option Window)

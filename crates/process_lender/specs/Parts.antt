@@ -8,7 +8,6 @@ use Rattle.page_looks.specs.declared.parts.part.PartConfig.{PartConfig}
 use Rattle.page_looks.specs.declared.parts.part.PartLook.{PartLook}
 use Rattle.page_looks.specs.declared.parts.part.PartOrder.{PartOrder}
 use Rattle.window_pages.specs.declared.counts.PartCounts.{PartCounts}
-use Rattle.window_tables.specs.Mappings.{IsSet, is_part, kept_then, mappings_at}
 use Rattle.window_tables.specs.Pins.{can_pin, can_unpin, pinned, unpinned}
 use Rattle.window_tables.specs.Tables.{part_at}
 use Rattle.process_lender.specs.Windows.{Lender, Window, with_window}
@@ -54,24 +53,3 @@ pins_then false first count pins = if can_unpin first count pins then unpinned f
 
 abbrev pub with_pins : Bool → ℕ → ℕ → Window → Window
 with_pins is_pinned first count w = record w { pins = pins_then is_pinned first count w.pins }
-
--- a window of which the part of a page is whole from now on, or split
-abbrev pub with_whole : ℕ → Bool → Option Part → Window → Window
-with_whole first is_whole None w = w
-with_whole first is_whole (Some part) w = record w { parts = slice_set w.parts (part_at w.lead first) (record part { whole = is_whole }) }
-
-abbrev pub whole_set : ℕ → Bool → Window → Window
-whole_set first is_whole w = if is_part w.lead first w.pages w.parts then with_whole first is_whole (part_of first w) w else w
-
--- how many mappings there are then: a window that has ended has none that count
-abbrev pub mappings_whole : ℕ → Bool → Window → ℕ → ℕ
-mappings_whole first is_whole w mappings =
-    if is_part w.lead first w.pages w.parts && not w.has_ended
-    then kept_then mappings (mappings_at w.lead w.parts w.pages first 512) (mappings_at w.lead (whole_set first is_whole w).parts w.pages first 512)
-    else mappings
-
--- the part of a page of the window at a place is whole from now on, or split, if its pages are all there
-abbrev pub whole_set_in : ℕ → ℕ → Bool → Option Window → Lender → Lender
-whole_set_in place first is_whole None lender = lender
-whole_set_in place first is_whole (Some w) lender =
-    record (with_window place (Some (whole_set first is_whole w)) lender) { mappings = mappings_whole first is_whole w lender.mappings }

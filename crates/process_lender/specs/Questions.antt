@@ -32,19 +32,23 @@ is_so TakeZeros facts mappings first count w = has_room facts mappings first cou
 is_so (WantZeros is_watched) facts mappings first count w = wants_zeros w.lead w.parts w.pages first count is_watched && has_room facts mappings first count w
 is_so LieOver facts mappings first count w = lies_over w.pages first
 
--- Writes to none of these pages wait, and none that must have memory of its own shows a frame.
-pub record GoesOn (why : WindowFacts) (facts : ProcessFacts) (first count : ℕ) (w : Window) : Type 0 where
-  pub free : Each (λ i x. IsFree (belief_of x)) first count w.pages
-  pub own : Each (λ i x. must_own (bars_of (facts_of facts w why i) (known_of x)) ≡ true → ShowsNone (belief_of x)) first count w.pages
+-- where a call may go on, or memory may be exchanged, no write to any of these pages waits
+abbrev pub AreFree : Question → ℕ → ℕ → Window → Type 0
+AreFree (GoOn why) first count w = Each (λ i x. IsFree (belief_of x)) first count w.pages
+AreFree GiveUp first count w = Each (λ i x. IsFree (belief_of x)) first count w.pages
+AreFree Exchange first count w = Each (λ i x. IsFree (belief_of x)) first count w.pages
+AreFree TakeZeros first count w = Unit {0}
+AreFree (WantZeros is_watched) first count w = Unit {0}
+AreFree LieOver first count w = Unit {0}
 
--- what the answer yes says of each page
-abbrev pub Allows : Question → ProcessFacts → ℕ → ℕ → Window → Type 0
-Allows (GoOn why) facts first count w = GoesOn why facts first count w
-Allows GiveUp facts first count w = Each (λ i x. IsFree (belief_of x)) first count w.pages
-Allows Exchange facts first count w = Each (λ i x. IsFree (belief_of x)) first count w.pages
-Allows TakeZeros facts first count w = Unit {0}
-Allows (WantZeros is_watched) facts first count w = Unit {0}
-Allows LieOver facts first count w = Unit {0}
+-- where a call may go on, none that must have memory of its own shows a frame
+abbrev pub ShowTheirOwn : Question → ProcessFacts → ℕ → ℕ → Window → Type 0
+ShowTheirOwn (GoOn why) facts first count w = Each (λ i x. must_own (bars_of (facts_of facts w why i) (known_of x)) ≡ true → ShowsNone (belief_of x)) first count w.pages
+ShowTheirOwn GiveUp facts first count w = Unit {0}
+ShowTheirOwn Exchange facts first count w = Unit {0}
+ShowTheirOwn TakeZeros facts first count w = Unit {0}
+ShowTheirOwn (WantZeros is_watched) facts first count w = Unit {0}
+ShowTheirOwn LieOver facts first count w = Unit {0}
 
 -- Of each page over a frame it is found whether it has to stay where it is, exactly if these pages are there. Else nothing is found.
 pub record FindsStaying (facts : ProcessFacts) (why : WindowFacts) (first : ℕ) (is_found : Bool) (copies copies_new : List Bool) (w : Window) : Type 0 where

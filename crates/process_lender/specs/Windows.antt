@@ -52,30 +52,42 @@ with_window place window lender = record lender { windows = slice_set lender.win
 abbrev pub with_mappings : ℕ → Lender → Lender
 with_mappings mappings lender = record lender { mappings = mappings }
 
+-- A window has these pages and counts, of which this is said, and all else of it stays.
+pub record HasPages (Says : Window → List WindowPage → List PartCounts → Type 0) (old new : Window) : Type 0 where
+  pub rest : new ≡ with_pages new.pages new.counts old
+  pub says : Says old new.pages new.counts
+
+-- what becomes of the window at a place, if there is one; else there is none, and this is so
+abbrev pub AtPlace : (Window → Window → Type 0) → Type 0 → Option Window → Option Window → Type 0
+AtPlace Becomes Nothing None None = Nothing
+AtPlace Becomes Nothing None (Some new) = ⊥
+AtPlace Becomes Nothing (Some old) None = ⊥
+AtPlace Becomes Nothing (Some old) (Some new) = Becomes old new
+
 -- The window at a place gets the pages and counts of which this is said, and nothing else changes. Where there is no window, nothing changes at all, and
 -- this is returned.
-pub data InPages (Says : Window → List WindowPage → List PartCounts → Type 0) (Nothing : Type 0) (place : ℕ) (old new : Lender) : Type 0 where
-  is_there : (window : Window) (pages : List WindowPage) (counts : List PartCounts) → window_at place old.windows ≡ Some window
-      → new ≡ with_window place (Some (with_pages pages counts window)) old → Says window pages counts → InPages Says Nothing place old new
-  is_not_there : window_at place old.windows ≡ None → new ≡ old → Nothing → InPages Says Nothing place old new
+pub record InPages (Says : Window → List WindowPage → List PartCounts → Type 0) (Nothing : Type 0) (place : ℕ) (old new : Lender) : Type 0 where
+  pub there : AtPlace (HasPages Says) Nothing (window_at place old.windows) (window_at place new.windows)
+  pub others : new ≡ with_window place (window_at place new.windows) old
 
--- The same, where the number of mappings changes, too.
-pub data InWindow (Says : Window → List WindowPage → List PartCounts → ℕ → Type 0) (Nothing : Type 0) (place : ℕ) (old new : Lender) : Type 0 where
-  in_it : (window : Window) (pages : List WindowPage) (counts : List PartCounts) (mappings : ℕ) → window_at place old.windows ≡ Some window
-      → new ≡ with_mappings mappings (with_window place (Some (with_pages pages counts window)) old) → Says window pages counts mappings
-      → InWindow Says Nothing place old new
-  in_none : window_at place old.windows ≡ None → new ≡ old → Nothing → InWindow Says Nothing place old new
+-- so many mappings stay, and this is so
+pub record Stay (Nothing : Type 0) (mappings mappings_new : ℕ) : Type 0 where
+  pub nothing : Nothing
+  pub same : mappings_new ≡ mappings
 
--- There is a window at a place of which this is said.
-pub record OfWindow (Says : Window → Type 0) (place : ℕ) (lender : Lender) : Type 0 where
-  pub window : Window
-  pub there : window_at place lender.windows ≡ Some window
-  pub says : Says window
+-- The window at a place becomes another one, and the number of mappings changes, too. Where there is no window, nothing changes at all, and this is
+-- returned.
+pub record InWindow (Becomes : ℕ → ℕ → Window → Window → Type 0) (Nothing : Type 0) (place : ℕ) (old new : Lender) : Type 0 where
+  pub there : AtPlace (Becomes old.mappings new.mappings) (Stay Nothing old.mappings new.mappings) (window_at place old.windows) (window_at place new.windows)
+  pub others : new ≡ with_mappings new.mappings (with_window place (window_at place new.windows) old)
 
 -- This is said of the window at a place. Where there is none, it is this.
-pub data SeenIn (Says : Window → Type 0) (Nothing : Type 0) (place : ℕ) (lender : Lender) : Type 0 where
-  is_seen : (window : Window) → window_at place lender.windows ≡ Some window → Says window → SeenIn Says Nothing place lender
-  is_unseen : window_at place lender.windows ≡ None → Nothing → SeenIn Says Nothing place lender
+abbrev pub Seen : (Window → Type 0) → Type 0 → Option Window → Type 0
+Seen Says Nothing None = Nothing
+Seen Says Nothing (Some window) = Says window
+
+abbrev pub SeenIn : (Window → Type 0) → Type 0 → ℕ → Lender → Type 0
+SeenIn Says Nothing place lender = Seen Says Nothing (window_at place lender.windows)
 
 -- the windows, of which the one at a place, if there is one, becomes this
 abbrev pub window_changed : (Window → Window) → ℕ → Option Window → Lender → Lender

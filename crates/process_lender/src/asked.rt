@@ -1,6 +1,6 @@
 //! What is asked of a window's tables.
 ghost use Rattle.std.specs.Prelude.{◌≡◌, true};
-ghost use Rattle.process_lender.specs.Questions.{Allows, FindsStaying, has_room, is_so};
+ghost use Rattle.process_lender.specs.Questions.{AreFree, FindsStaying, ShowTheirOwn, has_room, is_so};
 ghost use Rattle.window_tables.specs.Rooms.{wants_zeros};
 
 use crate::noted::table_facts;
@@ -48,7 +48,8 @@ impl<A: Allocator> WindowTables<A> {
         question: Question,
     ) -> bool
         ensures value { result ≡ is_so question facts.now mappings first count self.now }
-        ensures allows { result ≡ true → Allows question facts.now first count self.now }
+        ensures free { result ≡ true → AreFree question first count self.now }
+        ensures own { result ≡ true → ShowTheirOwn question facts.now first count self.now }
     {
         let table = table_facts(facts, &self.state);
         match question {

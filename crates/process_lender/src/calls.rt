@@ -9,6 +9,13 @@ use page_holds::HoldStep;
 use page_holds::rows::RowOrder;
 use std::alloc::Allocator;
 
+// Nothing is done any more with pages of a row.
+const OVER: RowOrder = RowOrder {
+    step: HoldStep::Over,
+    first: 0,
+    count: 0,
+};
+
 impl<A: Allocator> ProcessLender<A> {
     /// Chooses pages of a list, one after another, each by itself. Writes to `answers`, of each: 0 it isn't chosen; 1 it is; 3 the same, and others
     /// mustn't find it by the question about it; 4 there is no room for it, and it is asked about as seldom as any. Returns false, and changes nothing,
@@ -23,9 +30,12 @@ impl<A: Allocator> ProcessLender<A> {
         ensures { InPages (Chooses what self.old.facts self.old.mappings numbers.now result answers.old answers.new) (NoAnswer result answers.old answers.new) window self.old self.new }
     {
         let taken = self.mappings as u64;
-        match self.windows.get_mut(window) {
-            Some(Some(tables)) => tables.choose(&self.facts, taken, what, numbers, answers),
-            _ => false,
+        if window >= self.windows.len() {
+            return false;
+        }
+        match &mut self.windows[window] {
+            None => false,
+            Some(tables) => tables.choose(&self.facts, taken, what, numbers, answers),
         }
     }
 
@@ -43,11 +53,14 @@ impl<A: Allocator> ProcessLender<A> {
         ensures { InPages (Answered self.old.facts self.old.mappings numbers.now fingerprints.now seen.now result answers.old answers.new) (NoAnswer result answers.old answers.new) window self.old self.new }
     {
         let taken = self.mappings as u64;
-        match self.windows.get_mut(window) {
-            Some(Some(tables)) => {
+        if window >= self.windows.len() {
+            return false;
+        }
+        match &mut self.windows[window] {
+            None => false,
+            Some(tables) => {
                 tables.answered(&self.facts, taken, numbers, fingerprints, seen, answers)
             }
-            _ => false,
         }
     }
 
@@ -65,11 +78,12 @@ impl<A: Allocator> ProcessLender<A> {
     ) -> bool
         ensures { InPages (ChoosesCopies self.old.facts numbers.now there.now fingerprints.now result answers.old answers.new) (NoAnswer result answers.old answers.new) window self.old self.new }
     {
-        match self.windows.get_mut(window) {
-            Some(Some(tables)) => {
-                tables.to_copy(&self.facts, numbers, there, fingerprints, answers)
-            }
-            _ => false,
+        if window >= self.windows.len() {
+            return false;
+        }
+        match &mut self.windows[window] {
+            None => false,
+            Some(tables) => { tables.to_copy(&self.facts, numbers, there, fingerprints, answers) }
         }
     }
 
@@ -85,9 +99,12 @@ impl<A: Allocator> ProcessLender<A> {
     ) -> bool
         ensures { InPages (CameOfCopies self.old.facts numbers.now outcomes.now result answers.old answers.new) (NoAnswer result answers.old answers.new) window self.old self.new }
     {
-        match self.windows.get_mut(window) {
-            Some(Some(tables)) => tables.copied(&self.facts, numbers, outcomes, answers),
-            _ => false,
+        if window >= self.windows.len() {
+            return false;
+        }
+        match &mut self.windows[window] {
+            None => false,
+            Some(tables) => tables.copied(&self.facts, numbers, outcomes, answers),
         }
     }
 
@@ -107,9 +124,12 @@ impl<A: Allocator> ProcessLender<A> {
     ) -> bool
         ensures { InPages (CameOfLoans numbers.now slots.now given.now frames is_heard result answers.old answers.new) (NoAnswer result answers.old answers.new) window self.old self.new }
     {
-        match self.windows.get_mut(window) {
-            Some(Some(tables)) => tables.loaned(numbers, slots, given, frames, is_heard, answers),
-            _ => false,
+        if window >= self.windows.len() {
+            return false;
+        }
+        match &mut self.windows[window] {
+            None => false,
+            Some(tables) => tables.loaned(numbers, slots, given, frames, is_heard, answers),
         }
     }
 
@@ -125,9 +145,12 @@ impl<A: Allocator> ProcessLender<A> {
     ) -> usize
         ensures { InPages (FindsReleases self.old.facts first count result places.old places.new) (NoneFound result places.old places.new) window self.old self.new }
     {
-        match self.windows.get_mut(window) {
-            Some(Some(tables)) => tables.to_release(&self.facts, first, count, places),
-            _ => 0,
+        if window >= self.windows.len() {
+            return 0;
+        }
+        match &mut self.windows[window] {
+            None => 0,
+            Some(tables) => tables.to_release(&self.facts, first, count, places),
         }
     }
 
@@ -136,9 +159,12 @@ impl<A: Allocator> ProcessLender<A> {
     pub fn released(&mut self, window: usize, numbers: &[usize], is_done: bool) -> bool
         ensures { InPages (CameOfRelease numbers.now is_done result) (result ≡ false) window self.old self.new }
     {
-        match self.windows.get_mut(window) {
-            Some(Some(tables)) => tables.released(numbers, is_done),
-            _ => false,
+        if window >= self.windows.len() {
+            return false;
+        }
+        match &mut self.windows[window] {
+            None => false,
+            Some(tables) => tables.released(numbers, is_done),
         }
     }
 
@@ -148,9 +174,12 @@ impl<A: Allocator> ProcessLender<A> {
     pub fn begin_row(&mut self, window: usize, first: usize, row: &mut [u8], takings: &[u8]) -> bool
         ensures { InPages (BeginsRow first takings.now result row.old row.new) (NoAnswer result row.old row.new) window self.old self.new }
     {
-        match self.windows.get_mut(window) {
-            Some(Some(tables)) => tables.begin_row(first, row, takings),
-            _ => false,
+        if window >= self.windows.len() {
+            return false;
+        }
+        match &mut self.windows[window] {
+            None => false,
+            Some(tables) => tables.begin_row(first, row, takings),
         }
     }
 
@@ -159,13 +188,12 @@ impl<A: Allocator> ProcessLender<A> {
     pub fn next_of_row(&mut self, window: usize, first: usize, row: &[u8]) -> RowOrder
         ensures { InPages (FindsNext self.old.facts first row.now result) (result ≡ nothing_next) window self.old self.new }
     {
-        match self.windows.get_mut(window) {
-            Some(Some(tables)) => tables.next_of_row(&self.facts, first, row),
-            _ => RowOrder {
-                step: HoldStep::Over,
-                first: 0,
-                count: 0,
-            },
+        if window >= self.windows.len() {
+            return OVER;
+        }
+        match &mut self.windows[window] {
+            None => OVER,
+            Some(tables) => tables.next_of_row(&self.facts, first, row),
         }
     }
 
@@ -183,9 +211,12 @@ impl<A: Allocator> ProcessLender<A> {
     ) -> bool
         ensures { InPages (CameOfOrder first begin done refused result row.old row.new) (NoAnswer result row.old row.new) window self.old self.new }
     {
-        match self.windows.get_mut(window) {
-            Some(Some(tables)) => tables.row_done(first, row, begin, done, refused),
-            _ => false,
+        if window >= self.windows.len() {
+            return false;
+        }
+        match &mut self.windows[window] {
+            None => false,
+            Some(tables) => tables.row_done(first, row, begin, done, refused),
         }
     }
 }

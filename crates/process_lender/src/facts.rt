@@ -1,7 +1,7 @@
 //! What is so of a process and of its windows.
 
 /// What is so of a process, as far as it bears on what is lent of its windows.
-#[derive(Clone, Copy, Debug, PartialEq, Eq)]
+#[derive(Clone, Copy)]
 pub struct ProcessFacts {
     /// How many mappings its windows may take in all.
     pub most: u64,
@@ -16,7 +16,7 @@ pub struct ProcessFacts {
 }
 
 /// What is so of a window as long as it is one.
-#[derive(Clone, Copy, Debug, PartialEq, Eq)]
+#[derive(Clone, Copy)]
 pub struct WindowState {
     /// A child of a fork would have its pages.
     pub inherited: bool,

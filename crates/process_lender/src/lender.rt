@@ -1,10 +1,10 @@
 //! All windows of a process.
 ghost use Rattle.std.specs.Prelude.{◌≡◌, IfOk, None, OnErr, false, if◌then◌else◌, true};
 ghost use Rattle.std.specs.Option.{option_map_or};
-ghost use Rattle.process_lender.specs.Notices.{IsNoted};
+ghost use Rattle.process_lender.specs.Notices.{TakesNote};
 ghost use Rattle.process_lender.specs.Offers.{can_take_out, end_of, first_free, is_open, new_window, no_windows, offered, state_set};
-ghost use Rattle.process_lender.specs.Questions.{Allows, is_so};
-ghost use Rattle.process_lender.specs.Windows.{InWindow, Lender, OfWindow, window_at, with_window};
+ghost use Rattle.process_lender.specs.Questions.{AreFree, ShowTheirOwn, is_so};
+ghost use Rattle.process_lender.specs.Windows.{InWindow, Lender, SeenIn, window_at, with_window};
 
 use crate::offer::{can_take_out, first_free, new_tables, put_first};
 use crate::tables::WindowTables;
@@ -76,9 +76,12 @@ impl<A: Allocator> ProcessLender<A> {
         ensures done { result ≡ is_open (window_at window self.old.windows) }
         ensures ended { self.new ≡ end_of window (window_at window self.old.windows) self.old }
     {
-        match self.windows.get_mut(window) {
-            Some(Some(tables)) => tables.end(&mut self.mappings),
-            _ => false,
+        if window >= self.windows.len() {
+            return false;
+        }
+        match &mut self.windows[window] {
+            None => false,
+            Some(tables) => tables.end(&mut self.mappings),
         }
     }
 
@@ -107,26 +110,26 @@ impl<A: Allocator> ProcessLender<A> {
         ensures done { result ≡ is_open (window_at window self.old.windows) }
         ensures set { self.new ≡ state_set window state (window_at window self.old.windows) self.old }
     {
-        match self.windows.get_mut(window) {
-            Some(Some(tables)) => tables.set_state(state),
-            _ => false,
+        if window >= self.windows.len() {
+            return false;
+        }
+        match &mut self.windows[window] {
+            None => false,
+            Some(tables) => tables.set_state(state),
         }
     }
 
     /// Notes what has become of `count` pages of a window from `first` on. Returns false, and changes nothing, if there is no such window, or if these
     /// pages aren't all there.
     pub fn note(&mut self, window: usize, first: usize, count: usize, notice: Notice) -> bool
-        ensures { InWindow (IsNoted notice self.old.facts first count result self.old.mappings) (result ≡ false) window self.old self.new }
+        ensures { InWindow (TakesNote notice self.old.facts first count result) (result ≡ false) window self.old self.new }
     {
-        match self.windows.get_mut(window) {
-            Some(Some(tables)) => tables.note(
-                &self.facts,
-                &mut self.mappings,
-                first,
-                count,
-                notice,
-            ),
-            _ => false,
+        if window >= self.windows.len() {
+            return false;
+        }
+        match &mut self.windows[window] {
+            None => false,
+            Some(tables) => tables.note(&self.facts, &mut self.mappings, first, count, notice),
         }
     }
 
@@ -134,11 +137,15 @@ impl<A: Allocator> ProcessLender<A> {
     /// aren't all there.
     pub fn may(&self, window: usize, first: usize, count: usize, question: Question) -> bool
         ensures value { result ≡ option_map_or (is_so question self.now.facts self.now.mappings first count) (window_at window self.now.windows) false }
-        ensures allows { result ≡ true → OfWindow (Allows question self.now.facts first count) window self.now }
+        ensures free { SeenIn (λ w. result ≡ true → AreFree question first count w) (result ≡ false) window self.now }
+        ensures own { SeenIn (λ w. result ≡ true → ShowTheirOwn question self.now.facts first count w) (result ≡ false) window self.now }
     {
-        match self.windows.get(window) {
-            Some(Some(tables)) => tables.may(&self.facts, self.mappings, first, count, question),
-            _ => false,
+        if window >= self.windows.len() {
+            return false;
+        }
+        match &self.windows[window] {
+            None => false,
+            Some(tables) => tables.may(&self.facts, self.mappings, first, count, question),
         }
     }
 }

@@ -3,7 +3,7 @@
 use page_looks::idle::LookConfig;
 
 /// A scan of parts of a window.
-#[derive(Clone, Copy, Debug, PartialEq, Eq)]
+#[derive(Clone, Copy)]
 pub struct WindowScan {
     /// How often it takes what.
     pub config: LookConfig,

@@ -3,11 +3,10 @@ ghost use Rattle.std.specs.Prelude.{◌≡◌, None, false, is_some, slice_get};
 ghost use Rattle.std.specs.Option.{option_map_or};
 ghost use Rattle.part_scans.specs.Scans.{AreNumbers};
 ghost use Rattle.process_lender.specs.Lists.{NoAnswer};
-ghost use Rattle.process_lender.specs.Parts.{can_change_pins, counts_of, order_at, part_noted, part_of, whole_set_in, with_pins};
+ghost use Rattle.process_lender.specs.Parts.{can_change_pins, counts_of, order_at, part_noted, part_of, with_pins};
 ghost use Rattle.process_lender.specs.Scans.{BeginsScan, CameOfSteps, FollowsChanges};
 ghost use Rattle.process_lender.specs.Windows.{InPages, SeenIn, window_at, window_changed};
 ghost use Rattle.process_lender.specs.Questions.{FindsStaying, NoneStays};
-ghost use Rattle.window_tables.specs.Mappings.{is_part};
 ghost use Rattle.window_tables.specs.Runs.{next_run};
 
 use crate::{PartNotice, ProcessLender, WindowScan};
@@ -31,9 +30,12 @@ impl<A: Allocator> ProcessLender<A> {
     ) -> bool
         ensures { InPages (BeginsScan self.old.facts scan.now first memory.now result row.old row.new) (NoAnswer result row.old row.new) window self.old self.new }
     {
-        match self.windows.get_mut(window) {
-            Some(Some(tables)) => tables.begin_scan(&self.facts, scan, first, memory, row),
-            _ => false,
+        if window >= self.windows.len() {
+            return false;
+        }
+        match &mut self.windows[window] {
+            None => false,
+            Some(tables) => tables.begin_scan(&self.facts, scan, first, memory, row),
         }
     }
 
@@ -48,9 +50,12 @@ impl<A: Allocator> ProcessLender<A> {
     ) -> bool
         ensures { InPages (CameOfSteps scan.now first outcomes.now result row.old row.new) (NoAnswer result row.old row.new) window self.old self.new }
     {
-        match self.windows.get_mut(window) {
-            Some(Some(tables)) => tables.scan_done(scan, first, outcomes, row),
-            _ => false,
+        if window >= self.windows.len() {
+            return false;
+        }
+        match &mut self.windows[window] {
+            None => false,
+            Some(tables) => tables.scan_done(scan, first, outcomes, row),
         }
     }
 
@@ -65,9 +70,12 @@ impl<A: Allocator> ProcessLender<A> {
     ) -> bool
         ensures { InPages (FollowsChanges self.old.facts scan.now first memory.now result row.old row.new) (NoAnswer result row.old row.new) window self.old self.new }
     {
-        match self.windows.get_mut(window) {
-            Some(Some(tables)) => tables.follow_changes(&self.facts, scan, first, memory, row),
-            _ => false,
+        if window >= self.windows.len() {
+            return false;
+        }
+        match &mut self.windows[window] {
+            None => false,
+            Some(tables) => tables.follow_changes(&self.facts, scan, first, memory, row),
         }
     }
 
@@ -76,8 +84,12 @@ impl<A: Allocator> ProcessLender<A> {
     pub fn find_numbers(&self, window: usize, first: usize, places: &[u16], numbers: &mut [u64])
         ensures { SeenIn (λ w. AreNumbers first w.pages places.now numbers.old numbers.new) (numbers.new ≡ numbers.old) window self.now }
     {
-        if let Some(Some(tables)) = self.windows.get(window) {
-            tables.find_numbers(first, places, numbers);
+        if window >= self.windows.len() {
+            return;
+        }
+        match &self.windows[window] {
+            None => {}
+            Some(tables) => tables.find_numbers(first, places, numbers),
         }
     }
 
@@ -86,9 +98,12 @@ impl<A: Allocator> ProcessLender<A> {
     pub fn next_run(&self, window: usize, first: usize, end: usize, kinds: u8) -> Option<PageRun>
         ensures { result ≡ option_map_or (λ w. next_run kinds first end w.pages) (window_at window self.now.windows) None }
     {
-        match self.windows.get(window) {
-            Some(Some(tables)) => next_run(&tables.pages, first, end, kinds),
-            _ => None,
+        if window >= self.windows.len() {
+            return None;
+        }
+        match &self.windows[window] {
+            None => None,
+            Some(tables) => next_run(&tables.pages, first, end, kinds),
         }
     }
 
@@ -103,9 +118,12 @@ impl<A: Allocator> ProcessLender<A> {
     ) -> bool
         ensures { SeenIn (FindsStaying self.now.facts why.now first result copies.old copies.new) (NoneStays result copies.old copies.new) window self.now }
     {
-        match self.windows.get(window) {
-            Some(Some(tables)) => tables.find_staying(&self.facts, why, first, copies),
-            _ => false,
+        if window >= self.windows.len() {
+            return false;
+        }
+        match &self.windows[window] {
+            None => false,
+            Some(tables) => tables.find_staying(&self.facts, why, first, copies),
         }
     }
 
@@ -113,9 +131,12 @@ impl<A: Allocator> ProcessLender<A> {
     pub fn page(&self, window: usize, place: usize) -> Option<WindowPage>
         ensures { result ≡ option_map_or (λ w. slice_get w.pages place) (window_at window self.now.windows) None }
     {
-        match self.windows.get(window) {
-            Some(Some(tables)) => tables.page(place),
-            _ => None,
+        if window >= self.windows.len() {
+            return None;
+        }
+        match &self.windows[window] {
+            None => None,
+            Some(tables) => tables.page(place),
         }
     }
 
@@ -123,9 +144,12 @@ impl<A: Allocator> ProcessLender<A> {
     pub fn part(&self, window: usize, first: usize) -> Option<Part>
         ensures { result ≡ option_map_or (part_of first) (window_at window self.now.windows) None }
     {
-        match self.windows.get(window) {
-            Some(Some(tables)) => tables.part_of(first),
-            _ => None,
+        if window >= self.windows.len() {
+            return None;
+        }
+        match &self.windows[window] {
+            None => None,
+            Some(tables) => tables.part_of(first),
         }
     }
 
@@ -133,9 +157,12 @@ impl<A: Allocator> ProcessLender<A> {
     pub fn counts(&self, window: usize, first: usize) -> Option<PartCounts>
         ensures { result ≡ option_map_or (counts_of first) (window_at window self.now.windows) None }
     {
-        match self.windows.get(window) {
-            Some(Some(tables)) => tables.counts_of(first),
-            _ => None,
+        if window >= self.windows.len() {
+            return None;
+        }
+        match &self.windows[window] {
+            None => None,
+            Some(tables) => tables.counts_of(first),
         }
     }
 
@@ -156,9 +183,12 @@ impl<A: Allocator> ProcessLender<A> {
     ) -> Option<PartOrder>
         ensures { result ≡ option_map_or (order_at config.now look.now first) (window_at window self.now.windows) None }
     {
-        match self.windows.get(window) {
-            Some(Some(tables)) => tables.order_of_part(first, config, look),
-            _ => None,
+        if window >= self.windows.len() {
+            return None;
+        }
+        match &self.windows[window] {
+            None => None,
+            Some(tables) => tables.order_of_part(first, config, look),
         }
     }
 
@@ -167,21 +197,12 @@ impl<A: Allocator> ProcessLender<A> {
         ensures done { result ≡ option_map_or (λ w. is_some (part_of first w)) (window_at window self.old.windows) false }
         ensures noted { self.new ≡ window_changed (part_noted first notice) window (window_at window self.old.windows) self.old }
     {
-        match self.windows.get_mut(window) {
-            Some(Some(tables)) => tables.note_part(first, notice),
-            _ => false,
+        if window >= self.windows.len() {
+            return false;
         }
-    }
-
-    /// Notes that the part whose first page is this one is whole from now on, or split, and how many mappings there are then. Returns false, and notes
-    /// nothing, if there is no such window, or if this isn't the first page of a part whose pages are all there.
-    pub fn set_whole(&mut self, window: usize, first: usize, is_whole: bool) -> bool
-        ensures done { result ≡ option_map_or (λ w. is_part w.lead first w.pages w.parts) (window_at window self.old.windows) false }
-        ensures set { self.new ≡ whole_set_in window first is_whole (window_at window self.old.windows) self.old }
-    {
-        match self.windows.get_mut(window) {
-            Some(Some(tables)) => tables.set_whole(&mut self.mappings, first, is_whole),
-            _ => false,
+        match &mut self.windows[window] {
+            None => false,
+            Some(tables) => tables.note_part(first, notice),
         }
     }
 
@@ -191,9 +212,12 @@ impl<A: Allocator> ProcessLender<A> {
         ensures done { result ≡ option_map_or (λ w. can_change_pins is_pinned first count w.pins) (window_at window self.old.windows) false }
         ensures pins { self.new ≡ window_changed (with_pins is_pinned first count) window (window_at window self.old.windows) self.old }
     {
-        match self.windows.get_mut(window) {
-            Some(Some(tables)) => tables.set_pins(first, count, is_pinned),
-            _ => false,
+        if window >= self.windows.len() {
+            return false;
+        }
+        match &mut self.windows[window] {
+            None => false,
+            Some(tables) => tables.set_pins(first, count, is_pinned),
         }
     }
 }

@@ -1,6 +1,7 @@
 //! A new window's tables, and the place that it gets.
-ghost use Rattle.std.specs.Prelude.{◌≡◌, ◌-◌, ◌%◌, ◌<◌, IfOk, OnErr, OnOk, if◌then◌else◌, length, not, replicate, true};
-ghost use Rattle.process_lender.specs.Offers.{can_leave, can_take_out, ended, first_free, its_mappings, new_part, new_window, parts_in, with_first};
+ghost use Rattle.std.specs.Prelude.{◌≡◌, ◌-◌, ◌%◌, ◌<◌, IfOk, OnErr, OnOk, if◌then◌else◌, is_none, length, not, position, replicate, true};
+ghost use Rattle.std.specs.List.{list_any};
+ghost use Rattle.process_lender.specs.Offers.{can_leave, can_take_out, ended, first_free, has_releases, its_mappings, new_part, new_window, parts_in, with_first};
 ghost use Rattle.window_pages.specs.Laws.{new_page, no_counts};
 
 use crate::WindowState;
@@ -97,14 +98,28 @@ pub(crate) fn new_tables<A: Allocator + Clone>(
     })
 }
 
+// Finds the first free place.
+fn find_free<A: Allocator>(windows: &[Option<WindowTables<A>>]) -> Option<usize>
+    ensures { result ≡ position is_none windows.now }
+{
+    windows.iter().position(|window| window.is_none())
+}
+
 // Returns the first free place, or the number of places.
 pub(crate) fn first_free<A: Allocator>(windows: &[Option<WindowTables<A>>]) -> usize
     ensures { result ≡ first_free windows.now }
 {
-    match windows.iter().position(|window| window.is_none()) {
+    match find_free(windows) {
         None => windows.len(),
         Some(place) => place,
     }
+}
+
+// Returns whether a part counts a slot that is to be released.
+fn have_releases(counts: &[PartCounts]) -> bool
+    ensures { result ≡ list_any has_releases counts.now }
+{
+    counts.iter().any(|part| part.releases > 0)
 }
 
 impl<A: Allocator> WindowTables<A> {
@@ -147,7 +162,7 @@ impl<A: Allocator> WindowTables<A> {
     pub(crate) fn can_leave(&self) -> bool
         ensures { result ≡ can_leave self.now }
     {
-        self.has_ended && !self.counts.iter().any(|part| part.releases > 0)
+        self.has_ended && !have_releases(&self.counts)
     }
 }
 
@@ -179,8 +194,11 @@ pub(crate) fn can_take_out<A: Allocator>(
     ensures value { result ≡ can_take_out place windows.now.items }
     ensures within { result ≡ true → place < length windows.now.items }
 {
-    match windows.get(place) {
-        Some(Some(tables)) => tables.can_leave(),
-        _ => false,
+    if place >= windows.len() {
+        return false;
+    }
+    match &windows[place] {
+        None => false,
+        Some(tables) => tables.can_leave(),
     }
 }

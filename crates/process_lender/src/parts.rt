@@ -1,7 +1,6 @@
 //! Parts of a window, and pages of it that were pinned.
 ghost use Rattle.std.specs.Prelude.{◌≡◌, is_some, slice_get};
-ghost use Rattle.process_lender.specs.Parts.{can_change_pins, counts_of, mappings_whole, noted, order_at, part_noted, part_of, whole_set, with_pins};
-ghost use Rattle.window_tables.specs.Mappings.{is_part};
+ghost use Rattle.process_lender.specs.Parts.{can_change_pins, counts_of, noted, order_at, part_noted, part_of, with_pins};
 ghost use Rattle.window_tables.specs.Tables.{part_at};
 
 use crate::PartNotice;
@@ -9,8 +8,8 @@ use crate::tables::WindowTables;
 use page_looks::parts::{Part, PartConfig, PartLook, PartOrder};
 use std::alloc::Allocator;
 use window_pages::{PartCounts, WindowPage};
+use window_tables::PART;
 use window_tables::pins::{pin, unpin};
-use window_tables::{PART, set_whole};
 
 // Returns a part once this is noted of it.
 fn noted(part: Part, notice: PartNotice) -> Part
@@ -79,25 +78,6 @@ impl<A: Allocator> WindowTables<A> {
             return None;
         }
         Some(self.pages[place])
-    }
-
-    // Notes that the part of a page is whole from now on, or split.
-    pub(crate) fn set_whole(&mut self, mappings: &mut usize, first: usize, is_whole: bool) -> bool
-        ensures done { result ≡ is_part self.old.lead first self.old.pages self.old.parts }
-        ensures set { self.new ≡ whole_set first is_whole self.old }
-        ensures mappings { mappings.new ≡ mappings_whole first is_whole self.old mappings.old }
-    {
-        let mut kept = *mappings;
-        let is_set = set_whole(
-            &self.pages,
-            &mut self.parts,
-            self.lead,
-            first,
-            is_whole,
-            &mut kept,
-        );
-        self.keep(mappings, kept);
-        is_set
     }
 
     // Returns what is to be done with the part of a page.
