@@ -238,7 +238,7 @@ noted gives first m facts w pages counts Notice.RefusedHome from n true e b so =
 noted gives first m facts w pages counts Notice.RefusedHome from n false e b so = is_same (b.same refl)
 noted gives first m facts w pages counts (Notice.CalledHome why) from n true e b so =
     is_called (call.orders_home w.lead from n (table_facts facts w.state) w.pins why w.counts counts
-        (subst (λ v. Changes (λ j. IsCalled (facts_at (table_facts facts w.state) w.pins why (from + j))) w.lead from n true v pages w.counts counts) (sym e) b))
+    (subst (λ v. Changes (λ j. IsCalled (facts_at (table_facts facts w.state) w.pins why (from + j))) w.lead from n true v pages w.counts counts) (sym e) b))
 noted gives first m facts w pages counts (Notice.CalledHome why) from n false e b so = is_same (b.same refl)
 
 -- ---- rows and scans
@@ -265,21 +265,21 @@ scan_begun : (gives : (ℕ → Bool) → ℕ → Bool) (first : ℕ) (m : Moment
 scan_begun gives first m facts w pages counts scan from memory row row_new true e b =
     let all : Bool = has_past (part_at w.lead from) w.counts in
     is_called (call.begins_scan w.lead from (length memory) (scan_of scan from w) (table_facts facts w.state) w.pins memory row row_new all w.counts counts
-        (subst (λ v. RowGoes (BeginsAt (scan_of scan from w) (table_facts facts w.state) w.pins from all memory) w.lead from (length memory) true v pages w.counts counts row row_new) (sym e) b))
+    (subst (λ v. RowGoes (BeginsAt (scan_of scan from w) (table_facts facts w.state) w.pins from all memory) w.lead from (length memory) true v pages w.counts counts row row_new) (sym e) b))
 scan_begun gives first m facts w pages counts scan from memory row row_new false e b = is_same (b.same refl)
 
 steps_done : (gives : (ℕ → Bool) → ℕ → Bool) (first : ℕ) (m : Moment) (w : Window) (pages : List WindowPage) (counts : List PartCounts) (scan : WindowScan) (from : ℕ) (outcomes : List FindOutcome) (row row_new : List ℕ) (is : Bool) → m.pages ≡ w.pages →
     CameOfSteps scan from outcomes is row row_new w pages counts → (is ≡ true → CopiesAreSo first from m outcomes) → Became gives first m w pages
 steps_done gives first m w pages counts scan from outcomes row row_new true e b so =
     is_called (call.scan_done w.lead from (length outcomes) (scan_of scan from w) outcomes row row_new w.counts counts
-        (subst (λ v. RowGoes (GoesOnAt (scan_of scan from w) from outcomes) w.lead from (length outcomes) true v pages w.counts counts row row_new) (sym e) b) (so refl))
+    (subst (λ v. RowGoes (GoesOnAt (scan_of scan from w) from outcomes) w.lead from (length outcomes) true v pages w.counts counts row row_new) (sym e) b) (so refl))
 steps_done gives first m w pages counts scan from outcomes row row_new false e b so = is_same (b.same refl)
 
 changes_followed : (gives : (ℕ → Bool) → ℕ → Bool) (first : ℕ) (m : Moment) (facts : ProcessFacts) (w : Window) (pages : List WindowPage) (counts : List PartCounts) (scan : WindowScan) (from : ℕ) (memory row row_new : List ℕ) (is : Bool) → m.pages ≡ w.pages →
     FollowsChanges facts scan from memory is row row_new w pages counts → Became gives first m w pages
 changes_followed gives first m facts w pages counts scan from memory row row_new true e b =
     is_called (call.follows w.lead from (length memory) (scan_of scan from w) (table_facts facts w.state) w.pins memory row row row_new w.counts counts
-        (subst (λ v. RowGoes (FollowsAt (scan_of scan from w) (table_facts facts w.state) w.pins from memory row) w.lead from (length memory) true v pages w.counts counts row row_new) (sym e) b))
+    (subst (λ v. RowGoes (FollowsAt (scan_of scan from w) (table_facts facts w.state) w.pins from memory row) w.lead from (length memory) true v pages w.counts counts row row_new) (sym e) b))
 changes_followed gives first m facts w pages counts scan from memory row row_new false e b = is_same (b.same refl)
 
 -- ---- lists
@@ -292,19 +292,19 @@ chosen gives first m facts w pages counts (ToAsk config look) taken numbers answ
     let turns : InTurnWith (AsksAt table w.pins config look facts.most w.lead w.parts numbers) takes_none w.lead numbers m.pages w.counts answers taken (length numbers) all.has pages counts answers_new =
     subst (λ v. InTurnWith (AsksAt table w.pins config look facts.most w.lead w.parts numbers) takes_none w.lead numbers v w.counts answers taken (length numbers) all.has pages counts answers_new) (sym e) all.turns in
     is_reached (went_reaches gives first m numbers (length numbers) pages
-        (list_went_with gives first w.lead m numbers (AsksAt table w.pins config look facts.most w.lead w.parts numbers) takes_none w.counts answers taken (length numbers) all.has pages counts answers_new turns
-            (λ j has now l answer k x y part after between there does.
-                asked_turn gives first (slice_index_or numbers j 0) k x y (facts_in table w.pins numbers j) (is_whole w.lead w.parts (slice_index_or numbers j 0) || has_room facts.most has w.lead w.parts now (slice_index_or numbers j 0))
-                    (is_passing config look w.lead w.parts (slice_index_or numbers j 0) x) answer part after there does)))
+    (list_went_with gives first w.lead m numbers (AsksAt table w.pins config look facts.most w.lead w.parts numbers) takes_none w.counts answers taken (length numbers) all.has pages counts answers_new turns
+    (λ j has now l answer k x y part after between there does.
+    asked_turn gives first (slice_index_or numbers j 0) k x y (facts_in table w.pins numbers j) (is_whole w.lead w.parts (slice_index_or numbers j 0) || has_room facts.most has w.lead w.parts now (slice_index_or numbers j 0))
+    (is_passing config look w.lead w.parts (slice_index_or numbers j 0) x) answer part after there does)))
 chosen gives first m facts w pages counts (ToAsk config look) taken numbers answers answers_new false e b = is_same (b.same refl)
 chosen gives first m facts w pages counts ToHold taken numbers answers answers_new true e b =
     let table : TableFacts = table_facts facts w.state in
     let turns : InTurn (HoldsAt table w.pins w.lead w.parts numbers) w.lead numbers m.pages w.counts answers (length numbers) pages counts answers_new =
     subst (λ v. InTurn (HoldsAt table w.pins w.lead w.parts numbers) w.lead numbers v w.counts answers (length numbers) pages counts answers_new) (sym e) (b.pages refl) in
     is_reached (went_reaches gives first m numbers (length numbers) pages
-        (list_went gives first w.lead m numbers (HoldsAt table w.pins w.lead w.parts numbers) w.counts answers (length numbers) pages counts answers_new turns
-            (λ j l answer k x y part after between there does.
-                hold_turn gives first (slice_index_or numbers j 0) k x y (facts_in table w.pins numbers j) (not (is_whole w.lead w.parts (slice_index_or numbers j 0))) answer part after there does)))
+    (list_went gives first w.lead m numbers (HoldsAt table w.pins w.lead w.parts numbers) w.counts answers (length numbers) pages counts answers_new turns
+    (λ j l answer k x y part after between there does.
+    hold_turn gives first (slice_index_or numbers j 0) k x y (facts_in table w.pins numbers j) (not (is_whole w.lead w.parts (slice_index_or numbers j 0))) answer part after there does)))
 chosen gives first m facts w pages counts ToHold taken numbers answers answers_new false e b = is_same (b.same refl)
 chosen gives first m facts w pages counts ToGiveBack taken numbers answers answers_new true e b =
     let table : TableFacts = table_facts facts w.state in
@@ -312,10 +312,10 @@ chosen gives first m facts w pages counts ToGiveBack taken numbers answers answe
     let turns : InTurnWith (GivesBackAt table w.pins facts.most w.lead w.parts numbers) takes_none w.lead numbers m.pages w.counts answers taken (length numbers) all.has pages counts answers_new =
     subst (λ v. InTurnWith (GivesBackAt table w.pins facts.most w.lead w.parts numbers) takes_none w.lead numbers v w.counts answers taken (length numbers) all.has pages counts answers_new) (sym e) all.turns in
     is_reached (went_reaches gives first m numbers (length numbers) pages
-        (list_went_with gives first w.lead m numbers (GivesBackAt table w.pins facts.most w.lead w.parts numbers) takes_none w.counts answers taken (length numbers) all.has pages counts answers_new turns
-            (λ j has now l answer k x y part after between there does.
-                give_back_turn gives first (slice_index_or numbers j 0) k x y (facts_in table w.pins numbers j) (not (is_whole w.lead w.parts (slice_index_or numbers j 0))) (has_room_for_zeros facts.most has w.lead w.parts now (slice_index_or numbers j 0))
-                    answer part after there does)))
+    (list_went_with gives first w.lead m numbers (GivesBackAt table w.pins facts.most w.lead w.parts numbers) takes_none w.counts answers taken (length numbers) all.has pages counts answers_new turns
+    (λ j has now l answer k x y part after between there does.
+    give_back_turn gives first (slice_index_or numbers j 0) k x y (facts_in table w.pins numbers j) (not (is_whole w.lead w.parts (slice_index_or numbers j 0))) (has_room_for_zeros facts.most has w.lead w.parts now (slice_index_or numbers j 0))
+    answer part after there does)))
 chosen gives first m facts w pages counts ToGiveBack taken numbers answers answers_new false e b = is_same (b.same refl)
 
 answers_taken : (gives : (ℕ → Bool) → ℕ → Bool) (first : ℕ) (m : Moment) (facts : ProcessFacts) (w : Window) (pages : List WindowPage) (counts : List PartCounts) (taken : ℕ) (numbers fingerprints seen answers answers_new : List ℕ) (is : Bool) → m.pages ≡ w.pages →
@@ -325,10 +325,10 @@ answers_taken gives first m facts w pages counts taken numbers fingerprints seen
     let turns : InTurnWith (AnsweredAt facts.most w.lead w.parts numbers fingerprints seen) (takes_if_found w.lead w.parts numbers) w.lead numbers m.pages w.counts answers taken (length numbers) all.has pages counts answers_new =
     subst (λ v. InTurnWith (AnsweredAt facts.most w.lead w.parts numbers fingerprints seen) (takes_if_found w.lead w.parts numbers) w.lead numbers v w.counts answers taken (length numbers) all.has pages counts answers_new) (sym e) all.turns in
     is_reached (went_reaches gives first m numbers (length numbers) pages
-        (list_went_with gives first w.lead m numbers (AnsweredAt facts.most w.lead w.parts numbers fingerprints seen) (takes_if_found w.lead w.parts numbers) w.counts answers taken (length numbers) all.has pages counts answers_new turns
-            (λ j has now l answer k x y part after between there does.
-                answered_turn gives first (slice_index_or numbers j 0) k x y (is_whole w.lead w.parts (slice_index_or numbers j 0)) (nat_lt 0 (slice_index_or seen j 0)) (has_room facts.most has w.lead w.parts now (slice_index_or numbers j 0))
-                    (slice_index_or fingerprints j 0) answer part after there does)))
+    (list_went_with gives first w.lead m numbers (AnsweredAt facts.most w.lead w.parts numbers fingerprints seen) (takes_if_found w.lead w.parts numbers) w.counts answers taken (length numbers) all.has pages counts answers_new turns
+    (λ j has now l answer k x y part after between there does.
+    answered_turn gives first (slice_index_or numbers j 0) k x y (is_whole w.lead w.parts (slice_index_or numbers j 0)) (nat_lt 0 (slice_index_or seen j 0)) (has_room facts.most has w.lead w.parts now (slice_index_or numbers j 0))
+    (slice_index_or fingerprints j 0) answer part after there does)))
 answers_taken gives first m facts w pages counts taken numbers fingerprints seen answers answers_new false e b = is_same (b.same refl)
 
 copies_chosen : (gives : (ℕ → Bool) → ℕ → Bool) (first : ℕ) (m : Moment) (facts : ProcessFacts) (w : Window) (pages : List WindowPage) (counts : List PartCounts) (numbers there fingerprints answers answers_new : List ℕ) (is : Bool) → m.pages ≡ w.pages →
@@ -338,9 +338,9 @@ copies_chosen gives first m facts w pages counts numbers there fingerprints answ
     let turns : InTurn (CopiesAt table w.pins w.lead w.parts numbers there fingerprints) w.lead numbers m.pages w.counts answers (length numbers) pages counts answers_new =
     subst (λ v. InTurn (CopiesAt table w.pins w.lead w.parts numbers there fingerprints) w.lead numbers v w.counts answers (length numbers) pages counts answers_new) (sym e) (b.pages refl) in
     is_reached (went_reaches gives first m numbers (length numbers) pages
-        (list_went gives first w.lead m numbers (CopiesAt table w.pins w.lead w.parts numbers there fingerprints) w.counts answers (length numbers) pages counts answers_new turns
-            (λ j l answer k x y part after between at does.
-                to_copy_turn gives first (slice_index_or numbers j 0) k x y (facts_in table w.pins numbers j) (is_ready w.lead w.parts (slice_index_or numbers j 0) (slice_index_or there j 0)) (slice_index_or fingerprints j 0) answer part after at does)))
+    (list_went gives first w.lead m numbers (CopiesAt table w.pins w.lead w.parts numbers there fingerprints) w.counts answers (length numbers) pages counts answers_new turns
+    (λ j l answer k x y part after between at does.
+    to_copy_turn gives first (slice_index_or numbers j 0) k x y (facts_in table w.pins numbers j) (is_ready w.lead w.parts (slice_index_or numbers j 0) (slice_index_or there j 0)) (slice_index_or fingerprints j 0) answer part after at does)))
 copies_chosen gives first m facts w pages counts numbers there fingerprints answers answers_new false e b = is_same (b.same refl)
 
 copies_taken : (gives : (ℕ → Bool) → ℕ → Bool) (first : ℕ) (m : Moment) (facts : ProcessFacts) (w : Window) (pages : List WindowPage) (counts : List PartCounts) (numbers outcomes answers answers_new : List ℕ) (is : Bool) → m.pages ≡ w.pages →
@@ -350,9 +350,9 @@ copies_taken gives first m facts w pages counts numbers outcomes answers answers
     let turns : InTurn (CopiedAt table w.pins numbers outcomes) w.lead numbers m.pages w.counts answers (length numbers) pages counts answers_new =
     subst (λ v. InTurn (CopiedAt table w.pins numbers outcomes) w.lead numbers v w.counts answers (length numbers) pages counts answers_new) (sym e) (b.pages refl) in
     is_reached (went_reaches gives first m numbers (length numbers) pages
-        (list_went gives first w.lead m numbers (CopiedAt table w.pins numbers outcomes) w.counts answers (length numbers) pages counts answers_new turns
-            (λ j l answer k x y part after between at does.
-                copied_turn gives first (slice_index_or numbers j 0) k x y (facts_in table w.pins numbers j) answer (copied_by (slice_index_or outcomes j 0)) part after at does (so refl j k l between))))
+    (list_went gives first w.lead m numbers (CopiedAt table w.pins numbers outcomes) w.counts answers (length numbers) pages counts answers_new turns
+    (λ j l answer k x y part after between at does.
+    copied_turn gives first (slice_index_or numbers j 0) k x y (facts_in table w.pins numbers j) answer (copied_by (slice_index_or outcomes j 0)) part after at does (so refl j k l between))))
 copies_taken gives first m facts w pages counts numbers outcomes answers answers_new false e b so = is_same (b.same refl)
 
 loans_taken : (gives : (ℕ → Bool) → ℕ → Bool) (first : ℕ) (m : Moment) (w : Window) (pages : List WindowPage) (counts : List PartCounts) (numbers slots given answers answers_new : List ℕ) (frames : ℕ) (is_heard is : Bool) → m.pages ≡ w.pages →
@@ -362,20 +362,20 @@ loans_taken gives first m w pages counts numbers slots given answers answers_new
     let turns : InTurn (LoanedAt is_heard slots given frames) w.lead numbers m.pages w.counts answers (length numbers) pages counts answers_new =
     subst (λ v. InTurn (LoanedAt is_heard slots given frames) w.lead numbers v w.counts answers (length numbers) pages counts answers_new) (sym e) (b.pages refl) in
     is_reached (went_reaches gives first m numbers (length numbers) pages
-        (list_went gives first w.lead m numbers (LoanedAt is_heard slots given frames) w.counts answers (length numbers) pages counts answers_new turns
-            (λ j l answer k x y part after between at does.
-                loaned_turn gives first (slice_index_or numbers j 0) k x y frames answer (reply_of is_heard (slice_index_or slots j 0) (slice_index_or given j 0)) part after at does (so refl j k l between))))
+    (list_went gives first w.lead m numbers (LoanedAt is_heard slots given frames) w.counts answers (length numbers) pages counts answers_new turns
+    (λ j l answer k x y part after between at does.
+    loaned_turn gives first (slice_index_or numbers j 0) k x y frames answer (reply_of is_heard (slice_index_or slots j 0) (slice_index_or given j 0)) part after at does (so refl j k l between))))
 loans_taken gives first m w pages counts numbers slots given answers answers_new frames is_heard false e b so = is_same (b.same refl)
 
 releases_found : (gives : (ℕ → Bool) → ℕ → Bool) (first : ℕ) (m : Moment) (facts : ProcessFacts) (w : Window) (pages : List WindowPage) (counts : List PartCounts) (from n count : ℕ) (places places_new : List ℕ) → m.pages ≡ w.pages →
     FindsReleases facts from n count places places_new w pages counts → Became gives first m w pages
 releases_found gives first m facts w pages counts from n count places places_new e b = pick (can_note w.lead from n w.pages w.counts) refl where
   pick : (can : Bool) → can_note w.lead from n w.pages w.counts ≡ can → Became gives first m w pages
-  pick false no = is_same (b.same no)
-  pick true yes =
+  pick false not_so = is_same (b.same not_so)
+  pick true is_so =
       let table : TableFacts = table_facts facts w.state in
       is_reached (found_reaches gives first w.lead from (length places) table w.pins m w.counts places n count pages counts places_new
-          (subst (λ v. Found table w.pins w.lead from (length places) v w.counts places n count pages counts places_new) (sym e) (b.found yes)))
+      (subst (λ v. Found table w.pins w.lead from (length places) v w.counts places n count pages counts places_new) (sym e) (b.found is_so)))
 
 release_taken : (gives : (ℕ → Bool) → ℕ → Bool) (first : ℕ) (m : Moment) (w : Window) (pages : List WindowPage) (counts : List PartCounts) (numbers : List ℕ) (is_heard is : Bool) → m.pages ≡ w.pages →
     CameOfRelease numbers is_heard is w pages counts → (is ≡ true → EachIsSo (λ n now. IsSoOf gives now (slice_index_or numbers n 0) (released_as is_heard)) m numbers) → Became gives first m w pages
@@ -383,8 +383,8 @@ release_taken gives first m w pages counts numbers is_heard true e b so =
     let turns : InTurn (ReleasedAt is_heard) w.lead numbers m.pages w.counts [] (length numbers) pages counts [] =
     subst (λ v. InTurn (ReleasedAt is_heard) w.lead numbers v w.counts [] (length numbers) pages counts []) (sym e) (b.pages refl) in
     is_reached (went_reaches gives first m numbers (length numbers) pages
-        (list_went gives first w.lead m numbers (ReleasedAt is_heard) w.counts [] (length numbers) pages counts [] turns
-            (λ j l answer k x y part after between at does. told_of gives first (slice_index_or numbers j 0) k x y (released_as is_heard) part after at does (so refl j k l between))))
+    (list_went gives first w.lead m numbers (ReleasedAt is_heard) w.counts [] (length numbers) pages counts [] turns
+    (λ j l answer k x y part after between at does. told_of gives first (slice_index_or numbers j 0) k x y (released_as is_heard) part after at does (so refl j k l between))))
 release_taken gives first m w pages counts numbers is_heard false e b so = is_same (b.same refl)
 
 -- ---- the law
@@ -392,46 +392,46 @@ release_taken gives first m w pages counts numbers is_heard false e b so = is_sa
 pub each_owned_call_goes_on : EachOwnedCallGoesOn
 each_owned_call_goes_on f spans number place x gives old new h k g (owned.notes notice from n is c so) =
     by_place f spans number place x gives old new (IsNoted notice old.facts from n is old.mappings new.mappings) (Stay (is ≡ false) old.mappings new.mappings) h k g (ap (λ l. l.windows) c.others) c.there
-        (λ w pages counts e b. noted gives (spans (number place)).first (moment_of (number place) x) old.facts w pages counts notice from n is e b.becomes so)
+    (λ w pages counts e b. noted gives (spans (number place)).first (moment_of (number place) x) old.facts w pages counts notice from n is e b.becomes so)
 each_owned_call_goes_on f spans number place x gives old new h k g (owned.begins_row from takings row row_new is c so) =
     by_place f spans number place x gives old new (BeginsRow from takings is row row_new) (NoAnswer is row row_new) h k g (ap (λ l. l.windows) c.others) c.there
-        (λ w pages counts e b. row_begun gives (spans (number place)).first (moment_of (number place) x) w pages counts from takings row row_new is e b so)
+    (λ w pages counts e b. row_begun gives (spans (number place)).first (moment_of (number place) x) w pages counts from takings row row_new is e b so)
 each_owned_call_goes_on f spans number place x gives old new h k g (owned.finds_next from row order c) =
     by_place f spans number place x gives old new (FindsNext old.facts from row order) (order ≡ nothing_next) h k g (ap (λ l. l.windows) c.others) c.there
-        (λ w pages counts e b. next_found gives (spans (number place)).first (moment_of (number place) x) old.facts w pages counts from row order e b)
+    (λ w pages counts e b. next_found gives (spans (number place)).first (moment_of (number place) x) old.facts w pages counts from row order e b)
 each_owned_call_goes_on f spans number place x gives old new h k g (owned.row_done from begin done refused row row_new is c so) =
     by_place f spans number place x gives old new (CameOfOrder from begin done refused is row row_new) (NoAnswer is row row_new) h k g (ap (λ l. l.windows) c.others) c.there
-        (λ w pages counts e b. order_done gives (spans (number place)).first (moment_of (number place) x) w pages counts from begin done refused row row_new is e b so)
+    (λ w pages counts e b. order_done gives (spans (number place)).first (moment_of (number place) x) w pages counts from begin done refused row row_new is e b so)
 each_owned_call_goes_on f spans number place x gives old new h k g (owned.begins_scan scan from memory row row_new is c) =
     by_place f spans number place x gives old new (BeginsScan old.facts scan from memory is row row_new) (NoAnswer is row row_new) h k g (ap (λ l. l.windows) c.others) c.there
-        (λ w pages counts e b. scan_begun gives (spans (number place)).first (moment_of (number place) x) old.facts w pages counts scan from memory row row_new is e b)
+    (λ w pages counts e b. scan_begun gives (spans (number place)).first (moment_of (number place) x) old.facts w pages counts scan from memory row row_new is e b)
 each_owned_call_goes_on f spans number place x gives old new h k g (owned.scan_done scan from outcomes row row_new is c so) =
     by_place f spans number place x gives old new (CameOfSteps scan from outcomes is row row_new) (NoAnswer is row row_new) h k g (ap (λ l. l.windows) c.others) c.there
-        (λ w pages counts e b. steps_done gives (spans (number place)).first (moment_of (number place) x) w pages counts scan from outcomes row row_new is e b so)
+    (λ w pages counts e b. steps_done gives (spans (number place)).first (moment_of (number place) x) w pages counts scan from outcomes row row_new is e b so)
 each_owned_call_goes_on f spans number place x gives old new h k g (owned.follows scan from memory row row_new is c) =
     by_place f spans number place x gives old new (FollowsChanges old.facts scan from memory is row row_new) (NoAnswer is row row_new) h k g (ap (λ l. l.windows) c.others) c.there
-        (λ w pages counts e b. changes_followed gives (spans (number place)).first (moment_of (number place) x) old.facts w pages counts scan from memory row row_new is e b)
+    (λ w pages counts e b. changes_followed gives (spans (number place)).first (moment_of (number place) x) old.facts w pages counts scan from memory row row_new is e b)
 each_owned_call_goes_on f spans number place x gives old new h k g (owned.chooses what numbers answers answers_new is c) =
     by_place f spans number place x gives old new (Chooses what old.facts old.mappings numbers is answers answers_new) (NoAnswer is answers answers_new) h k g (ap (λ l. l.windows) c.others) c.there
-        (λ w pages counts e b. chosen gives (spans (number place)).first (moment_of (number place) x) old.facts w pages counts what old.mappings numbers answers answers_new is e b)
+    (λ w pages counts e b. chosen gives (spans (number place)).first (moment_of (number place) x) old.facts w pages counts what old.mappings numbers answers answers_new is e b)
 each_owned_call_goes_on f spans number place x gives old new h k g (owned.answered numbers fingerprints seen answers answers_new is c) =
     by_place f spans number place x gives old new (Answered old.facts old.mappings numbers fingerprints seen is answers answers_new) (NoAnswer is answers answers_new) h k g (ap (λ l. l.windows) c.others) c.there
-        (λ w pages counts e b. answers_taken gives (spans (number place)).first (moment_of (number place) x) old.facts w pages counts old.mappings numbers fingerprints seen answers answers_new is e b)
+    (λ w pages counts e b. answers_taken gives (spans (number place)).first (moment_of (number place) x) old.facts w pages counts old.mappings numbers fingerprints seen answers answers_new is e b)
 each_owned_call_goes_on f spans number place x gives old new h k g (owned.to_copy numbers there fingerprints answers answers_new is c) =
     by_place f spans number place x gives old new (ChoosesCopies old.facts numbers there fingerprints is answers answers_new) (NoAnswer is answers answers_new) h k g (ap (λ l. l.windows) c.others) c.there
-        (λ w pages counts e b. copies_chosen gives (spans (number place)).first (moment_of (number place) x) old.facts w pages counts numbers there fingerprints answers answers_new is e b)
+    (λ w pages counts e b. copies_chosen gives (spans (number place)).first (moment_of (number place) x) old.facts w pages counts numbers there fingerprints answers answers_new is e b)
 each_owned_call_goes_on f spans number place x gives old new h k g (owned.copied numbers outcomes answers answers_new is c so) =
     by_place f spans number place x gives old new (CameOfCopies old.facts numbers outcomes is answers answers_new) (NoAnswer is answers answers_new) h k g (ap (λ l. l.windows) c.others) c.there
-        (λ w pages counts e b. copies_taken gives (spans (number place)).first (moment_of (number place) x) old.facts w pages counts numbers outcomes answers answers_new is e b so)
+    (λ w pages counts e b. copies_taken gives (spans (number place)).first (moment_of (number place) x) old.facts w pages counts numbers outcomes answers answers_new is e b so)
 each_owned_call_goes_on f spans number place x gives old new h k g (owned.loaned numbers slots given answers answers_new frames is_heard is c so) =
     by_place f spans number place x gives old new (CameOfLoans numbers slots given frames is_heard is answers answers_new) (NoAnswer is answers answers_new) h k g (ap (λ l. l.windows) c.others) c.there
-        (λ w pages counts e b. loans_taken gives (spans (number place)).first (moment_of (number place) x) w pages counts numbers slots given answers answers_new frames is_heard is e b so)
+    (λ w pages counts e b. loans_taken gives (spans (number place)).first (moment_of (number place) x) w pages counts numbers slots given answers answers_new frames is_heard is e b so)
 each_owned_call_goes_on f spans number place x gives old new h k g (owned.to_release from n count places places_new c) =
     by_place f spans number place x gives old new (FindsReleases old.facts from n count places places_new) (NoneFound count places places_new) h k g (ap (λ l. l.windows) c.others) c.there
-        (λ w pages counts e b. releases_found gives (spans (number place)).first (moment_of (number place) x) old.facts w pages counts from n count places places_new e b)
+    (λ w pages counts e b. releases_found gives (spans (number place)).first (moment_of (number place) x) old.facts w pages counts from n count places places_new e b)
 each_owned_call_goes_on f spans number place x gives old new h k g (owned.released numbers is_heard is c so) =
     by_place f spans number place x gives old new (CameOfRelease numbers is_heard is) (is ≡ false) h k g (ap (λ l. l.windows) c.others) c.there
-        (λ w pages counts e b. release_taken gives (spans (number place)).first (moment_of (number place) x) w pages counts numbers is_heard is e b so)
+    (λ w pages counts e b. release_taken gives (spans (number place)).first (moment_of (number place) x) w pages counts numbers is_heard is e b so)
 
 -- ---- counts of parts
 

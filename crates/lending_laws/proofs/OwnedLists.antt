@@ -17,7 +17,7 @@ use Rattle.lending_laws.specs.Histories.{Moment}
 use Rattle.lending_laws.specs.Owned.{Between, IsLater}
 
 -- The window went on by the turns of the first n pages of a list, and has these pages.
-record Went (g : (ℕ → Bool) → ℕ → Bool) (first : ℕ) (m : Moment) (numbers : List ℕ) (n : ℕ) (pages : List WindowPage) : Type 0 where
+pub record Went (g : (ℕ → Bool) → ℕ → Bool) (first : ℕ) (m : Moment) (numbers : List ℕ) (n : ℕ) (pages : List WindowPage) : Type 0 where
   pub new : Moment
   pub goes : Goes g first m new
   pub has : new.pages ≡ pages
@@ -93,5 +93,5 @@ found_reaches g first lead from room table pins m counts places n count now coun
 found_reaches g first lead from room table pins m counts places n count now counts_now said (release.goes_on k many count_new was new counts_was counts_new said_was said_new before turn) =
     let r : Reaches g first m was = found_reaches g first lead from room table pins m counts places k many was counts_was said_was before in
     reaches_then g first m was new r
-        (each_release_order_goes g first lead (from + k) room many count_new (facts_at table pins (only_called false) (from + k)) pins r.new new counts_was counts_new said_was said_new
-            (subst (λ v. release.FindsAt (facts_at table pins (only_called false) (from + k)) pins lead (from + k) room many count_new v new counts_was counts_new said_was said_new) (sym r.has) turn))
+    (each_release_order_goes g first lead (from + k) room many count_new (facts_at table pins (only_called false) (from + k)) pins r.new new counts_was counts_new said_was said_new
+    (subst (λ v. release.FindsAt (facts_at table pins (only_called false) (from + k)) pins lead (from + k) room many count_new v new counts_was counts_new said_was said_new) (sym r.has) turn))

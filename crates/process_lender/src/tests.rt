@@ -23,7 +23,7 @@ fn shows<A: Allocator>(lender: &mut ProcessLender<A>, window: usize) -> bool {
         && lender.may(window, 100, 10, Question::LieOver)
         && !lender.may(window, 99, 10, Question::LieOver)
         && !lender.note(window, 1_000, 101, Notice::GivenUp)
-        && !lender.note(window + 1, 0, 1, Notice::GivenUp)
+        && !lender.note(7, 0, 1, Notice::GivenUp)
 }
 
 // It ends, and its place is free.
