@@ -1,12 +1,11 @@
 -- What is done with lists of a window's pages.
-use Rattle.std.specs.Prelude.{◌≡◌, ℕ, Bool, true, false, ◌&&◌, nat_eq, List, [], length}
+use Rattle.std.specs.Prelude.{◌≡◌, ℕ, Bool, false, ◌&&◌, nat_eq, List, [], length}
 use Rattle.lend_steps.specs.Asks.{AnsweredAt, AsksAt, takes_if_found, takes_none}
 use Rattle.lend_steps.specs.Copies.{CopiedAt, CopiesAt}
 use Rattle.lend_steps.specs.Holds.{GivesBackAt, HoldsAt}
 use Rattle.lend_steps.specs.Lists.{Each, EachWith}
 use Rattle.lend_steps.specs.Loans.{LoanedAt}
 use Rattle.lend_steps.specs.Releases.{Finds, ReleasedAt}
-use Rattle.page_looks.specs.declared.idle.look.LookConfig.{LookConfig}
 use Rattle.window_pages.specs.declared.counts.PartCounts.{PartCounts}
 use Rattle.window_pages.specs.declared.page.WindowPage.{WindowPage}
 use Rattle.window_tables.specs.Tables.{can_note, has_parts}

@@ -12,7 +12,6 @@ use Rattle.window_tables.specs.declared.changes.Change.TheVariants as Change
 use Rattle.process_lender.specs.Windows.{HasPages, Window, table_facts}
 use Rattle.process_lender.specs.declared.facts.ProcessFacts.{ProcessFacts}
 use Rattle.process_lender.specs.declared.notice.Notice.{Notice}
-use Rattle.process_lender.specs.declared.notice.Notice.TheVariants as Notice
 
 -- Memory with what so many pages contained was moved to their places at once, exactly if they are there and each page of the table has a part. Else
 -- nothing changes.

@@ -1,8 +1,7 @@
 -- Parts of a window, and pages of it that were pinned.
-use Rattle.std.specs.Prelude.{◌≡◌, ℕ, Bool, true, false, not, ◌&&◌, nat_lt, if◌then◌else◌, List, length, Option, Some, None, option_map, slice_get, slice_set}
+use Rattle.std.specs.Prelude.{ℕ, Bool, true, false, if◌then◌else◌, List, Option, Some, None, option_map, slice_get, slice_set}
 use Rattle.page_looks.specs.Parts.{order_of, part_then}
 use Rattle.page_looks.specs.Rests.{found_then, woken}
-use Rattle.page_looks.specs.declared.idle.look.LookConfig.{LookConfig}
 use Rattle.page_looks.specs.declared.parts.part.Part.{Part}
 use Rattle.page_looks.specs.declared.parts.part.PartConfig.{PartConfig}
 use Rattle.page_looks.specs.declared.parts.part.PartLook.{PartLook}
@@ -10,7 +9,7 @@ use Rattle.page_looks.specs.declared.parts.part.PartOrder.{PartOrder}
 use Rattle.window_pages.specs.declared.counts.PartCounts.{PartCounts}
 use Rattle.window_tables.specs.Pins.{can_pin, can_unpin, pinned, unpinned}
 use Rattle.window_tables.specs.Tables.{part_at}
-use Rattle.process_lender.specs.Windows.{Lender, Window, with_window}
+use Rattle.process_lender.specs.Windows.{Window}
 use Rattle.process_lender.specs.declared.part_notice.PartNotice.{PartNotice}
 use Rattle.process_lender.specs.declared.part_notice.PartNotice.TheVariants.{Settled, Rests, Woken, Huge, Forgotten}
 

@@ -1,5 +1,5 @@
 -- What is done with pages of a window that are held in a row.
-use Rattle.std.specs.Prelude.{◌≡◌, ℕ, Bool, false, List}
+use Rattle.std.specs.Prelude.{ℕ, Bool, List}
 use Rattle.page_holds.specs.Orders.{OrdersNext}
 use Rattle.page_holds.specs.Rows.{RowBegins, RowCameOut}
 use Rattle.page_holds.specs.declared.place.HoldStep.TheVariants.{Over}

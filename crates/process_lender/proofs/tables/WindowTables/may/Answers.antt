@@ -1,4 +1,4 @@
-use Rattle.std.proofs.Common.{◌≡◌, ◌∙◌, ap}
+use Rattle.std.proofs.Common.{◌∙◌, ap}
 use Rattle.process_lender.specs.Windows.{table_facts}
 use Rattle.process_lender.proofs.Owning.{own_is}
 use Rattle.process_lender.proofs.tables.WindowTables.may.Goals as goal
