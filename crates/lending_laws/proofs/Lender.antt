@@ -631,24 +631,24 @@ and_then g first i m x between y e t c =
     turns_then g first i m between y t (c t.new refl refl refl (subst (λ v. slice_get v i ≡ Some between) (sym t.has) (set_own m.pages i x between e)))
 
 -- a page that stays, or of which no more is known than before
-stays_now : (g : (ℕ → Bool) → ℕ → Bool) (first i : ℕ) (m : Moment) (x y : WindowPage) → slice_get m.pages i ≡ Some x → known_of y ≡ known_of x → Turns g first m i y
+pub stays_now : (g : (ℕ → Bool) → ℕ → Bool) (first i : ℕ) (m : Moment) (x y : WindowPage) → slice_get m.pages i ≡ Some x → known_of y ≡ known_of x → Turns g first m i y
 stays_now g first i m x y e s = one_call g first i m x y (m.orders i) e (known_stays (first + i) m.world (m.orders i) x y s)
 
 -- what a turn of a list reaches
 turn_reaches : (g : (ℕ → Bool) → ℕ → Bool) (first i : ℕ) (m : Moment) (y : WindowPage) (new : List WindowPage) → Turns g first m i y → new ≡ slice_set m.pages i y → Reaches g first m new
 turn_reaches g first i m y new t e = record { new = t.new; goes = t.goes; has = t.has ∙ sym e; stored = t.stored; world = t.world }
 
-none_reaches : (g : (ℕ → Bool) → ℕ → Bool) (first : ℕ) (m : Moment) (new : List WindowPage) → new ≡ m.pages → Reaches g first m new
+pub none_reaches : (g : (ℕ → Bool) → ℕ → Bool) (first : ℕ) (m : Moment) (new : List WindowPage) → new ≡ m.pages → Reaches g first m new
 none_reaches g first m new e = record { new = m; goes = goes_stays; has = sym e; stored = refl; world = refl }
 
 -- an outcome that is told if it can be taken
-told_of : (g : (ℕ → Bool) → ℕ → Bool) (first i : ℕ) (m : Moment) (x y : WindowPage) (its : Outcome) (part after : PartCounts) → slice_get m.pages i ≡ Some x → Told its x y part after → IsSoOf g m i its → Turns g first m i y
+pub told_of : (g : (ℕ → Bool) → ℕ → Bool) (first i : ℕ) (m : Moment) (x y : WindowPage) (its : Outcome) (part after : PartCounts) → slice_get m.pages i ≡ Some x → Told its x y part after → IsSoOf g m i its → Turns g first m i y
 told_of g first i m x y its part after e t so = pick (takes its (known_of x)) refl where
   pick : (b : Bool) → takes its (known_of x) ≡ b → Turns g first m i y
   pick true is = told_now g first i m x y its part after (so x e is) (t.done is) e
   pick false is = stays_now g first i m x y e (ap known_of (t.page is))
 
-chosen_turn : (g : (ℕ → Bool) → ℕ → Bool) (first i : ℕ) (m : Moment) (x y : WindowPage) (facts : WindowFacts) (zeros : Bool) (order : Order) (part after : PartCounts) → slice_get m.pages i ≡ Some x → ChosenFor (chosen_as zeros) facts order x y part after →
+pub chosen_turn : (g : (ℕ → Bool) → ℕ → Bool) (first i : ℕ) (m : Moment) (x y : WindowPage) (facts : WindowFacts) (zeros : Bool) (order : Order) (part after : PartCounts) → slice_get m.pages i ≡ Some x → ChosenFor (chosen_as zeros) facts order x y part after →
     Turns g first m i y
 chosen_turn g first i m x y facts zeros order part after e c =
     let t : Turns g first m i c.between = one_call g first i m x c.between (m.orders i) e
@@ -662,7 +662,7 @@ each_choice_goes g first lead number fingerprint answer facts is_ready m new par
   turn (is_left can said same counts) = stays_now g first number m c.before c.after c.is_there (ap known_of same)
 each_choice_goes g first lead number fingerprint answer facts is_ready m new parts parts_new (is_not_there l said same counts) = none_reaches g first m new same
 
-copied_turn : (g : (ℕ → Bool) → ℕ → Bool) (first i : ℕ) (m : Moment) (x y : WindowPage) (facts : WindowFacts) (answer : ℕ) (came : CopyOutcome) (part after : PartCounts) → slice_get m.pages i ≡ Some x →
+pub copied_turn : (g : (ℕ → Bool) → ℕ → Bool) (first i : ℕ) (m : Moment) (x y : WindowPage) (facts : WindowFacts) (answer : ℕ) (came : CopyOutcome) (part after : PartCounts) → slice_get m.pages i ≡ Some x →
     CameOfCopy facts answer x y part after came → CopyIsSo g m i came → Turns g first m i y
 copied_turn g first i m x y facts answer CopyOutcome.Good part after e (is_good order c said) so =
     let t : Turns g first m i c.between = told_of g first i m x c.between Done part c.part_between e c.told so in
@@ -683,7 +683,7 @@ not_lent_turn g first i m x y part after e n so =
     let t : Turns g first m i n.between = told_of g first i m x n.between Refused part n.part_between e n.told so in
     and_then g first i m x n.between y e t (λ k w o p at. stays_now g first i k n.between y at n.last.known)
 
-loaned_turn : (g : (ℕ → Bool) → ℕ → Bool) (first i : ℕ) (m : Moment) (x y : WindowPage) (frames answer : ℕ) (reply : LoanReply) (part after : PartCounts) → slice_get m.pages i ≡ Some x →
+pub loaned_turn : (g : (ℕ → Bool) → ℕ → Bool) (first i : ℕ) (m : Moment) (x y : WindowPage) (frames answer : ℕ) (reply : LoanReply) (part after : PartCounts) → slice_get m.pages i ≡ Some x →
     CameOfLoan frames answer x y part after reply → LoanIsSo g m i reply → Turns g first m i y
 loaned_turn g first i m x y frames answer Unheard part after e (is_unheard t said) so = told_of g first i m x y Refused part after e t so
 loaned_turn g first i m x y frames answer NoFrame part after e (is_without_frame n said) so = not_lent_turn g first i m x y part after e n so
@@ -773,7 +773,7 @@ refused_so g i m x one facts order part part_one e free l z at k = pick (is_orde
       record { order = order; told = given; noted = λ slot n c. absurd (not_carried order (Map (Frame slot n)) (sym given ∙ c)); gives = tt }
   pick false h = absurd (not_both (known_of one).ordered ordered (l.lender.ordered ∙ ap (λ v. v || is_order order) free ∙ h))
 
-hold_turn : (g : (ℕ → Bool) → ℕ → Bool) (first i : ℕ) (m : Moment) (x y : WindowPage) (facts : WindowFacts) (is_split : Bool) (answer : ℕ) (part after : PartCounts) → slice_get m.pages i ≡ Some x →
+pub hold_turn : (g : (ℕ → Bool) → ℕ → Bool) (first i : ℕ) (m : Moment) (x y : WindowPage) (facts : WindowFacts) (is_split : Bool) (answer : ℕ) (part after : PartCounts) → slice_get m.pages i ≡ Some x →
     ToHold facts is_split answer x y part after → Turns g first m i y
 hold_turn g first i m x y facts is_split answer part after e (is_ordered order can l h said) = order_turn g first i m x y part after order (bars_of facts (known_of x)) l m refl refl refl e
 hold_turn g first i m x y facts is_split answer part after e (is_refused order one part_one can l h t said) =
@@ -786,7 +786,7 @@ hold_turn g first i m x y facts is_split answer part after e (is_refused order o
       not_ordered false b h = refl
 hold_turn g first i m x y facts is_split answer part after e (is_passed_by can said same counts) = stays_now g first i m x y e (ap known_of same)
 
-give_back_turn : (g : (ℕ → Bool) → ℕ → Bool) (first i : ℕ) (m : Moment) (x y : WindowPage) (facts : WindowFacts) (is_split has_room : Bool) (answer : ℕ) (part after : PartCounts) → slice_get m.pages i ≡ Some x →
+pub give_back_turn : (g : (ℕ → Bool) → ℕ → Bool) (first i : ℕ) (m : Moment) (x y : WindowPage) (facts : WindowFacts) (is_split has_room : Bool) (answer : ℕ) (part after : PartCounts) → slice_get m.pages i ≡ Some x →
     ToGiveBack facts is_split has_room answer x y part after → Turns g first m i y
 give_back_turn g first i m x y facts is_split has_room answer part after e (is_given_back order can r c said) = chosen_turn g first i m x y facts true order part after e c
 give_back_turn g first i m x y facts is_split has_room answer part after e (is_crowded_out can r said n) = stays_now g first i m x y e n.known
@@ -911,7 +911,7 @@ written_call p w pending x y page there bare h = pick (is_busy (lender_with no_b
   pick false e = made.hears x y no_counts (counts_then x y no_counts) Written pending page there bare e (h.heard e no_counts)
   pick true e = stays_call p w pending x y (h.other e)
 
-reaches_then : (g : (ℕ → Bool) → ℕ → Bool) (first : ℕ) (m : Moment) (between new : List WindowPage) → (r : Reaches g first m between) → Reaches g first r.new new → Reaches g first m new
+pub reaches_then : (g : (ℕ → Bool) → ℕ → Bool) (first : ℕ) (m : Moment) (between new : List WindowPage) → (r : Reaches g first m between) → Reaches g first r.new new → Reaches g first m new
 reaches_then g first m between new r s = record { new = s.new; goes = joined g first m r.new s.new r.goes s.goes; has = s.has; stored = s.stored ∙ r.stored; world = s.world ∙ r.world }
 
 pub each_one_memory_goes : EachOneMemoryGoes
@@ -928,7 +928,7 @@ each_one_memory_goes g first count from n m new kept c t =
 
 -- ---- questions
 
-asked_turn : (g : (ℕ → Bool) → ℕ → Bool) (first i : ℕ) (m : Moment) (x y : WindowPage) (facts : WindowFacts) (has_room is_passing : Bool) (answer : ℕ) (part after : PartCounts) → slice_get m.pages i ≡ Some x →
+pub asked_turn : (g : (ℕ → Bool) → ℕ → Bool) (first i : ℕ) (m : Moment) (x y : WindowPage) (facts : WindowFacts) (has_room is_passing : Bool) (answer : ℕ) (part after : PartCounts) → slice_get m.pages i ≡ Some x →
     ToAsk facts has_room is_passing answer x y part after → Turns g first m i y
 asked_turn g first i m x y facts has_room is_passing answer part after e (is_not_free f said same counts) = stays_now g first i m x y e (ap known_of same)
 asked_turn g first i m x y facts has_room is_passing answer part after e (is_crowded f r said n) = stays_now g first i m x y e n.known
@@ -941,7 +941,7 @@ in_vain_turn g first i m x y is_whole is_other fingerprint part after e v = stay
   pick true s = (v.seen s).known ∙ v.asked.known
   pick false s = ap known_of (v.kept s) ∙ v.asked.known
 
-answered_turn : (g : (ℕ → Bool) → ℕ → Bool) (first i : ℕ) (m : Moment) (x y : WindowPage) (is_whole is_other has_room : Bool) (fingerprint answer : ℕ) (part after : PartCounts) → slice_get m.pages i ≡ Some x →
+pub answered_turn : (g : (ℕ → Bool) → ℕ → Bool) (first i : ℕ) (m : Moment) (x y : WindowPage) (is_whole is_other has_room : Bool) (fingerprint answer : ℕ) (part after : PartCounts) → slice_get m.pages i ≡ Some x →
     Answered is_whole is_other has_room fingerprint answer x y part after → Turns g first m i y
 answered_turn g first i m x y is_whole is_other has_room fingerprint answer part after e (is_in_vain o said v) = in_vain_turn g first i m x y is_whole is_other fingerprint part after e v
 answered_turn g first i m x y is_whole is_other has_room fingerprint answer part after e (is_left_out o r said n) = stays_now g first i m x y e n.known

@@ -8,6 +8,8 @@ pub mod Notes
 pub mod Orders
 pub mod Outcomes
 pub mod Over
+pub mod Owned
+pub mod OwnedLists
 pub mod Pages
 pub mod ProcessCalls
 pub mod Processes

@@ -108,7 +108,7 @@ pub record ProcessAt (f : Bool) (spans : ℕ → Span) (k : ℕ) (old : Process)
   pub is_open : new.is_open k ≡ true
   pub others : OthersStay k old new
 
-window_goes : (f : Bool) (spans : ℕ → Span) (k : ℕ) (x : Process) (g : (ℕ → Bool) → ℕ → Bool) (m : Moment) → ProcessHistory f spans x → x.is_open k ≡ true → GivesFor f k x g →
+pub window_goes : (f : Bool) (spans : ℕ → Span) (k : ℕ) (x : Process) (g : (ℕ → Bool) → ℕ → Bool) (m : Moment) → ProcessHistory f spans x → x.is_open k ≡ true → GivesFor f k x g →
     Goes g (spans k).first (moment_of k x) m → ProcessAt f spans k x m
 window_goes f spans k x g m h o a goes_stays = record { new = x; history = h; at = refl; is_open = o; others = λ j n. record { is_open = refl; pages = refl; orders = refl; slots = refl } }
 window_goes f spans k x g m h o a (goes_calls now next i s c) =

@@ -5,6 +5,7 @@ pub mod Lender
 pub mod Looks
 pub mod Notes
 pub mod Orders
+pub mod Owned
 pub mod ProcessCalls
 pub mod Processes
 pub mod Reading

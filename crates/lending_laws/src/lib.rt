@@ -11,6 +11,7 @@ ghost use Rattle.lending_laws.specs.Looks.{EachStepReadsWhatItMay};
 ghost use Rattle.lending_laws.specs.ProcessCalls.{EachCallGoesOnInAll};
 ghost use Rattle.lending_laws.specs.Notes.{EachIsDetached, EachLookIsCalls, EachNoteIsACall, EachStepTells};
 ghost use Rattle.lending_laws.specs.Orders.{EachCopyMay, EachHoldMay, EachListHasRoom, EachLoanMay, EachMapMay, EachQuestionMay, EachReturnMay};
+ghost use Rattle.lending_laws.specs.Owned.{EachOwnedCallCounts, EachOwnedCallGoesOn};
 ghost use Rattle.lending_laws.specs.Processes.{EachPageOfAllIsRead, EachSlotIsOneWindows, EachWindowIsAlone, NoSlotOfAllIsLost, NoneOfAllIsReleasedShown};
 ghost use Rattle.lending_laws.specs.Reading.{EachBeliefIsRight, EachEventKeepsReading, EachFrameIsNoted, EachOrderIsDue, EachOrderIsPossible, EachPageIsRead, StartBegins};
 ghost use Rattle.lending_laws.specs.Slots.{EachSlotIsOnes, NoSlotIsLost, NoneIsReleasedShown};
@@ -74,6 +75,15 @@ pub fn orders_law()
     ensures returns { EachReturnMay }
     ensures maps { EachMapMay }
     ensures room { EachListHasRoom }
+{}
+
+/// *Each call of a value that owns all windows of a process* ([`ProcessLender`](process_lender::ProcessLender)) is a call for the pages of one window, and
+/// leaves the others as they were. So where what it says is so ([`OwnedCall`] has both), the process is at a moment of its history after each call, and
+/// each page of each window reads what its guest stored last. The counts of parts stay right. Of a list's pages each has its turn, and what is said of it
+/// is so then. That a lender is gone ([`Ends`]), that windows come and go, and notices of facts are none of these calls.
+pub fn owned_law()
+    ensures calls { EachOwnedCallGoesOn }
+    ensures counted { EachOwnedCallCounts }
 {}
 
 /// With a host that gives only slots that it hasn't given: *each slot that it gave and hasn't got back is exactly one page's*, at each
