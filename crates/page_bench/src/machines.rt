@@ -4,9 +4,9 @@ ghost use Rattle.share_rings.specs.Closing.{has_close};
 
 use crate::requests::{Mix, PAGES, request};
 use crate::step::Refusal;
+use crate::timed_hash::TimedHash;
 use merge_core::Core;
 use merge_run::{Config, Finished, OpenGate, RunFault, run};
-use page_digest::PageHash;
 use page_model::{MAX_ENTRIES, Request};
 use std::alloc::{AllocError, Global};
 use std::sync::Wait;
@@ -38,34 +38,37 @@ pub fn config(alloc: Global, case: Case) -> Result<Config, AllocError> {
     })
 }
 
-/// Runs these scripts, with a thread for each guest.
-pub fn run_scripts<R: Threads + Wait + Sync, H: PageHash + Copy>(
+/// Runs these scripts, with a thread for each guest. Returns what is left, and how many requests were served.
+pub fn run_scripts<R: Threads + Wait + Sync>(
     rt: &R,
     alloc: Global,
     config: &Config,
-    hash: H,
+    hash: TimedHash,
     scripts: Vec<Vec<Request>>,
-) -> Result<Finished<H>, Refusal>
+) -> Result<(Finished<TimedHash>, u64), Refusal>
     requires { All (λ script. has_close script.items ≡ false) scripts.items }
 {
     if scripts.len() != config.pages.len() {
         return Err("not a script for each guest");
     }
     match run(rt, alloc, config, hash, scripts, &OpenGate) {
-        Ok(finished) => Ok(finished),
+        Ok(finished) => {
+            let served = finished.settled.journal().len() as u64;
+            Ok((finished, served))
+        }
         Err(RunFault::NoThread) => Err("no thread"),
         Err(_) => Err("no machine"),
     }
 }
 
 /// Makes a machine.
-pub fn new_core<H: PageHash + Copy>(
+pub fn new_core(
     alloc: Global,
     frames: u32,
     pages: &[u32],
     salts: &[u32],
-    hash: H,
-) -> Result<Core<H>, Refusal> {
+    hash: TimedHash,
+) -> Result<Core<TimedHash>, Refusal> {
     match Core::new(alloc, frames, pages, salts, hash) {
         Ok(core) => Ok(core),
         Err(_) => Err("no machine"),
@@ -74,22 +77,26 @@ pub fn new_core<H: PageHash + Copy>(
 
 /// Makes the machine of a run, and serves all requests of each guest in turn and then the closes, on one thread. Returns the
 /// machine and how many it served.
-pub fn serve_all<H: PageHash + Copy>(
+pub fn serve_all(
     alloc: Global,
     config: &Config,
-    hash: H,
+    hash: TimedHash,
     case: Case,
-) -> Result<(Core<H>, u32), Refusal> {
+) -> Result<(Core<TimedHash>, u64), Refusal> {
     let mut core = new_core(alloc, config.frames, &config.pages, &config.salts, hash)?;
-    for n in 0..case.requests.saturating_add(1) {
-        serve_turn(&mut core, case, n);
-    }
-    let served = core.entries();
+    serve_turns(&mut core, case);
+    let served = u64::from(core.entries());
     Ok((core, served))
 }
 
+fn serve_turns(core: &mut Core<TimedHash>, case: Case) {
+    for n in 0..case.requests.saturating_add(1) {
+        serve_turn(core, case, n);
+    }
+}
+
 // Serves request number n of each guest, unless the journal of a run would be full.
-fn serve_turn<H: PageHash>(core: &mut Core<H>, case: Case, n: u32) {
+fn serve_turn(core: &mut Core<TimedHash>, case: Case, n: u32) {
     if core.entries() > MAX_ENTRIES {
         return;
     }

@@ -17,8 +17,9 @@ mod time_hashes;
 mod time_rings;
 mod time_runs;
 mod time_table;
+mod timed_hash;
 
-use page_digest::{Sha256Hash, WideSha256Hash};
+use crate::timed_hash::TimedHash;
 use std::alloc::Global;
 use std::rt::Clock;
 use std::sync::Wait;
@@ -28,19 +29,24 @@ use std::{env, io};
 const TRIED: [&str; 6] = ["frames", "table", "hash", "wide-hash", "rings", "run"];
 
 fn main(rt: HostRuntime) -> io::Result<()> {
-    let (alloc, mut words) = (rt.alloc(), env::args(&rt)?);
-    let _program = words.next();
-    let Some(part) = words.next() else {
-        for part in TRIED {
-            time_part(&rt, alloc, part, None)?;
-        }
-        return Ok(());
-    };
-    let asked = match words.next() {
-        Some(word) => word.parse().ok(),
-        None => None,
-    };
-    time_part(&rt, alloc, part.as_str(), asked)
+    let alloc = rt.alloc();
+    let words: Vec<String> = env::args(&rt)?.collect(alloc)?;
+    match words.get(1) {
+        Some(part) => time_part(&rt, alloc, part, number_in(&words)),
+        None => try_each(&rt, alloc),
+    }
+}
+
+// Returns how many calls the words ask for.
+fn number_in(words: &[String]) -> Option<u32> {
+    words.get(2)?.parse().ok()
+}
+
+fn try_each<R: Clock + Print + Threads + Wait + Sync>(rt: &R, alloc: Global) -> io::Result<()> {
+    for part in &TRIED {
+        time_part(rt, alloc, part, None)?;
+    }
+    Ok(())
 }
 
 fn time_part<R: Clock + Print + Threads + Wait + Sync>(
@@ -52,11 +58,11 @@ fn time_part<R: Clock + Print + Threads + Wait + Sync>(
     match part {
         "frames" => time_frames::time_frames(rt, alloc, asked),
         "table" => time_table::time_table(rt, alloc, asked),
-        "hash" => time_hashes::time_hashes(rt, alloc, asked, &Sha256Hash),
-        "wide-hash" => time_hashes::time_hashes(rt, alloc, asked, &WideSha256Hash),
+        "hash" => time_hashes::time_hashes(rt, alloc, asked, TimedHash::Narrow),
+        "wide-hash" => time_hashes::time_hashes(rt, alloc, asked, TimedHash::Wide),
         "rings" => time_rings::time_rings(rt, alloc, asked),
-        "run" => time_runs::time_runs(rt, alloc, asked, Sha256Hash),
-        "wide-run" => time_runs::time_runs(rt, alloc, asked, WideSha256Hash),
+        "run" => time_runs::time_runs(rt, alloc, asked, TimedHash::Narrow),
+        "wide-run" => time_runs::time_runs(rt, alloc, asked, TimedHash::Wide),
         other => println!(rt; "page_bench: no part is named {other}"),
     }
 }

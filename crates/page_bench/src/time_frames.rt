@@ -1,6 +1,6 @@
 //! The calls of `Frames`.
 use crate::frame_calls::{Held, give_back_others, hold, take_all, write_all};
-use crate::step::print_step;
+use crate::step::{print_refusal, print_step};
 use std::alloc::Global;
 use std::io;
 use std::rt::Clock;
@@ -28,14 +28,17 @@ const STEPS: [(&str, Step); 6] = [
 
 /// Times them over as many frames as asked for, or only tries them.
 pub fn time_frames<R: Clock + Print>(rt: &R, alloc: Global, asked: Option<u32>) -> io::Result<()> {
-    let start = Instant::now(rt)?;
     let Some(mut held) = hold(alloc, asked.unwrap_or(FEW)) else {
-        return print_step(rt, start, false, "frames", Err("no memory"));
+        return print_refusal(rt, "frames", "no memory");
     };
-    for (name, step) in STEPS {
+    time_steps(rt, asked.is_some(), &mut held)
+}
+
+fn time_steps<R: Clock + Print>(rt: &R, is_timed: bool, held: &mut Held) -> io::Result<()> {
+    for (name, step) in &STEPS {
         let start = Instant::now(rt)?;
-        let calls = do_step(&mut held, step);
-        print_step(rt, start, asked.is_some(), name, Ok(u64::from(calls)))?;
+        let calls = do_step(held, *step);
+        print_step(rt, start, is_timed, name, Ok(u64::from(calls)))?;
     }
     Ok(())
 }

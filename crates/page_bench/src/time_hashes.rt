@@ -2,8 +2,8 @@
 //!
 //! It is the same page each time, which stays in the processor's cache, so the times are those of the hash itself.
 use crate::pages::{Listed, list_frame, sum_alone, sum_by};
-use crate::step::{Refusal, print_step};
-use page_digest::PageHash;
+use crate::step::{Refusal, print_refusal, print_step};
+use crate::timed_hash::TimedHash;
 use std::alloc::Global;
 use std::io;
 use std::rt::Clock;
@@ -33,44 +33,53 @@ const STEPS: [(&str, Step); 6] = [
 ];
 
 /// Times the hashes of as many pages as asked for, in whole eights, or only tries them.
-pub fn time_hashes<R: Clock + Print + Threads + Wait + Sync, H: PageHash>(
+pub fn time_hashes<R: Clock + Print + Threads + Wait + Sync>(
     rt: &R,
     alloc: Global,
     asked: Option<u32>,
-    hash: &H,
+    hash: TimedHash,
 ) -> io::Result<()> {
-    let start = Instant::now(rt)?;
     let count = asked.unwrap_or(FEW) / 8 * 8;
-    let Some(listed) = list_frame(alloc, hash, count) else {
-        return print_step(rt, start, false, "hash", Err("no memory"));
-    };
-    let turns = if asked.is_some() { TURNS } else { 1 };
+    match list_frame(alloc, hash, count) {
+        Some(listed) => time_turns(rt, alloc, asked.is_some(), hash, &listed),
+        None => print_refusal(rt, "hash", "no memory"),
+    }
+}
+
+fn time_turns<R: Clock + Print + Threads + Wait + Sync>(
+    rt: &R,
+    alloc: Global,
+    is_timed: bool,
+    hash: TimedHash,
+    listed: &Listed,
+) -> io::Result<()> {
+    let turns = if is_timed { TURNS } else { 1 };
     for _turn in 0..turns {
-        time_turn(rt, alloc, asked.is_some(), hash, &listed)?;
+        time_turn(rt, alloc, is_timed, hash, listed)?;
     }
     Ok(())
 }
 
-fn time_turn<R: Clock + Print + Threads + Wait + Sync, H: PageHash>(
+fn time_turn<R: Clock + Print + Threads + Wait + Sync>(
     rt: &R,
     alloc: Global,
     is_timed: bool,
-    hash: &H,
+    hash: TimedHash,
     listed: &Listed,
 ) -> io::Result<()> {
-    for (name, step) in STEPS {
+    for (name, step) in &STEPS {
         let start = Instant::now(rt)?;
-        let calls = do_step(rt, alloc, hash, listed, step);
+        let calls = do_step(rt, alloc, hash, listed, *step);
         print_step(rt, start, is_timed, name, calls)?;
     }
     Ok(())
 }
 
 // Returns how many hashes were made, or 0 if they were wrong.
-fn do_step<R: Threads + Wait + Sync, H: PageHash>(
+fn do_step<R: Threads + Wait + Sync>(
     rt: &R,
     alloc: Global,
-    hash: &H,
+    hash: TimedHash,
     listed: &Listed,
     step: Step,
 ) -> Result<u64, Refusal> {

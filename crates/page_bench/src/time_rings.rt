@@ -22,9 +22,9 @@ pub fn time_rings<R: Clock + Threads + Wait + Print + Sync>(
     asked: Option<u32>,
 ) -> io::Result<()> {
     let rounds = asked.unwrap_or(FEW);
-    for (name, between_two) in STEPS {
+    for (name, between_two) in &STEPS {
         let start = Instant::now(rt)?;
-        let calls = round_trips(rt, alloc, rounds, between_two);
+        let calls = round_trips(rt, alloc, rounds, *between_two);
         print_step(rt, start, asked.is_some(), name, calls)?;
     }
     Ok(())

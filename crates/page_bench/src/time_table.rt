@@ -1,5 +1,5 @@
 //! The calls of `Table`.
-use crate::step::print_step;
+use crate::step::{print_refusal, print_step};
 use crate::table_calls::{
     AddShared, DropHint, FindHint, FindShared, Join, Leave, PutHint, TimedTable, by_jumps,
     in_order, new_table,
@@ -38,14 +38,17 @@ const STEPS: [(&str, Step); 9] = [
 
 /// Times them over as many entries as asked for, or only tries them.
 pub fn time_table<R: Clock + Print>(rt: &R, alloc: Global, asked: Option<u32>) -> io::Result<()> {
-    let start = Instant::now(rt)?;
     let Some(mut timed) = new_table(alloc, asked.unwrap_or(FEW)) else {
-        return print_step(rt, start, false, "table", Err("no memory"));
+        return print_refusal(rt, "table", "no memory");
     };
-    for (name, step) in STEPS {
+    time_steps(rt, asked.is_some(), &mut timed)
+}
+
+fn time_steps<R: Clock + Print>(rt: &R, is_timed: bool, timed: &mut TimedTable) -> io::Result<()> {
+    for (name, step) in &STEPS {
         let start = Instant::now(rt)?;
-        let calls = do_step(&mut timed, step);
-        print_step(rt, start, asked.is_some(), name, Ok(u64::from(calls)))?;
+        let calls = do_step(timed, *step);
+        print_step(rt, start, is_timed, name, Ok(u64::from(calls)))?;
     }
     Ok(())
 }
