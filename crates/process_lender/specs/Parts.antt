@@ -1,5 +1,5 @@
 -- Parts of a window, and pages of it that were pinned.
-use Rattle.std.specs.Prelude.{ℕ, Bool, true, false, if◌then◌else◌, List, Option, Some, None, option_map, slice_get, slice_set}
+use Rattle.std.specs.Prelude.{◌≡◌, ℕ, Bool, true, false, if◌then◌else◌, List, Option, Some, None, option_map, slice_get, slice_set}
 use Rattle.page_looks.specs.Parts.{order_of, part_then}
 use Rattle.page_looks.specs.Rests.{found_then, woken}
 use Rattle.page_looks.specs.declared.parts.part.Part.{Part}
@@ -7,6 +7,8 @@ use Rattle.page_looks.specs.declared.parts.part.PartConfig.{PartConfig}
 use Rattle.page_looks.specs.declared.parts.part.PartLook.{PartLook}
 use Rattle.page_looks.specs.declared.parts.part.PartOrder.{PartOrder}
 use Rattle.window_pages.specs.declared.counts.PartCounts.{PartCounts}
+use Rattle.window_pages.specs.declared.page.WindowPage.{WindowPage}
+use Rattle.window_tables.specs.Mappings.{IsSet, is_part, kept_then, mappings_at}
 use Rattle.window_tables.specs.Pins.{can_pin, can_unpin, pinned, unpinned}
 use Rattle.window_tables.specs.Tables.{part_at}
 use Rattle.process_lender.specs.Windows.{Window}
@@ -52,3 +54,25 @@ pins_then false first count pins = if can_unpin first count pins then unpinned f
 
 abbrev pub with_pins : Bool → ℕ → ℕ → Window → Window
 with_pins is_pinned first count w = record w { pins = pins_then is_pinned first count w.pins }
+
+-- how many mappings there are once those of a part are others
+abbrev pub kept_of : ℕ → ℕ → ℕ → List Part → List Part → List WindowPage → ℕ → ℕ
+kept_of count lead first parts parts_new pages mappings = kept_then mappings (mappings_at lead parts pages first count) (mappings_at lead parts_new pages first count)
+
+-- The part of a page is whole from now on, or split, exactly if its pages are all there and this is the first of them: it has so many. Else nothing
+-- changes. What begins at them is other mappings then.
+pub record SetsPart (first : ℕ) (is_whole is_set : Bool) (lead mappings mappings_new : ℕ) (pages : List WindowPage) (parts parts_new : List Part) : Type 0 where
+  pub count : ℕ
+  pub many : count ≡ 512
+  pub set : is_set ≡ is_part lead first pages parts
+  pub whole : is_set ≡ true → IsSet is_whole lead first parts parts_new
+  pub kept : is_set ≡ true → mappings_new ≡ kept_of count lead first parts parts_new pages mappings
+  pub same : is_set ≡ false → parts_new ≡ parts
+  pub same_mappings : is_set ≡ false → mappings_new ≡ mappings
+
+-- The same of a window. Once it has ended it has no mappings that count.
+pub record SetsWhole (first : ℕ) (is_whole is_set : Bool) (mappings mappings_new : ℕ) (old new : Window) : Type 0 where
+  pub kept : ℕ
+  pub part : SetsPart first is_whole is_set old.lead mappings kept old.pages old.parts new.parts
+  pub counts : mappings_new ≡ (if old.has_ended then mappings else kept)
+  pub rest : new ≡ record old { parts = new.parts }

@@ -3,9 +3,9 @@ ghost use Rattle.std.specs.Prelude.{◌≡◌, None, false, is_some, slice_get};
 ghost use Rattle.std.specs.Option.{option_map_or};
 ghost use Rattle.part_scans.specs.Scans.{AreNumbers};
 ghost use Rattle.process_lender.specs.Lists.{NoAnswer};
-ghost use Rattle.process_lender.specs.Parts.{can_change_pins, counts_of, order_at, part_noted, part_of, with_pins};
+ghost use Rattle.process_lender.specs.Parts.{SetsWhole, can_change_pins, counts_of, order_at, part_noted, part_of, with_pins};
 ghost use Rattle.process_lender.specs.Scans.{BeginsScan, CameOfSteps, FollowsChanges};
-ghost use Rattle.process_lender.specs.Windows.{InPages, SeenIn, window_at, window_changed};
+ghost use Rattle.process_lender.specs.Windows.{InPages, InWindow, SeenIn, window_at, window_changed};
 ghost use Rattle.process_lender.specs.Questions.{FindsStaying, NoneStays};
 ghost use Rattle.window_tables.specs.Runs.{next_run};
 
@@ -203,6 +203,20 @@ impl<A: Allocator> ProcessLender<A> {
         match &mut self.windows[window] {
             None => false,
             Some(tables) => tables.note_part(first, notice),
+        }
+    }
+
+    /// Notes that the part whose first page is this one is whole from now on, or split, and how many mappings there are then. Returns false, and notes
+    /// nothing, if there is no such window, or if this isn't the first page of a part whose pages are all there.
+    pub fn set_whole(&mut self, window: usize, first: usize, is_whole: bool) -> bool
+        ensures { InWindow (SetsWhole first is_whole result) (result ≡ false) window self.old self.new }
+    {
+        if window >= self.windows.len() {
+            return false;
+        }
+        match &mut self.windows[window] {
+            None => false,
+            Some(tables) => tables.set_whole(&mut self.mappings, first, is_whole),
         }
     }
 

@@ -1,6 +1,6 @@
 //! Parts of a window, and pages of it that were pinned.
 ghost use Rattle.std.specs.Prelude.{◌≡◌, is_some, slice_get};
-ghost use Rattle.process_lender.specs.Parts.{can_change_pins, counts_of, noted, order_at, part_noted, part_of, with_pins};
+ghost use Rattle.process_lender.specs.Parts.{SetsPart, SetsWhole, can_change_pins, counts_of, noted, order_at, part_noted, part_of, with_pins};
 ghost use Rattle.window_tables.specs.Tables.{part_at};
 
 use crate::PartNotice;
@@ -8,8 +8,8 @@ use crate::tables::WindowTables;
 use page_looks::parts::{Part, PartConfig, PartLook, PartOrder};
 use std::alloc::Allocator;
 use window_pages::{PartCounts, WindowPage};
-use window_tables::PART;
 use window_tables::pins::{pin, unpin};
+use window_tables::{PART, set_whole};
 
 // Returns a part once this is noted of it.
 fn noted(part: Part, notice: PartNotice) -> Part
@@ -47,6 +47,20 @@ pub(crate) fn part_at(lead: usize, first: usize) -> usize
     first / PART + lead / PART + (first % PART + lead % PART) / PART
 }
 
+// Sets that the part of a page is whole, or split. Returns how many mappings there are then, and whether it did.
+fn set_in<A: Allocator>(
+    pages: &[WindowPage],
+    parts: &mut Vec<Part, A>,
+    lead: usize,
+    first: usize,
+    is_whole: bool,
+    mappings: &mut usize,
+) -> bool
+    ensures { SetsPart first is_whole result lead mappings.old mappings.new pages.now parts.old.items parts.new.items }
+{
+    set_whole(pages, parts, lead, first, is_whole, mappings)
+}
+
 impl<A: Allocator> WindowTables<A> {
     // Returns the part of a page.
     pub(crate) fn part_of(&self, first: usize) -> Option<Part>
@@ -78,6 +92,23 @@ impl<A: Allocator> WindowTables<A> {
             return None;
         }
         Some(self.pages[place])
+    }
+
+    // Notes that the part of a page is whole from now on, or split.
+    pub(crate) fn set_whole(&mut self, mappings: &mut usize, first: usize, is_whole: bool) -> bool
+        ensures { SetsWhole first is_whole result mappings.old mappings.new self.old self.new }
+    {
+        let mut kept = *mappings;
+        let is_set = set_in(
+            &self.pages,
+            &mut self.parts,
+            self.lead,
+            first,
+            is_whole,
+            &mut kept,
+        );
+        self.keep(mappings, kept);
+        is_set
     }
 
     // Returns what is to be done with the part of a page.
