@@ -8,7 +8,8 @@
 First the crates are proved, many side by side, but for what was proved of the same files: by an earlier run on this computer where
 the kit keeps that, and else in this tree, for example by `make test`. A program for x86-64-v2 is then put to FILE as it was built when
 it was proved, and a static library is compiled from what was checked of it in this tree. A static library of which nothing was checked
-here, and what is for another processor LEVEL, such as x86-64-v3, is proved as it is built, over the same libraries. A note, FILE.of,
+here, and what is for another processor LEVEL, such as x86-64-v3, is proved as it is built, over the same libraries. With a kit that
+keeps what it proved that is kept, too, in ~/.cache/pageshare, and taken from there as long as the files are the same. A note, FILE.of,
 says of which files FILE was built, and nothing is done where these are as they were.
 
 --products builds all that is installed and all that `make check` needs, or of these what is for a processor LEVEL, side by side, and ends
@@ -19,6 +20,7 @@ from __future__ import annotations
 
 import argparse
 import concurrent.futures
+import contextlib
 import copy
 import hashlib
 import os
@@ -88,6 +90,47 @@ def is_built(product: Product, sums: Mapping[str, str]) -> bool:
         return False
     product.file.touch()
     return True
+
+
+def is_kept(kit: Any, product: Product, crate: Any) -> bool:
+    """Whether a product is kept once it is built: it isn't given by a proof that the kit keeps."""
+    return proved.keeps(kit) and (crate.is_static or product.cpu != DEFAULT)
+
+
+def kept_at(product: Product, sums: Mapping[str, str]) -> pathlib.Path | None:
+    """Where such a product is kept, in a folder that only this user may write to; None if there can be none."""
+    room = pathlib.Path(os.environ.get("XDG_CACHE_HOME") or pathlib.Path.home() / ".cache") / "pageshare"
+    try:
+        room.mkdir(mode=0o700, parents=True, exist_ok=True)
+        found = room.stat()
+    except OSError:
+        return None
+    by = hashlib.sha256((rests_on(product, sums) + pathlib.Path(__file__).read_text(encoding="utf-8")).encode()).hexdigest()
+    return room / f"{product.crate}-{product.cpu}-{by}" if found.st_uid == os.geteuid() and not found.st_mode & 0o077 else None
+
+
+def take_kept(product: Product, sums: Mapping[str, str]) -> bool:
+    """Takes a product that an earlier build has kept. Returns whether there is one."""
+    kept = kept_at(product, sums)
+    if kept is None or not kept.is_file():
+        return False
+    put(str(kept), product)
+    note_of(product).write_text(rests_on(product, sums), encoding="utf-8")
+    return True
+
+
+def keep(product: Product, sums: Mapping[str, str]) -> None:
+    """Keeps a product that was built, in place of what was kept of other files."""
+    kept = kept_at(product, sums)
+    if kept is None:
+        return
+    part = kept.with_name(f"part-{os.getpid()}-{kept.name}")
+    with contextlib.suppress(OSError):
+        shutil.copyfile(product.file, part)
+        shutil.copymode(product.file, part)
+        for older in kept.parent.glob(f"{product.crate}-{product.cpu}-*"):
+            older.unlink(missing_ok=True)
+        part.rename(kept)
 
 
 def wanted_of(every: Mapping[str, Any], products: Iterable[Product]) -> list[str]:
@@ -172,6 +215,8 @@ def build_over(kit: Any, every: Mapping[str, Any], products: Sequence[Product], 
         if made:
             put(made, product)
             note_of(product).write_text(rests_on(product, sums), encoding="utf-8")
+        if made and is_kept(kit, product, every[product.crate]):
+            keep(product, sums)
         return made is not None
 
     with concurrent.futures.ThreadPoolExecutor(lanes()) as lane:
@@ -182,7 +227,7 @@ def build(kit: Any, products: Sequence[Product]) -> list[Product]:
     """Builds products from what is proved in this tree, or with a kit that keeps what it proved from that. Returns those that are built."""
     every = proved.crates_of(kit)
     sums = proved.sums_of(kit, every.values())
-    there = [it for it in products if is_built(it, sums)]
+    there = [it for it in products if is_built(it, sums) or (is_kept(kit, it, every[it.crate]) and take_kept(it, sums))]
     for it in there:
         print(f"{it.crate} for {it.cpu} is built already of the same files")
     products = [it for it in products if it not in there]
