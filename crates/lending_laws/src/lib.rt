@@ -65,8 +65,9 @@ pub fn lender_law()
 
 /// *An order names only a page that may be lent*: one that is in its window and stays there, and that no call of the monitor, transfer, device,
 /// child of a fork or lock bars, by the facts of the call that gives the order. So it is with each question to a host, each copy, each loan that is
-/// asked for, each hold, and each frame or zeros that are mapped in a page's place. Pages are asked about, held and given back only where there is
-/// room for their mappings, and the pages of a list that others have take no more together than there may be (`room`).
+/// asked for, each hold, and each frame or zeros that are mapped in a page's place by an order that is given then. Pages are asked about and given back
+/// only where there is room for their mappings, and held only in parts that are split. Pages of a list that others have take no mapping beyond those
+/// that there may be (`room`).
 pub fn orders_law()
     ensures asks { EachQuestionMay }
     ensures copies { EachCopyMay }
