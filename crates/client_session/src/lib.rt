@@ -9,8 +9,6 @@ mod link;
 mod lost;
 mod reply;
 mod session;
-#[cfg(test)]
-mod tests;
 
 pub use kept::KeptSession;
 pub use link::{Link, Welcomed};

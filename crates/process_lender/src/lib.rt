@@ -20,8 +20,6 @@ mod question;
 mod rows;
 mod scans;
 mod tables;
-#[cfg(test)]
-mod tests;
 
 pub use choice::Choice;
 pub use facts::{ProcessFacts, WindowState};
