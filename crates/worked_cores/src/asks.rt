@@ -3,10 +3,9 @@
 //! Machines are made, served and dropped in functions without clauses that return plain data. So a test has little to
 //! prove: it makes a list of lines and compares what was seen.
 use crate::checks::{holds, holds_at};
-use machine_frames::Frames;
 use merge_core::Core;
 use page_digest::PageHash;
-use page_model::{MachineShape, Request, Verdict};
+use page_model::{Request, Verdict};
 use std::alloc::{Allocator, Global};
 use std::process::Abort;
 use worked_answers::{Answer, answer_of};
@@ -15,7 +14,6 @@ use worked_answers::{Answer, answer_of};
 #[derive(Clone, Copy)]
 pub enum Ask {
     Store(u32, u8),
-    StoreTwo(u32, [u8; 2]),
     Propose(u32),
     Release(u32),
     Count,
@@ -27,7 +25,6 @@ pub type Line = (u8, Ask, Answer);
 pub fn request_of(rt: &impl Abort, ask: Ask) -> Request {
     match ask {
         Ask::Store(ppn, byte) => Request::store(ppn, 0, &[byte]).ok().expect(rt, "a store"),
-        Ask::StoreTwo(ppn, bytes) => Request::store(ppn, 0, &bytes).ok().expect(rt, "a store"),
         Ask::Propose(ppn) => Request::Propose(ppn),
         Ask::Release(ppn) => Request::Release(ppn),
         Ask::Count => Request::Count,
@@ -72,27 +69,6 @@ pub fn core_of<H: PageHash + Drop, A: Allocator + Clone>(
         .expect(rt, "a core")
 }
 
-/// Makes a core without forecasts, whose salts are all 0.
-pub fn core_without_forecasts<H: PageHash + Drop>(
-    rt: &impl Abort,
-    alloc: Global,
-    frames: u32,
-    pages: &[u32],
-    hash: H,
-) -> Core<H> {
-    let salts = [0; 64];
-    holds(rt, pages.len() <= 64);
-    let shape = MachineShape::new(frames, pages, &salts[..pages.len()])
-        .ok()
-        .expect(rt, "a machine's shape");
-    let frames = Frames::new(alloc, shape.frames())
-        .ok()
-        .expect(rt, "memory for the frames");
-    Core::without_forecasts(alloc, &shape, hash, frames)
-        .ok()
-        .expect(rt, "a core")
-}
-
 /// Three pages of one content share one frame: two of guest 0, and one of guest 1.
 pub const SHARE_THREE: [Line; 6] = [
     (0, Ask::Store(0, b'A'), Answer::Mapped),
@@ -106,13 +82,6 @@ pub const SHARE_THREE: [Line; 6] = [
 pub fn share_three<H: PageHash, A: Allocator>(rt: &impl Abort, core: &mut Core<H, A>) {
     serve(rt, core, &SHARE_THREE);
     holds(rt, numbers(core) == [6, 3, 3, 1, 2, 0]);
-}
-
-/// Lets each guest store the same to its page `ppn`, which is unmapped.
-pub fn store_all<H: PageHash, A: Allocator>(rt: &impl Abort, core: &mut Core<H, A>, ppn: u32) {
-    for guest in 0..core.guests() {
-        serve(rt, core, &[(guest, Ask::Store(ppn, b'A'), Answer::Mapped)]);
-    }
 }
 
 /// Stores the same to each of guest 0's first `count` pages, which are unmapped.

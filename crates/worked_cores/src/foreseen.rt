@@ -1,10 +1,9 @@
 //! Pages that are hashed together with a proposed one, as the requests in sight will leave them.
-use crate::asks::{Ask, Line, core_of, core_without_forecasts, request_of, store_all};
-use crate::checks::{equal, equal_at, holds, holds_at};
+use crate::asks::{Ask, Line, core_of, request_of};
+use crate::checks::{equal, holds, holds_at};
 use crate::hashes::{Calls, Lanes};
 use merge_core::Core;
 use page_digest::PageHash;
-use page_forecasts::{Upcoming, upcoming};
 use page_model::Entry;
 use std::alloc::{Allocator, Global};
 use std::process::Abort;
@@ -60,17 +59,6 @@ fn serve_ahead<H: PageHash, A: Allocator>(
     serve_entries(rt, core, &entries_of(rt, alloc, lines), lines);
 }
 
-/// Serves only the first of these lines, with the others in sight.
-fn serve_first<H: PageHash, A: Allocator>(
-    rt: &impl Abort,
-    alloc: Global,
-    core: &mut Core<H, A>,
-    lines: &[Line],
-) {
-    holds(rt, !lines.is_empty());
-    serve_entries(rt, core, &entries_of(rt, alloc, lines), &lines[..1]);
-}
-
 /// Returns how many pages are hashed alone, by fours and by eights when these lines are served on a new machine of two guests
 /// with eight pages each.
 fn hashed(rt: &impl Abort, alloc: Global, lines: &[Line]) -> (u32, u32, u32) {
@@ -78,25 +66,6 @@ fn hashed(rt: &impl Abort, alloc: Global, lines: &[Line]) -> (u32, u32, u32) {
     let mut core = core_of(rt, alloc, 16, &[8, 8], Lanes(&calls));
     serve_ahead(rt, alloc, &mut core, lines);
     calls.counts()
-}
-
-/// Returns the same numbers for a machine without forecasts.
-fn hashed_without_forecasts(rt: &impl Abort, alloc: Global, lines: &[Line]) -> (u32, u32, u32) {
-    let calls = Calls::new();
-    let mut core = core_without_forecasts(rt, alloc, 16, &[8, 8], Lanes(&calls));
-    serve_ahead(rt, alloc, &mut core, lines);
-    calls.counts()
-}
-
-/// Returns the page that each of these eight lines proposes, after those before it.
-fn upcoming_of(rt: &impl Abort, alloc: Global, lines: &[Line; 8]) -> [Option<Upcoming>; 8] {
-    let entries = entries_of(rt, alloc, lines);
-    holds(rt, entries.len() == 8);
-    let mut pages = [None; 8];
-    for at in 0..8 {
-        pages[at] = upcoming(&entries[..at], &entries[at]);
-    }
-    pages
 }
 
 /// Each page is stored to and then proposed, with two guests in turn.
@@ -121,16 +90,6 @@ fn stored_and_proposed(rt: HostRuntime) {
         &rt,
         hashed(&rt, rt.alloc(), &STORED_AND_PROPOSED),
         (1, 4, 0),
-    );
-}
-
-/// A machine without forecasts hashes each page alone, when it is proposed. Its answers are the same.
-#[test]
-fn without_forecasts(rt: HostRuntime) {
-    equal(
-        &rt,
-        hashed_without_forecasts(&rt, rt.alloc(), &STORED_AND_PROPOSED),
-        (5, 0, 0),
     );
 }
 
@@ -160,49 +119,6 @@ fn proposed(ppn: u32) -> Line {
     (0, Ask::Propose(ppn), Answer::Hinted)
 }
 
-/// Returns lines by which each of these pages is proposed just after it was stored to.
-fn lines_in_turn(rt: &impl Abort, alloc: Global, pages: u32) -> Vec<Line> {
-    let mut lines = Vec::new(alloc);
-    for ppn in 0..pages {
-        lines.push(stored(ppn)).expect(rt, "memory for a line");
-        lines.push(proposed(ppn)).expect(rt, "memory for a line");
-    }
-    lines
-}
-
-/// Returns lines by which all of these pages are stored to, and then all proposed.
-fn lines_at_rest(rt: &impl Abort, alloc: Global, pages: u32) -> Vec<Line> {
-    let mut lines = Vec::new(alloc);
-    for is_proposed in [false, true] {
-        for ppn in 0..pages {
-            let line = if is_proposed {
-                proposed(ppn)
-            } else {
-                stored(ppn)
-            };
-            lines.push(line).expect(rt, "memory for a line");
-        }
-    }
-    lines
-}
-
-/// Pages that are each stored to and then proposed are hashed by eights from six on: five others are then in sight of the
-/// first. Pages at rest are hashed by eights if there are eight, and otherwise by fours.
-#[test]
-fn by_eights(rt: HostRuntime) {
-    for (pages, in_turn, at_rest) in [
-        (5, (1, 4, 0), (1, 4, 0)),
-        (6, (0, 0, 8), (0, 8, 0)),
-        (7, (0, 0, 8), (0, 8, 0)),
-        (8, (0, 0, 8), (0, 0, 8)),
-    ] {
-        let lines = lines_in_turn(&rt, rt.alloc(), pages);
-        equal_at(&rt, pages, hashed(&rt, rt.alloc(), &lines), in_turn);
-        let lines = lines_at_rest(&rt, rt.alloc(), pages);
-        equal_at(&rt, pages, hashed(&rt, rt.alloc(), &lines), at_rest);
-    }
-}
-
 /// Adds the lines by which a page is stored to fifteen times and then proposed.
 fn push_sixteen(rt: &impl Abort, lines: &mut Vec<Line>, ppn: u32) {
     for nth in 0..16 {
@@ -223,97 +139,4 @@ fn one_in_sixteen(rt: HostRuntime) {
         push_sixteen(&rt, &mut lines, ppn);
     }
     equal(&rt, hashed(&rt, rt.alloc(), &lines), (0, 0, 8));
-}
-
-/// A page that is released and stored to anew is foreseen as it will be then. A page needs no hash if it will be
-/// unmapped, if there is no such page, or if it is shared and not stored to.
-#[test]
-fn released(rt: HostRuntime) {
-    let lines = [
-        (0, Ask::StoreTwo(1, [b'A', b'B']), Answer::Mapped),
-        (0, Ask::Store(0, b'A'), Answer::Mapped),
-        (0, Ask::Propose(0), Answer::Hinted),
-        (0, Ask::Release(1), Answer::Released(true)),
-        (0, Ask::Propose(1), Answer::Unmapped),
-        (0, Ask::Store(2, b'C'), Answer::Mapped),
-        (0, Ask::Release(2), Answer::Released(true)),
-        (0, Ask::Store(2, b'A'), Answer::Mapped),
-        (0, Ask::Propose(2), Answer::Paired),
-        (0, Ask::Propose(2), Answer::Already),
-        (0, Ask::Propose(9), Answer::NoPage),
-    ];
-    equal(&rt, hashed(&rt, rt.alloc(), &lines), (0, 4, 0));
-}
-
-/// Serves such lines on a new machine. Returns what was counted after each part.
-fn counts_otherwise(
-    rt: &impl Abort,
-    alloc: Global,
-    core: &mut Core<Lanes<'_>>,
-    calls: &Calls,
-    sight: &[Line],
-    came: &[Line],
-) -> [(u32, u32, u32); 2] {
-    store_all(rt, core, 0);
-    serve_first(rt, alloc, core, sight);
-    let first = calls.counts();
-    serve_ahead(rt, alloc, core, came);
-    [first, calls.counts()]
-}
-
-/// Returns the same numbers for a machine of one guest with four pages, twice: after the first line of those in
-/// `sight`, and after other lines `came` than the rest of them.
-fn hashed_otherwise(
-    rt: &impl Abort,
-    alloc: Global,
-    sight: &[Line],
-    came: &[Line],
-) -> [(u32, u32, u32); 2] {
-    let calls = Calls::new();
-    let mut core = core_of(rt, alloc, 4, &[4], Lanes(&calls));
-    counts_otherwise(rt, alloc, &mut core, &calls, sight, came)
-}
-
-/// The requests that come differ from those in sight: the page is hashed anew, and the verdicts are those of what came.
-#[test]
-fn other_requests_come(rt: HostRuntime) {
-    let sight = [
-        (0, Ask::Propose(0), Answer::Hinted),
-        (0, Ask::Store(1, b'B'), Answer::Mapped),
-        (0, Ask::Propose(1), Answer::Hinted),
-    ];
-    let came = [
-        (0, Ask::Store(1, b'A'), Answer::Mapped),
-        (0, Ask::Propose(1), Answer::Paired),
-        (0, Ask::Store(2, b'B'), Answer::Mapped),
-        (0, Ask::Propose(2), Answer::Hinted),
-    ];
-    let counts = hashed_otherwise(&rt, rt.alloc(), &sight, &came);
-    equal(&rt, counts, [(0, 4, 0), (0, 8, 0)]);
-}
-
-/// A page changes before its proposal only by its own guest's stores and releases, and only by earlier ones.
-#[test]
-fn upcoming_pages(rt: HostRuntime) {
-    let lines = [
-        (0, Ask::Propose(0), Answer::Unmapped),
-        (0, Ask::Store(0, b'A'), Answer::Mapped),
-        (0, Ask::Propose(0), Answer::Hinted),
-        (1, Ask::Propose(0), Answer::Unmapped),
-        (0, Ask::Propose(1), Answer::Unmapped),
-        (0, Ask::Release(1), Answer::Unmapped),
-        (0, Ask::Propose(1), Answer::Unmapped),
-        (0, Ask::Count, Answer::Closed),
-    ];
-    let expected = [
-        Some(Upcoming::AtRest(0)),
-        None,
-        Some(Upcoming::Changing(0)),
-        Some(Upcoming::AtRest(0)),
-        Some(Upcoming::AtRest(1)),
-        None,
-        Some(Upcoming::Changing(1)),
-        None,
-    ];
-    holds(&rt, upcoming_of(&rt, rt.alloc(), &lines) == expected);
 }

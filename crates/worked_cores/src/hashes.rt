@@ -72,67 +72,6 @@ fn known_hashes(rt: HostRuntime) {
     equal(&rt, counts, [3, 3, 5]);
 }
 
-const FIVE_STORES: [Line; 5] = [
-    (0, Ask::Store(0, b'A'), Answer::Mapped),
-    (0, Ask::Store(1, b'B'), Answer::Mapped),
-    (0, Ask::Store(2, b'C'), Answer::Mapped),
-    (0, Ask::Store(3, b'D'), Answer::Mapped),
-    (0, Ask::Store(4, b'E'), Answer::Mapped),
-];
-
-const THREE_PROPOSALS: [Line; 3] = [
-    (0, Ask::Propose(0), Answer::Hinted),
-    (0, Ask::Propose(1), Answer::Hinted),
-    (0, Ask::Propose(4), Answer::Hinted),
-];
-
-const CHANGED: [Line; 2] = [
-    (0, Ask::Store(0, b'F'), Answer::Stored),
-    (0, Ask::Propose(0), Answer::Hinted),
-];
-
-/// Does what `calls_noted` says, on a new machine.
-fn note_and_serve(
-    rt: &impl Abort,
-    core: &mut Core<Counted<'_>>,
-    calls: &AtomicU32,
-    pages: &[(u8, u32)],
-) -> [u32; 3] {
-    serve(rt, core, &FIVE_STORES);
-    core.note_hashes(pages);
-    let noted = calls.load(Ordering::SeqCst);
-    core.note_hashes(pages);
-    serve(rt, core, &THREE_PROPOSALS);
-    let proposed = calls.load(Ordering::SeqCst);
-    serve(rt, core, &CHANGED);
-    [noted, proposed, calls.load(Ordering::SeqCst)]
-}
-
-/// Returns how often pages were hashed, at three times. First these pages' hashes were noted, after stores to five pages of six.
-/// Then they were noted again and three of them proposed. Then another was stored to and proposed.
-fn calls_noted(rt: &impl Abort, alloc: Global, pages: &[(u8, u32)]) -> [u32; 3] {
-    let calls = AtomicU32::new(0);
-    let mut core = core_of(rt, alloc, 5, &[6], Counted(&calls));
-    note_and_serve(rt, &mut core, &calls, pages)
-}
-
-/// Pages whose hashes are noted ahead are hashed then, and not at their proposals; a store makes a hash unknown again.
-/// Pages that are unmapped or don't exist are skipped.
-#[test]
-fn noted_ahead(rt: HostRuntime) {
-    let pages = [
-        (0, 0),
-        (0, 1),
-        (0, 5),
-        (0, 2),
-        (0, 99),
-        (7, 0),
-        (0, 3),
-        (0, 4),
-    ];
-    equal(&rt, calls_noted(&rt, rt.alloc(), &pages), [5, 5, 6]);
-}
-
 /// How many pages were hashed alone, how many as one of four at once, and how many as one of eight.
 #[derive(Drop)]
 pub struct Calls {

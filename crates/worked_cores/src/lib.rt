@@ -1,5 +1,5 @@
-//! Worked requests, stores of pages and machines on one thread, by the public calls of `page_model` up to `merge_core`. Besides the
-//! tests it has one case of a law that no call shows, `copies`.
+//! Worked hashes of pages and machines on one thread, by the public calls of `page_model` up to `merge_core`. Besides the tests it has
+//! one case of a law that no call shows, `copies`.
 #![tactic(auto)]
 
 #[cfg(test)]
@@ -12,13 +12,7 @@ pub mod copies;
 #[cfg(test)]
 mod foreseen;
 #[cfg(test)]
-mod frames;
-#[cfg(test)]
 mod hashes;
-#[cfg(test)]
-mod known;
-#[cfg(test)]
-mod lending;
 #[cfg(test)]
 mod limits;
 #[cfg(test)]
@@ -29,5 +23,3 @@ mod refused;
 mod room;
 #[cfg(test)]
 mod stores;
-#[cfg(test)]
-mod tables;

@@ -1,9 +1,9 @@
-//! The largest machines.
-use crate::asks::{Ask, Line, core_of, frame, numbers, serve, store_all};
+//! The largest machine.
+use crate::asks::{Ask, Line, frame, numbers, serve};
 use crate::checks::equal;
 use merge_core::Core;
 use page_digest::FirstByteHash;
-use page_model::{MAX_FRAMES, MAX_GUESTS, MAX_PAGES, MachineShape};
+use page_model::{MAX_FRAMES, MAX_PAGES, MachineShape};
 use std::alloc::Global;
 use std::process::Abort;
 use worked_answers::Answer;
@@ -49,32 +49,4 @@ fn most_frames_and_pages(rt: HostRuntime) {
     ];
     let served = greatest_served(&rt, rt.alloc(), &lines, last);
     equal(&rt, served, ([3, 1, 0, 1, 0, 1], true, MAX_FRAMES));
-}
-
-/// Lets each of 64 guests propose its page 7.
-fn propose_in_turn(rt: &impl Abort, core: &mut Core<FirstByteHash>) {
-    for guest in 0..64 {
-        let wanted = match guest {
-            0 => Answer::Hinted,
-            1 => Answer::Paired,
-            n => Answer::Joined(u32::from(n) + 1),
-        };
-        serve(rt, core, &[(guest, Ask::Propose(7), wanted)]);
-    }
-}
-
-/// 64 guests, each with 1/64 of the most pages: each stores the same to a page, then each proposes it. Returns the
-/// report.
-fn all_propose(rt: &impl Abort, alloc: Global) -> [u32; 6] {
-    let pages = [MAX_PAGES / 64; MAX_GUESTS];
-    let mut core = core_of(rt, alloc, 64, &pages, FirstByteHash);
-    store_all(rt, &mut core, 7);
-    propose_in_turn(rt, &mut core);
-    numbers(&core)
-}
-
-/// The most guests share one frame.
-#[test]
-fn most_guests(rt: HostRuntime) {
-    equal(&rt, all_propose(&rt, rt.alloc()), [128, 64, 64, 1, 63, 0]);
 }

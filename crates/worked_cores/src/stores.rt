@@ -1,5 +1,2 @@
-//! Frames, chains, tables, lists, and hashes of pages.
-mod frames;
+//! Hashes of pages.
 mod hashes;
-mod lists;
-mod tables;

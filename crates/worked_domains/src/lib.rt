@@ -1,9 +1,7 @@
-//! Worked slots, domains, fingerprints and sessions, by the public calls of `lent_slots`, `share_domain`, `recent_fingerprints`,
-//! `frame_fingerprints`, `fingerprint_domain`, `host_messages` and `host_sessions`. This crate has only tests.
+//! Worked slots, domains, fingerprints and messages, by the public calls of `lent_slots`, `share_domain`, `recent_fingerprints`,
+//! `frame_fingerprints` and `host_messages`. This crate has only tests.
 #![tactic(auto)]
 
-#[cfg(test)]
-mod beside;
 #[cfg(test)]
 mod checks;
 #[cfg(test)]
@@ -18,8 +16,6 @@ mod given;
 mod limits;
 #[cfg(test)]
 mod salts;
-#[cfg(test)]
-mod sentences;
 #[cfg(test)]
 mod sessions;
 #[cfg(test)]

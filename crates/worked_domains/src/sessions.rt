@@ -1,4 +1,2 @@
-//! The messages and sessions of a host.
-mod frames;
-mod limits;
+//! The messages of a host.
 mod spelled;

@@ -29,48 +29,6 @@ fn ask_all<A: Allocator>(rt: &impl Abort, recent: &mut RecentFingerprints<A>) {
     }
 }
 
-#[test]
-fn three_places(rt: HostRuntime) {
-    let mut recent = RecentFingerprints::new(rt.alloc(), 3, 4, 0x9e37_79b9_7f4a_7c15).expect(
-        &rt, "memory",
-    );
-    ask_all(&rt, &mut recent);
-}
-
-/// Asks about a page, and looks that a question about the other would find it.
-fn note_one<A: Allocator>(
-    rt: &impl Abort,
-    recent: &mut RecentFingerprints<A>,
-    page: PageName,
-    other: PageName,
-) {
-    holds(rt, !recent.was_noted(other, 5));
-    holds(rt, !recent.ask(page, 5));
-    holds(rt, recent.was_noted(other, 5));
-    holds(rt, !recent.was_noted(page, 5));
-}
-
-// A client's questions don't count once it has ended, also where another client has its number.
-#[test]
-fn ended(rt: HostRuntime) {
-    let mut recent = RecentFingerprints::new(rt.alloc(), 4, 2, 0).expect(&rt, "memory");
-    let page = PageName {
-        client: 1,
-        number: 0,
-    };
-    let other = PageName {
-        client: 0,
-        number: 0,
-    };
-    note_one(&rt, &mut recent, page, other);
-    recent.forget(1);
-    holds(&rt, !recent.ask(other, 5));
-    holds(&rt, recent.ask(page, 5));
-    recent.forget(0);
-    recent.forget(7);
-    holds(&rt, !recent.ask(page, 5));
-}
-
 // As many places and clients as there may be.
 #[test]
 fn as_many_places_as_there_may_be(rt: HostRuntime) {

@@ -34,14 +34,6 @@ fn keep_all<A: Allocator>(rt: &impl Abort, fingerprints: &mut FrameFingerprints<
     }
 }
 
-#[test]
-fn three_frames(rt: HostRuntime) {
-    let mut fingerprints = FrameFingerprints::new(rt.alloc(), 3, 0x9e37_79b9_7f4a_7c15).expect(
-        &rt, "memory",
-    );
-    keep_all(&rt, &mut fingerprints);
-}
-
 // As many frames as two machines may have.
 #[test]
 fn two_million_frames(rt: HostRuntime) {
@@ -72,19 +64,4 @@ fn refused_in_turn(rt: HostRuntime) {
         holds(&rt, is_whole == (n == 2));
         holds_at(&rt, n, heap.holds_nothing());
     }
-}
-
-/// A frame is found by its fingerprint as long as it has it.
-#[test]
-fn a_frame_is_found(rt: HostRuntime) {
-    let mut fingerprints = FrameFingerprints::new(rt.alloc(), 3, 7).expect(&rt, "memory");
-    fingerprints.put(1, 5);
-    fingerprints.put(2, 6);
-    holds(&rt, fingerprints.find(5, 1, &[]) == Some(1));
-    holds(&rt, fingerprints.find(6, 1, &[]) == Some(2));
-    holds(&rt, fingerprints.find(6, 2, &[true]) == Some(2));
-    holds(&rt, fingerprints.find(6, 2, &[false, true]).is_none());
-    holds(&rt, fingerprints.find(7, 1, &[]).is_none());
-    fingerprints.remove(1);
-    holds(&rt, fingerprints.find(5, 1, &[]).is_none());
 }

@@ -1,7 +1,7 @@
 //! The bytes of each message, as a Python script spells them by the table of `docs/FORMATS.md`.
 use crate::checks::holds;
 use arrayvec::ArrayVec;
-use host_messages::{ClientMessage, HostMessage, Lent, MessageFault, Question, Wanted, Welcome};
+use host_messages::{ClientMessage, HostMessage, Lent, Question, Wanted, Welcome};
 use std::process::Abort;
 
 const NAME: [u8; 16] = [1, 2, 3, 4, 5, 6, 7, 8, 9, 10, 11, 12, 13, 14, 15, 16];
@@ -45,11 +45,6 @@ fn is_client(message: &ClientMessage, bytes: &[u8]) -> bool {
 /// The same of a host's.
 fn is_host(message: &HostMessage, bytes: &[u8]) -> bool {
     message.to_bytes().as_slice() == bytes && HostMessage::from_bytes(bytes).as_ref() == Ok(message)
-}
-
-/// Returns the fault of a client's packet.
-fn fault_of(bytes: &[u8]) -> Option<MessageFault> {
-    ClientMessage::from_bytes(bytes).err()
 }
 
 #[test]
@@ -109,50 +104,4 @@ fn messages_of_a_host(rt: HostRuntime) {
     holds(&rt, is_host(&HostMessage::Welcome(welcome), &WELCOME));
     holds(&rt, is_host(&HostMessage::Seen(seen), &SEEN));
     holds(&rt, is_host(&HostMessage::Loans(loans), &LOANS));
-}
-
-#[test]
-fn faults(rt: HostRuntime) {
-    holds(&rt, fault_of(&HELLO[..7]) == Some(MessageFault::Head));
-    holds(&rt, fault_of(&[]) == Some(MessageFault::Head));
-    holds(&rt, fault_of(&WELCOME) == Some(MessageFault::Kind));
-    holds(
-        &rt,
-        fault_of(&[1, 0, 0, 0, 1, 0, 0, 0]) == Some(MessageFault::Version),
-    );
-    holds(
-        &rt,
-        fault_of(&[1, 0, 0, 0, 3, 0, 0, 0, 0]) == Some(MessageFault::Version),
-    );
-    holds(
-        &rt,
-        fault_of(&[1, 0, 0, 1, 2, 0, 0, 0]) == Some(MessageFault::Kind),
-    );
-    holds(
-        &rt,
-        fault_of(&[3, 0, 0, 0, 129, 0, 0, 0]) == Some(MessageFault::Count),
-    );
-    holds(
-        &rt,
-        fault_of(&[3, 0, 0, 0, 255, 255, 255, 255]) == Some(MessageFault::Count),
-    );
-    holds(
-        &rt,
-        fault_of(&HELLO_NAMED[..24]) == Some(MessageFault::Length),
-    );
-    holds(&rt, fault_of(&ASK[..39]) == Some(MessageFault::Length));
-    holds(
-        &rt,
-        fault_of(&[3, 0, 0, 0, 1, 0, 0, 0, 0]) == Some(MessageFault::Length),
-    );
-    let mut answers = SEEN;
-    answers[9] = 2;
-    holds(
-        &rt,
-        HostMessage::from_bytes(&answers).err() == Some(MessageFault::Answer),
-    );
-    holds(
-        &rt,
-        HostMessage::from_bytes(&HELLO).err() == Some(MessageFault::Kind),
-    );
 }

@@ -1,6 +1,6 @@
 //! Eight pages hashed at once.
-use crate::checks::{equal, holds};
-use page_digest::{PageHash, Sha256Hash, WideSha256Hash};
+use crate::checks::holds;
+use page_digest::{PageHash, WideSha256Hash};
 use page_model::Page;
 
 // Makes a page that begins with this byte, and then has zeros.
@@ -35,21 +35,4 @@ fn by_eight_lanes(rt: HostRuntime) {
         &rt,
         hashes_of(&WideSha256Hash, [0, 1, 0, 0xffff_ffff, 2, 0, 3, 1]) == KNOWN,
     );
-}
-
-#[test]
-fn by_two_fours(rt: HostRuntime) {
-    holds(
-        &rt,
-        hashes_of(&Sha256Hash, [0, 1, 0, 0xffff_ffff, 2, 0, 3, 1]) == KNOWN,
-    );
-}
-
-#[test]
-fn wide_hash_of_one_and_of_four(rt: HostRuntime) {
-    let page = page_of(0x41);
-    equal(&rt, WideSha256Hash.hash(0, &page), KNOWN[0]);
-    let other = page_of(0x42);
-    let hashes = WideSha256Hash.hash_four([0, 1, 1, 0], &page, &other, &other, &page);
-    holds(&rt, hashes == [KNOWN[0], KNOWN[1], KNOWN[1], KNOWN[0]]);
 }

@@ -3,8 +3,7 @@ ghost use Rattle.std.specs.Prelude.{IfOk};
 ghost use Rattle.machine_frames.specs.FrameMap.{IsTaken};
 ghost use Rattle.page_digest.specs.Many.{AreTaken};
 
-use crate::stores::frames::new_frames;
-use machine_frames::Frames;
+use machine_frames::{Frames, FramesFault};
 use std::alloc::{AllocError, Allocator};
 use std::process::Abort;
 
@@ -16,6 +15,11 @@ pub(crate) struct Two<A: Allocator> {
     pub(crate) letter: u32,
     ghost blank_taken: { IsTaken frames blank },
     ghost letter_taken: { IsTaken frames letter },
+}
+
+/// Makes frames, of which no more is known.
+fn new_frames<A: Allocator + Clone>(alloc: A, count: u32) -> Result<Frames<A>, FramesFault> {
+    Frames::new(alloc, count)
 }
 
 pub(crate) fn two_frames<A: Allocator + Clone>(rt: &impl Abort, alloc: A) -> Two<A> {
