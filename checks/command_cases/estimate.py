@@ -18,6 +18,7 @@ WRONG_WORDS: list[list[str]] = [
     [], ["--salts", "1", "a.raw", "a.raw"], ["--salts", "1,x", "a.raw", "a.raw"], ["--salts", "4294967296", "a.raw"],
     ["--workers", "0", "a.raw"], ["--workers", "65", "a.raw"], ["--progress", "often", "a.raw"], ["--svg"], ["--table", "a.raw"],
     ["--unit", "kib", "a.raw"], ["--pid", "0"], ["--pid"],
+    ["--pid", "web"], ["--salts", "1", "--pid", "7", "a.raw"],
 ]
 
 
