@@ -53,6 +53,7 @@ def of_estimates(subject: Subject, folder: pathlib.Path) -> None:
     estimate.broken_images(subject, folder)
     estimate.pictures(subject, folder)
     estimate.amounts(subject, folder)
+    estimate.names(subject, folder)
     estimate.large(subject, folder)
     estimate.bad_paths(subject, folder)
     estimate.too_much(subject, folder)

@@ -18,6 +18,7 @@ WRONG_WORDS: list[list[str]] = [
     [], ["--salts", "1", "a.raw", "a.raw"], ["--salts", "1,x", "a.raw", "a.raw"], ["--salts", "4294967296", "a.raw"],
     ["--workers", "0", "a.raw"], ["--workers", "65", "a.raw"], ["--progress", "often", "a.raw"], ["--svg"], ["--table", "a.raw"],
     ["--unit", "kib", "a.raw"], ["--pid", "0"], ["--pid"],
+    ["--pid", "web"], ["--salts", "1", "--pid", "7", "a.raw"],
 ]
 
 
@@ -125,6 +126,21 @@ def amounts(subject: Subject, folder: pathlib.Path) -> None:
     done = subject.run(["estimate", "--unit", "pages", "--salts", str(2**32 - 1), sparse(folder / "a-page.raw", PAGE)])
     line = line.replace("a.raw", str(folder / "a-page.raw"))
     subject.tally.holds("estimate, the greatest salt", line in done.stdout.decode(), done.stdout, line)
+
+
+def names(subject: Subject, folder: pathlib.Path) -> None:
+    """How a picture shows names: escaped as XML wants, and of a name of more than 22 columns the end."""
+    plain, wide = "1234567890123456789012", "\u65e5\u672c\u8a9e-a-b-c-d-e-f-g-h.raw"
+    quoted = "&lt;a &amp; &apos;b&apos; &quot;c&quot;&gt;"
+    for name, xml, short in [
+        ("<a & 'b' \"c\">", quoted, quoted), (plain, plain, plain), (f"0{plain}", f"0{plain}", f"\u2026{plain[1:]}"),
+        (wide, wide, f"\u2026{wide[3:]}"),
+    ]:
+        sparse(folder / name, PAGE)
+        subject.writes(f"the picture of {name}", ["estimate", "--svg", "names.svg", name], ANY, cwd=folder)
+        text = (folder / "names.svg").read_text()
+        is_right = f"<title>{xml}</title>" in text and f">{short}  0</text>" in text
+        subject.tally.holds(f"the names in the picture of {name}", is_right, text, f"{xml} and {short}")
 
 
 def large(subject: Subject, folder: pathlib.Path) -> None:

@@ -9,7 +9,10 @@ def command_lines(subject: Subject) -> None:
     """Words that the program doesn't take: nothing on standard output. Help goes there."""
     journal = read("close-alone.journal")
     nothing: list[str] = []
-    for words in [nothing, ["journal"], ["replay", "a", "b"], ["replay", "--journal"], ["serial", "--journal"], ["run", "--salts"]]:
+    for words in [
+        nothing, ["journal"], ["replay", "a", "b"], ["replay", "--journal"], ["serial", "--journal"], ["serial", "--progress", "auto"],
+        ["run", "--salts"], ["run", "a", "b"], ["run", "--progress", "often"],
+    ]:
         subject.expect(f"the words {words}", words, 2, "", ANY, journal)
     for words in [["--help"], ["replay", "--help"], ["serial", "--help"], ["run", "--help"]]:
         subject.writes(f"the words {words}", words, ANY)

@@ -1,6 +1,6 @@
 //! Censuses of pages, under a good hash and under hashes that distinguish few pages or none.
 mod known;
-mod pages;
+pub mod pages;
 mod reads;
 mod room;
 mod together;

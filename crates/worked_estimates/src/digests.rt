@@ -1,5 +1,4 @@
-//! Worked digests: pages that can't be read, texts whose reads and writes fail, refused memory, and lists of mappings.
+//! Worked digests: refused memory, and reads of a process of which some fail.
 mod fleets;
 mod lists;
 mod live;
-mod texts;

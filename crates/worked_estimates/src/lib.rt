@@ -1,5 +1,5 @@
-//! Worked estimates, digests and command lines: pages counted under several hashes, reads that fail, refused memory. This crate has
-//! only tests.
+//! Worked estimates and digests: how often pages are read, reads that fail, workers that read together, refused memory. This crate
+//! has only tests.
 #![tactic(auto)]
 
 #[cfg(test)]
@@ -10,7 +10,3 @@ mod checks;
 mod digests;
 #[cfg(test)]
 mod images;
-#[cfg(test)]
-mod texts;
-#[cfg(test)]
-mod words;

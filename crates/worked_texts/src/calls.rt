@@ -2,28 +2,22 @@
 use std::alloc::Global;
 use std::io::{self, ErrorKind, Read, Write};
 
-/// Fails at only one of its calls, counted from 0, and counts its calls and the bytes that each was given.
+/// Fails at only one of its calls, counted from 0, and counts its calls.
 #[derive(Clone, Copy)]
 pub struct Calls {
     pub fails_at: usize,
     pub made: usize,
-    pub given: usize,
 }
 
 impl Calls {
     pub fn failing_at(fails_at: usize) -> Calls {
-        Calls {
-            fails_at,
-            made: 0,
-            given: 0,
-        }
+        Calls { fails_at, made: 0 }
     }
 
-    /// Counts one more call, with a buffer of `given` bytes, and returns whether it is the one that fails.
-    fn fails_next(&mut self, given: usize) -> bool {
+    /// Counts one more call, and returns whether it is the one that fails.
+    fn fails_next(&mut self) -> bool {
         let fails = self.made == self.fails_at;
         self.made = self.made.saturating_add(1);
-        self.given = given;
         fails
     }
 }
@@ -38,7 +32,7 @@ pub struct Giver<'a> {
 
 impl Read for Giver<'_> {
     fn read(&mut self, buf: &mut [u8]) -> io::Result<usize> {
-        if self.calls.fails_next(buf.len()) {
+        if self.calls.fails_next() {
             return Err(io::Error::from(ErrorKind::ConnectionReset));
         }
         let len = self.step.min(self.text.len()).min(buf.len());
@@ -58,7 +52,7 @@ pub struct Taker {
 
 impl Write for Taker {
     fn write(&mut self, buf: &[u8]) -> io::Result<usize> {
-        if self.calls.fails_next(buf.len()) {
+        if self.calls.fails_next() {
             return Err(io::Error::from(ErrorKind::ConnectionReset));
         }
         let len = self.step.min(buf.len());

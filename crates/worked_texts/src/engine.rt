@@ -1,5 +1,5 @@
 //! The engines under one name, so that a test can go over all of them.
-use crate::journals::{CLOSE_ALONE, ZEROS};
+use crate::journals::ZEROS;
 use crate::scripts::{SCAN_JOURNAL, scan};
 use merge_run::OpenGate;
 use page_digest::PageHash;
@@ -29,13 +29,8 @@ pub struct Case {
 }
 
 /// Returns each engine in each form, with a text that has one output.
-pub fn cases() -> [Case; 5] {
+pub fn cases() -> [Case; 4] {
     [
-        Case {
-            engine: Engine::Replay,
-            text: CLOSE_ALONE,
-            output: "0 closed\nreport entries 1 mapped 0 shared 0 frames 0 reclaimed 0 hints 0\n",
-        },
         Case {
             engine: Engine::Replay,
             text: ZEROS,
@@ -157,17 +152,4 @@ pub fn served_in<T: Threads + Wait + Sync, A: Allocator + Copy + Send + Sync, H:
     let mut out = Vec::new(alloc);
     let ended = serve(rt, heap, engine, text.as_bytes(), &mut out, hash);
     (ended, out)
-}
-
-/// Whether an engine serves a text and writes this.
-pub fn writes<T: Threads + Wait + Sync, H: PageHash + Drop>(
-    rt: &T,
-    alloc: Global,
-    engine: Engine,
-    text: &str,
-    hash: H,
-    output: &str,
-) -> bool {
-    let (ended, out) = served_in(rt, alloc, alloc, engine, text, hash);
-    ended.is_well() && out.as_slice() == output.as_bytes()
 }

@@ -1,5 +1,5 @@
-//! The calls and the engines of `share_text`: journals and scripts, read, written and served under each hash, and what each
-//! engine makes of ends that fail. This crate has only tests.
+//! The engines of `share_text` with readers and writers that fail, and with memory refused; and each call of the interface as it was
+//! ordered. This crate has only tests.
 #![tactic(auto)]
 
 #[cfg(test)]
@@ -7,17 +7,9 @@ mod calls;
 #[cfg(test)]
 mod checks;
 #[cfg(test)]
-mod ends;
-#[cfg(test)]
 mod engine;
 #[cfg(test)]
-mod hashes;
-#[cfg(test)]
 mod journals;
-#[cfg(test)]
-mod lines;
-#[cfg(test)]
-mod noted;
 #[cfg(test)]
 mod once;
 #[cfg(test)]
@@ -26,8 +18,6 @@ mod reading;
 mod refusals;
 #[cfg(test)]
 mod scripts;
-#[cfg(test)]
-mod sentences;
 #[cfg(test)]
 mod surface;
 #[cfg(test)]

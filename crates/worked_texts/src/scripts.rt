@@ -4,7 +4,6 @@ use crate::journals::Row;
 /// One guest, whose journal has just enough room for its store, two proposals, its release and its close.
 pub fn scan() -> Row {
     Row {
-        name: "scan",
         text: "\
             pageshare script 1\n\
             frames 2\n\
@@ -40,7 +39,6 @@ pub const SCAN_JOURNAL: &str = "\
 /// Guest 0 has one turn less than guest 1, whose lines are around its own.
 pub fn two_guests() -> Row {
     Row {
-        name: "two guests",
         text: "\
             pageshare script 1\n\
             frames 2\n\
@@ -70,92 +68,3 @@ pub const VERDICTS_OF_TWO: &str = "\
     1 hinted\n\
     1 closed\n\
     report entries 5 mapped 2 shared 0 frames 2 reclaimed 0 hints 1\n";
-
-const STALE_HINT: &str = "\
-    pageshare script 1\n\
-    frames 2\n\
-    pages 2\n\
-    ring 1\n\
-    journal 7\n\
-    0 store 0 0 41\n\
-    0 propose 0\n\
-    0 store 0 0 42\n\
-    0 store 1 0 41\n\
-    0 propose 1\n\
-    0 propose 0\n\
-    end 6\n";
-
-/// The same with a hash that is 0 for every page: the hint page is found under its old key, and isn't equal.
-pub fn weak_hash() -> Row {
-    Row {
-        name: "weak hash",
-        text: STALE_HINT,
-        output: "\
-            0 mapped\n\
-            0 hinted\n\
-            0 stored\n\
-            0 mapped\n\
-            0 ineligible\n\
-            0 kept\n\
-            0 closed\n\
-            report entries 7 mapped 2 shared 0 frames 2 reclaimed 0 hints 1\n",
-    }
-}
-
-/// With `FirstByteHash`, two pages of two contents have one hash.
-pub fn false_match() -> Row {
-    Row {
-        name: "false match",
-        text: "\
-            pageshare script 1\n\
-            frames 3\n\
-            pages 1 1 1\n\
-            ring 1\n\
-            journal 9\n\
-            0 store 0 0 4101\n\
-            1 store 0 0 4102\n\
-            2 store 0 0 4101\n\
-            0 propose 0\n\
-            1 propose 0\n\
-            2 propose 0\n\
-            end 6\n",
-        output: "\
-            0 mapped\n\
-            1 mapped\n\
-            2 mapped\n\
-            0 hinted\n\
-            1 ineligible\n\
-            2 paired\n\
-            0 closed\n\
-            1 closed\n\
-            2 closed\n\
-            report entries 9 mapped 3 shared 2 frames 2 reclaimed 1 hints 0\n",
-    }
-}
-
-/// The same for one guest, whose proposals are a scan.
-pub fn false_match_of_one() -> Row {
-    Row {
-        name: "false match of one guest",
-        text: "\
-            pageshare script 1\n\
-            frames 3\n\
-            pages 3\n\
-            ring 2\n\
-            journal 7\n\
-            0 store 0 0 4101\n\
-            0 store 1 0 4102\n\
-            0 store 2 0 4101\n\
-            0 scan sequential 3\n\
-            end 4\n",
-        output: "\
-            0 mapped\n\
-            0 mapped\n\
-            0 mapped\n\
-            0 hinted\n\
-            0 ineligible\n\
-            0 paired\n\
-            0 closed\n\
-            report entries 7 mapped 3 shared 2 frames 2 reclaimed 1 hints 0\n",
-    }
-}

@@ -58,10 +58,10 @@ impl PageHash for ZeroHash {
     }
 }
 
-// How many pages were reported as read.
+/// How many pages were reported as read.
 #[derive(Drop)]
-struct ReadSoFar {
-    pages: AtomicU64,
+pub struct ReadSoFar {
+    pub pages: AtomicU64,
 }
 
 impl Progress for ReadSoFar {
@@ -124,17 +124,4 @@ pub fn census_of<
         );
     }
     found
-}
-
-/// Returns what a census of these guests counts, by this many workers.
-pub fn counted<R: Threads + Abort + Sync, H: PageHash>(
-    rt: &R,
-    alloc: Global,
-    workers: u32,
-    hash: &H,
-    guests: &[Guest<Memory>],
-) -> CensusNumbers<Global> {
-    census_of(rt, alloc, workers, hash, guests)
-        .ok()
-        .expect(rt, "a census")
 }

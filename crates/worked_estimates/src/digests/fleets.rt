@@ -1,4 +1,3 @@
 //! Digests that are merged.
 mod merged;
-mod reads;
 mod refused;

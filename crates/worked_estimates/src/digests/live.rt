@@ -1,3 +1,2 @@
 //! The memory of processes.
-mod maps;
 mod memory;

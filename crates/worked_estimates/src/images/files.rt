@@ -1,8 +1,6 @@
-//! Files in memory, and the pages that images of them have.
+//! Files in memory, and images of them.
 
 use memory_images::{Image, ImageFault, ReadAt};
-use memory_pages::PageSource;
-use page_model::{PAGE_BYTES, Page};
 use std::alloc::{Allocator, Global};
 use std::process::Abort;
 
@@ -39,19 +37,10 @@ impl ReadAt for Memory {
     }
 }
 
-/// Returns the byte at a place of each file, outside its headers.
-fn byte_at(place: usize) -> u8 {
-    (place % 251) as u8
-}
-
-/// Makes a file of `len` bytes, each determined by its place.
+/// Makes a file of `len` zeros.
 fn plain_file(rt: &impl Abort, alloc: Global, len: usize) -> Memory {
-    let mut bytes = Vec::with_capacity(alloc, len).expect(rt, "memory");
-    for place in 0..len {
-        bytes.push(byte_at(place)).expect(rt, "memory");
-    }
     Memory {
-        bytes,
+        bytes: vec![in alloc; 0; len].expect(rt, "memory"),
         readable: usize::MAX,
     }
 }
@@ -125,57 +114,6 @@ fn put_program_header(bytes: &mut [u8], at: usize, header: &ProgramHeader) {
     ] {
         put(bytes, at.wrapping_add(place), len, number);
     }
-}
-
-/// Whether a page is `len` bytes of the file from a place on, and zeros behind them.
-fn is_page(page: &Page, from: usize, len: usize) -> bool {
-    for i in 0..PAGE_BYTES {
-        let found = if i < len {
-            byte_at(from.wrapping_add(i))
-        } else {
-            0
-        };
-        if page[i] != found {
-            return false;
-        }
-    }
-    true
-}
-
-/// Whether pages of an image can be read, from number `first` on. Fills them.
-pub fn can_read<A: Allocator + Sync>(
-    image: &Image<Memory, A>,
-    first: u32,
-    pages: &mut [Page],
-) -> bool {
-    let end = u64::from(first) + pages.len() as u64;
-    end <= u64::from(image.count()) && image.read(first, pages).is_ok()
-}
-
-/// Whether the pages of an image are these parts of its file, a place and a length each, read at once and one by one.
-pub fn has_pages<A: Allocator + Sync>(
-    rt: &impl Abort,
-    alloc: Global,
-    image: &Image<Memory, A>,
-    parts: &[(usize, usize)],
-) -> bool {
-    if image.count() as usize != parts.len() {
-        return false;
-    }
-    let mut pages = vec![in alloc; [7; PAGE_BYTES]; parts.len()].expect(rt, "memory");
-    let mut page = [[7; PAGE_BYTES]; 1];
-    if !can_read(image, 0, &mut pages) {
-        return false;
-    }
-    for (n, (from, len)) in parts.iter().enumerate() {
-        if !can_read(image, n as u32, &mut page) {
-            return false;
-        }
-        if !is_page(&pages[n], *from, *len) || !is_page(&page[0], *from, *len) {
-            return false;
-        }
-    }
-    true
 }
 
 /// Opens an image of a file.

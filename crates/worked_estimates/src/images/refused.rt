@@ -1,10 +1,9 @@
 //! Memory that is refused, and reads that fail.
 
 use crate::checks::{equal, holds, holds_at};
-use crate::images::files::{can_read, core_file, has_pages, is_unreadable, load, open};
+use crate::images::files::{core_file, is_unreadable, load, open};
 use memory_images::ImageFault;
 use memory_pages::PageSource;
-use page_model::PAGE_BYTES;
 use refusing::Refusing;
 use std::alloc::Global;
 use std::process::Abort;
@@ -23,8 +22,7 @@ fn opens(rt: &impl Abort, alloc: Global, heap: &Refusing) -> bool {
     ];
     match open(heap, core_file(rt, alloc, 1000, &headers)) {
         Ok(image) => {
-            let parts = [(400, 20), (450, 20), (500, 20), (550, 20), (600, 20)];
-            holds(rt, has_pages(rt, alloc, &image, &parts));
+            equal(rt, image.count(), 5);
             true
         }
         Err(fault) => {
@@ -58,15 +56,4 @@ fn unreadable_headers(rt: HostRuntime) {
         file.readable = readable;
         holds_at(&rt, readable, is_unreadable(rt.alloc(), file));
     }
-}
-
-#[test]
-fn unreadable_pages(rt: HostRuntime) {
-    let mut file = core_file(&rt, rt.alloc(), 1000, &[load(400, 20), load(500, 20)]);
-    file.readable = 519;
-    let image = open(rt.alloc(), file).expect(&rt, "an image");
-    equal(&rt, image.count(), 2);
-    let mut pages = [[0; PAGE_BYTES]; 2];
-    holds(&rt, !can_read(&image, 0, &mut pages));
-    holds(&rt, can_read(&image, 0, &mut pages[..1]));
 }

@@ -1,27 +1,45 @@
-//! A page that can't be read, and memory that is refused.
+//! Memory that is refused.
+use crate::censuses::pages::{Memory, ReadSoFar, guest_of};
 use crate::checks::{equal, holds, holds_at};
-use crate::digests::lists::pages::{Memory, digests_of, memory_of, sampling_of};
-use memory_pages::ReadFault;
+use guest_digests::{GuestDigests, Sample, Sampling, digest_pages};
+use memory_pages::{PageSource, ReadFault};
 use refusing::Refusing;
-use std::alloc::Global;
+use std::alloc::{Allocator, Global};
 use std::process::Abort;
+use std::sync::atomic::{AtomicU64, Ordering};
 use std::thread::Threads;
 
 // More requests than are made.
 const MOST_REQUESTS: u64 = 100;
 
 // Nine pages: twice four, and one.
-fn nine_pages(rt: &impl Abort, alloc: Global, readable: u32) -> Memory {
+fn nine_pages(rt: &impl Abort, alloc: Global) -> Memory {
     let (one, two, three, five) = (Some(1), Some(2), Some(3), Some(5));
     let lasts = [None, one, two, one, three, None, one, five, None];
-    memory_of(rt, alloc, &lasts, readable)
+    guest_of(rt, alloc, 0, &lasts, 9).source
 }
 
-#[test]
-fn unreadable(rt: HostRuntime) {
-    let memory = nine_pages(&rt, rt.alloc(), 8);
-    let found = digests_of(&rt, rt.alloc(), 2, sampling_of(&rt, 0, 1), &memory);
-    holds(&rt, matches!(found, Err(ReadFault::Read(_))));
+// Returns the sampling of a salt and a sample that there is.
+fn sampling_of(rt: &impl Abort, salt: u32, every: u32) -> Sampling {
+    Sampling::new(salt, Sample::new(every).expect(rt, "a sample"))
+}
+
+// Digests pages by this many workers. As many pages are reported as read as there are.
+fn digests_of<R: Threads + Abort + Sync, S: PageSource, A: Allocator + Clone + Send + Sync>(
+    rt: &R,
+    alloc: A,
+    workers: u32,
+    sampling: Sampling,
+    source: &S,
+) -> Result<GuestDigests<A>, ReadFault<S::Fault>> {
+    holds(rt, workers >= 1);
+    let pages = AtomicU64::new(0);
+    let progress = ReadSoFar { pages };
+    let found = digest_pages(rt, alloc, workers, sampling, source, &progress);
+    if let Ok(found) = &found {
+        equal(rt, progress.pages.load(Ordering::SeqCst), found.pages);
+    }
+    found
 }
 
 // Returns how many lines there are, or none if memory is refused.
@@ -42,7 +60,7 @@ fn count_by<R: Threads + Abort + Sync>(
 // Request number n is refused, with n counting up until none is.
 #[test]
 fn refused_in_turn(rt: HostRuntime) {
-    let memory = nine_pages(&rt, rt.alloc(), 9);
+    let memory = nine_pages(&rt, rt.alloc());
     for n in 0..MOST_REQUESTS {
         let heap = Refusing::new(rt.alloc(), n, 0);
         let count = count_by(&rt, &heap, &memory);

@@ -1,3 +1,0 @@
-//! The texts of digests.
-mod sources;
-mod written;
