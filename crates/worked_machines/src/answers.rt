@@ -1,5 +1,5 @@
-//! What the calls of a course answer, as plain values.
-use merge_run::{JournalFull, SettleFault, Step};
+//! What calls answer, as plain values.
+use merge_run::{JournalFull, Step};
 use page_model::Verdict;
 use share_rings::SendFault;
 use worked_answers::{Answer, answer_of};
@@ -22,12 +22,8 @@ pub enum Reply {
     Nothing,
     /// A verdict.
     Got(Answer),
-    /// Whether a port has its last verdict.
-    Drained(bool),
-    /// How many entries the journal has, the guest of one of them, or how many requests a round served.
+    /// How many requests a round served.
     Number(u32),
-    /// It is too early to settle.
-    TooEarly(SettleFault),
     /// An answer that no test expects.
     Other,
 }

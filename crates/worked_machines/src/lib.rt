@@ -7,19 +7,9 @@ mod answers;
 #[cfg(test)]
 mod checks;
 #[cfg(test)]
-mod course;
-#[cfg(test)]
-mod dropped;
-#[cfg(test)]
 mod limits;
 #[cfg(test)]
 mod makes;
-#[cfg(test)]
-mod memory;
-#[cfg(test)]
-mod one_slot;
-#[cfg(test)]
-mod ports;
 #[cfg(test)]
 mod refused;
 #[cfg(test)]
@@ -28,7 +18,3 @@ mod rings;
 mod rounds;
 #[cfg(test)]
 mod runs;
-#[cfg(test)]
-mod sharing;
-#[cfg(test)]
-mod threads;

@@ -1,9 +1,6 @@
 //! Worked runs: the public call `merge_run::run`, which starts a thread for each guest.
-mod ahead;
 mod answers;
 mod counting;
-mod faults;
-mod long;
 mod makes;
 mod many;
 mod meeting;

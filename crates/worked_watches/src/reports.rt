@@ -4,4 +4,3 @@ mod makes;
 mod places;
 mod published;
 mod refused;
-mod watching;

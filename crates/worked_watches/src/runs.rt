@@ -12,7 +12,7 @@ use std::alloc::{AllocError, Allocator, Global};
 use std::process::Abort;
 use std::sync::Wait;
 use std::thread::Threads;
-use watched_machine::{Config, Finished, JournalFull, OpenGate, RunFault, Viewer, run};
+use watched_machine::{Config, Finished, OpenGate, RunFault, Viewer, run};
 
 const MOST: u64 = 200;
 
@@ -85,29 +85,17 @@ fn fault_of_run<R: Threads + Wait + Abort + Sync, A: Allocator + Copy + Send + S
     }
 }
 
-/// Frames, what a ring holds, and the journal of a run of two guests.
-type Numbers = (u32, u32, u32);
-
-/// Runs the two scripts on a machine of these numbers. Where `starves`, the run gets no memory.
-fn fault_on_heap<R: Threads + Wait + Abort + Sync>(
-    rt: &R,
-    heap: &Refusing,
-    numbers: Numbers,
-    starves: bool,
-) -> Option<RunFault> {
-    let (frames, ring, journal) = numbers;
-    let config = config_of(heap, frames, &[1, 1], ring, journal).expect(rt, "memory");
+/// Runs the two scripts.
+fn fault_on_heap<R: Threads + Wait + Abort + Sync>(rt: &R, heap: &Refusing) -> Option<RunFault> {
+    let config = config_of(heap, 2, &[1, 1], 1, 5).expect(rt, "memory");
     let scripts = two_scripts(heap).expect(rt, "memory");
-    if starves {
-        heap.refuse_all();
-    }
     fault_of_run(rt, heap, &config, scripts)
 }
 
 /// Runs while request number n for memory is refused, and returns whether any was.
 fn is_refused<R: Threads + Wait + Abort + Sync>(rt: &R, alloc: Global, n: u64) -> bool {
     let heap = Refusing::new(alloc, n, 0);
-    if let Some(fault) = fault_on_heap(rt, &heap, (2, 1, 5), false) {
+    if let Some(fault) = fault_on_heap(rt, &heap) {
         holds_at(rt, n, heap.has_refused());
         equal_at(rt, n, fault, RunFault::OutOfMemory);
     }
@@ -125,36 +113,4 @@ fn run_refused_in_turn(rt: HostRuntime) {
         }
     }
     panic!(rt; "each run was refused")
-}
-
-/// Returns the fault of a run without memory.
-fn fault_without_memory<R: Threads + Wait + Abort + Sync>(
-    rt: &R,
-    alloc: Global,
-    numbers: Numbers,
-) -> Option<RunFault> {
-    let heap = Refusing::new(alloc, u64::MAX, 0);
-    let fault = fault_on_heap(rt, &heap, numbers, true);
-    holds(rt, heap.has_refused());
-    holds(rt, heap.holds_nothing());
-    fault
-}
-
-// The two scripts need five entries.
-#[test]
-fn out_of_memory_is_reported_last(rt: HostRuntime) {
-    let cases = [
-        ((0, 1, 5), RunFault::Frames),
-        ((2, 0, 5), RunFault::Ring),
-        ((2, 1, 0), RunFault::Journal),
-        ((2, 1, 4), RunFault::Stopped(JournalFull)),
-        ((2, 1, 5), RunFault::OutOfMemory),
-    ];
-    for (numbers, fault) in cases {
-        equal(
-            &rt,
-            fault_without_memory(&rt, rt.alloc(), numbers),
-            Some(fault),
-        );
-    }
 }

@@ -1,48 +1,32 @@
 //! Guests in turn.
-use crate::answers::Reply::{Blocked, Done, Got, Number, Sent};
-use crate::checks::holds;
-use crate::course::Call::{Entries, Guest, GuestOf, Step};
-use crate::course::{made, play, play_to_end};
-use crate::ports::Ask::{Load, Verdict};
-use worked_answers::Answer::Byte;
+use crate::answers::Reply::{Number, Sent};
+use crate::checks::{equal, holds};
+use crate::makes::{Merging, load, new_machine, round};
+use share_rings::Port;
+use std::alloc::Global;
+use std::process::Abort;
+
+fn send_two(rt: &impl Abort, port: &mut Port) {
+    holds(rt, load(port) == Sent);
+    holds(rt, load(port) == Sent);
+}
+
+/// Returns the guest of an entry of the journal.
+fn guest_of(rt: &impl Abort, merger: &Merging<Global>, entry: usize) -> u8 {
+    let entry = merger.journal().get(entry).expect(rt, "no such entry");
+    entry.guest
+}
 
 #[test]
 fn round_in_turn(rt: HostRuntime) {
-    let course = made(&rt, rt.alloc(), 1, &[1, 1], 2, 4);
-    let rows = [
-        (Guest(0, Load(0)), Sent),
-        (Guest(0, Load(0)), Sent),
-        (Guest(1, Load(0)), Sent),
-        (Guest(1, Load(0)), Sent),
-    ];
-    let mut course = play(&rt, course, &rows);
-    holds(&rt, course.round(&rt, rt.alloc(), 1, 3) == Number(3));
-    let rows = [
-        (Entries, Number(3)),
-        (GuestOf(0), Number(0)),
-        (GuestOf(1), Number(1)),
-        (GuestOf(2), Number(0)),
-    ];
-    play_to_end(&rt, course, &rows);
-}
-
-// Guest 0 doesn't take its verdict, and its ring has one slot, so it waits. Guest 1 is served all the same.
-#[test]
-fn round_past_a_full_ring(rt: HostRuntime) {
-    let course = made(&rt, rt.alloc(), 1, &[1, 1], 1, 8);
-    let rows = [
-        (Guest(0, Load(0)), Sent),
-        (Step(0), Done),
-        (Guest(0, Load(0)), Sent),
-        (Guest(1, Load(0)), Sent),
-    ];
-    let mut course = play(&rt, course, &rows);
-    holds(&rt, course.round(&rt, rt.alloc(), 1, 4) == Number(1));
-    let rows = [
-        (Step(0), Blocked),
-        (Entries, Number(2)),
-        (GuestOf(1), Number(1)),
-        (Guest(1, Verdict), Got(Byte(0))),
-    ];
-    play_to_end(&rt, course, &rows);
+    let (mut merger, mut ports) = new_machine(rt.alloc(), 1, &[1, 1], 2, 4).expect(&rt, "memory");
+    let mut second = ports.pop().expect(&rt, "no second port");
+    let mut first = ports.pop().expect(&rt, "no first port");
+    send_two(&rt, &mut first);
+    send_two(&rt, &mut second);
+    holds(&rt, round(&rt, rt.alloc(), &mut merger, 1, 3) == Number(3));
+    equal(&rt, merger.journal().len(), 3);
+    equal(&rt, guest_of(&rt, &merger, 0), 0);
+    equal(&rt, guest_of(&rt, &merger, 1), 1);
+    equal(&rt, guest_of(&rt, &merger, 2), 0);
 }

@@ -1,64 +1,63 @@
 //! Forty proposals in one round, enough for a second worker.
 use crate::answers::Reply::{Got, Number, Sent};
 use crate::checks::{equal, holds, holds_at};
-use crate::course::Call::Guest;
-use crate::course::{Course, made, play};
-use crate::ports::Ask::{Propose, StorePair, Verdict};
+use crate::makes::{Merging, new_machine, propose, round, store, verdict};
 use refusing::Refusing;
+use share_rings::Port;
 use std::alloc::Global;
 use std::process::Abort;
 use std::sync::Wait;
 use std::thread::Threads;
 use worked_answers::Answer::{Hinted, Mapped};
+use worked_answers::numbers;
 
 const MOST_GROWTHS: u64 = 100;
 
 const PAGES: u8 = 40;
 
 /// Stores other bytes to each page.
-fn store_all(rt: &impl Abort, course: Course) -> Course {
-    let mut course = course;
+fn store_all(rt: &impl Abort, port: &mut Port) {
     for page in 0..PAGES {
-        let store = StorePair(u32::from(page), [0x41, page]);
-        course = play(rt, course, &[(Guest(0, store), Sent)]);
+        holds(rt, store(port, u32::from(page), [0x41, page]) == Sent);
     }
-    course
 }
 
 /// Takes the verdict of each store, and proposes each page.
-fn propose_all(rt: &impl Abort, course: Course) -> Course {
-    let mut course = course;
+fn propose_all(rt: &impl Abort, port: &mut Port) {
     for page in 0..PAGES {
-        let propose = Propose(u32::from(page));
-        let rows = [(Guest(0, Verdict), Got(Mapped)), (Guest(0, propose), Sent)];
-        course = play(rt, course, &rows);
+        holds(rt, verdict(port) == Got(Mapped));
+        holds(rt, propose(port, u32::from(page)) == Sent);
     }
-    course
 }
 
 /// Takes the verdict of each proposal.
-fn take_all(rt: &impl Abort, course: Course) -> Course {
-    let mut course = course;
+fn take_all(rt: &impl Abort, port: &mut Port) {
     for _ in 0..PAGES {
-        course = play(rt, course, &[(Guest(0, Verdict), Got(Hinted))]);
+        holds(rt, verdict(port) == Got(Hinted));
     }
-    course
 }
 
 /// Serves the stores in one round, and the proposals in another, whatever memory there is for lists.
-fn serve_all<R: Threads + Wait + Sync + Abort>(rt: &R, lists: &Refusing, course: Course) {
-    let mut course = store_all(rt, course);
-    holds(rt, course.round(rt, lists, 2, 64) == Number(40));
-    let mut course = propose_all(rt, course);
-    holds(rt, course.round(rt, lists, 2, 64) == Number(40));
-    let course = take_all(rt, course);
-    equal(rt, course.numbers(), [80, 40, 0, 40, 0, 40]);
+fn serve_all<R: Threads + Wait + Sync + Abort>(
+    rt: &R,
+    lists: &Refusing,
+    merger: &mut Merging<Global>,
+    port: &mut Port,
+) {
+    store_all(rt, port);
+    holds(rt, round(rt, lists, merger, 2, 64) == Number(40));
+    propose_all(rt, port);
+    holds(rt, round(rt, lists, merger, 2, 64) == Number(40));
+    take_all(rt, port);
+    equal(rt, numbers(&merger.report()), [80, 40, 0, 40, 0, 40]);
 }
 
 /// Serves all while growth number n of the rounds' lists is refused, and returns whether any was.
 fn is_refused<R: Threads + Wait + Sync + Abort>(rt: &R, alloc: Global, n: u64) -> bool {
     let heap = Refusing::new(alloc, n, 0);
-    serve_all(rt, &heap, made(rt, alloc, 40, &[40], 64, 100));
+    let (mut merger, mut ports) = new_machine(alloc, 40, &[40], 64, 100).expect(rt, "memory");
+    let mut port = ports.pop().expect(rt, "no port");
+    serve_all(rt, &heap, &mut merger, &mut port);
     holds_at(rt, n, heap.holds_nothing());
     heap.has_refused()
 }

@@ -1,8 +1,8 @@
 //! Two guests that wait for each other, so that the run ends only if each has its own thread.
 use crate::checks::{equal, holds};
 use crate::runs::makes::{Ask, Numbers};
-use crate::runs::plain::{fault_of, got, replayed};
-use merge_run::{Gate, JournalFull, RunFault};
+use crate::runs::plain::{got, replayed};
+use merge_run::Gate;
 use std::sync::atomic::{AtomicBool, Ordering};
 use std::thread;
 use worked_answers::Answer;
@@ -52,11 +52,6 @@ impl Meeting {
             && self.second_came.load(Ordering::SeqCst)
             && self.second_was_served.load(Ordering::SeqCst)
     }
-
-    /// Whether a guest came.
-    fn has_begun(&self) -> bool {
-        self.first_came.load(Ordering::SeqCst) || self.second_came.load(Ordering::SeqCst)
-    }
 }
 
 impl Gate for Meeting {
@@ -102,20 +97,4 @@ fn guests_that_wait_for_each_other(rt: HostRuntime) {
     let second_leads = got(&ran, 0, &paired) && got(&ran, 1, &hinted);
     holds(&rt, first_leads || second_leads);
     equal(&rt, ran.report, [6, 2, 2, 1, 1, 0]);
-}
-
-// If the journal lacks room for one request, no guest begins.
-#[test]
-fn no_guest_begins_without_room(rt: HostRuntime) {
-    let numbers = Numbers {
-        frames: 2,
-        pages: &[1, 1],
-        salts: &[0, 0],
-        ring: 1,
-        journal: 5,
-    };
-    let gate = Meeting::new();
-    let fault = fault_of(&rt, rt.alloc(), &numbers, &[&SCRIPT, &SCRIPT], &gate);
-    equal(&rt, fault, Some(RunFault::Stopped(JournalFull)));
-    holds(&rt, !gate.has_begun());
 }

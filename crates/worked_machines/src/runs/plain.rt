@@ -6,10 +6,9 @@ ghost use Rattle.merge_run.specs.Runs.{CanBeRun};
 use crate::runs::answers::lists_of;
 use crate::runs::makes::{Ask, Numbers, Setting, setting_of};
 use crate::runs::replays::check_replay;
-use merge_run::{Config, Finished, Gate, OpenGate, RunFault, run};
+use merge_run::{Config, Finished, Gate, RunFault, run};
 use page_digest::{PageHash, Sha256Hash};
 use page_model::Request;
-use refusing::Refusing;
 use std::alloc::{Allocator, Global};
 use std::process::Abort;
 use std::sync::Wait;
@@ -84,29 +83,6 @@ pub fn ran<
     let Setting { config, scripts } = setting_of(rt, heap, numbers, asks);
     let finished = run_plainly(rt, heap, &config, hash, scripts, gate)?;
     Ok(compared(rt, alloc, &finished))
-}
-
-/// Returns why there is no such run under SHA-256.
-pub fn fault_of<R: Threads + Wait + Sync + Abort, G: Gate + Sync>(
-    rt: &R,
-    alloc: Global,
-    numbers: &Numbers<'_>,
-    asks: &[&[Ask]],
-    gate: &G,
-) -> Option<RunFault> {
-    ran(rt, alloc, alloc, numbers, asks, Sha256Hash, gate).err()
-}
-
-/// Returns the same when all memory is refused once the scripts are made.
-pub fn fault_without_memory<R: Threads + Wait + Sync + Abort>(
-    rt: &R,
-    heap: &Refusing<Global>,
-    numbers: &Numbers<'_>,
-    asks: &[&[Ask]],
-) -> Option<RunFault> {
-    let Setting { config, scripts } = setting_of(rt, heap, numbers, asks);
-    heap.refuse_all();
-    run_plainly(rt, heap, &config, Sha256Hash, scripts, &OpenGate).err()
 }
 
 /// Runs these scripts, and checks that one thread replays the journal to the same verdicts and report.

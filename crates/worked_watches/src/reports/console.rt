@@ -1,15 +1,15 @@
 //! Watches in their own threads.
 ghost use Rattle.std.specs.Prelude.{◌≡◌};
 ghost use Rattle.watched_machine.specs.Reports.{last_of};
-ghost use Rattle.watched_machine.specs.Lists.{published, told_id, watch_id};
+ghost use Rattle.watched_machine.specs.Lists.{published};
 
 use crate::checks::equal;
-use crate::reports::makes::{mixed, one_page};
+use crate::reports::makes::mixed;
 use page_model::Report;
 use std::sync::Wait;
 use std::thread;
 use std::thread::{Threads, join};
-use watched_machine::{Publisher, Told, Watch};
+use watched_machine::{Publisher, Watch};
 
 const TRIES: u32 = 1 << 30;
 
@@ -24,31 +24,6 @@ struct Tally {
     reports: u32,
     falls: u32,
     strangers: u32,
-}
-
-// Sends what was told to another thread, with the watch.
-fn read_elsewhere<R: Threads + Wait + Sync>(rt: &R, told: Told, watch: Watch) -> Option<Report>
-    requires { told_id told ≡ watch_id watch }
-{
-    let mut watch = watch;
-    let (report, _nothing) = join(
-        rt,
-        move || {
-            watch.learn(told);
-            watch.read()
-        },
-        || (),
-    );
-    report
-}
-
-#[test]
-fn what_is_told_goes_to_another_thread(rt: HostRuntime) {
-    let mut publisher = Publisher::new(&rt, rt.alloc()).expect(&rt, "memory");
-    let watch = publisher.watch().expect(&rt, "a watch");
-    let told = publisher.publish(&rt, one_page(5)).expect(&rt, "memory");
-    equal(&rt, read_elsewhere(&rt, told, watch), Some(one_page(5)));
-    publisher.end(&rt);
 }
 
 // Publishes reports of 1, 2, .. entries, and returns how many were published.

@@ -1,14 +1,13 @@
 //! What a watch reads was published.
 ghost use Rattle.std.specs.Prelude.{◌≡◌, ◌<◌, Contains, IfSome};
 ghost use Rattle.watched_machine.specs.Reports.{last_of};
-ghost use Rattle.watched_machine.specs.Lists.{published, publisher_id, told_id, watch_id};
+ghost use Rattle.watched_machine.specs.Lists.{published, publisher_id, watch_id};
 
-use crate::checks::{equal, holds};
-use crate::reports::makes::{mixed, one_page};
+use crate::checks::equal;
+use crate::reports::makes::mixed;
 use page_model::Report;
 use std::sync::Wait;
-use std::thread::{Threads, join};
-use watched_machine::{Publisher, Told, Watch};
+use watched_machine::{Publisher, Watch};
 
 const MANY: u32 = 1_100_000;
 
@@ -53,33 +52,4 @@ fn a_million_reports(rt: HostRuntime) {
     let done = publish_each(&rt, &mut publisher, &mut watch);
     publisher.end(&rt);
     equal(&rt, done, MANY);
-}
-
-// Reads in another thread, and returns what was seen there.
-fn see_elsewhere<R: Threads + Wait + Sync>(rt: &R, watch: Watch) -> Told
-    ensures { told_id result ≡ watch_id watch }
-{
-    let mut watch = watch;
-    let (told, _nothing) = join(
-        rt,
-        move || {
-            let _report = watch.read();
-            watch.tell()
-        },
-        || (),
-    );
-    told
-}
-
-#[test]
-fn what_was_seen_comes_back(rt: HostRuntime) {
-    let mut publisher = Publisher::new(&rt, rt.alloc()).expect(&rt, "memory");
-    let watch = publisher.watch().expect(&rt, "a watch");
-    let early = publisher.tell();
-    let told = publisher.publish(&rt, one_page(5)).expect(&rt, "memory");
-    let seen = see_elsewhere(&rt, watch);
-    holds(&rt, publisher.has_published(&seen));
-    holds(&rt, publisher.has_published(&told));
-    holds(&rt, publisher.has_published(&early));
-    publisher.end(&rt);
 }

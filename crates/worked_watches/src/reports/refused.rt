@@ -10,7 +10,7 @@ use refusing::Refusing;
 use std::alloc::Allocator;
 use std::process::Abort;
 use std::sync::Wait;
-use watched_machine::{OutOfMemory, PublishFault, Publisher, Told, Watch};
+use watched_machine::{OutOfMemory, Publisher, Told, Watch};
 
 const MOST: u64 = 100;
 
@@ -74,93 +74,4 @@ fn each_growth_refused_in_turn(rt: HostRuntime) {
         }
     }
     holds(&rt, whole_at.is_some());
-}
-
-/// Makes a watch, which reads the first report and then the end.
-fn watch_the_end<R: Abort + Wait, A: Allocator>(rt: &R, publisher: Publisher<A>) {
-    let mut publisher = publisher;
-    let mut watch = publisher.watch().expect(rt, "a watch");
-    watch.learn(publisher.tell());
-    equal(rt, watch.read(), Some(all_zeros()));
-    publisher.end(rt);
-    equal(rt, watch.read(), None);
-}
-
-// Once a publisher is made, making watches, telling, reading and ending ask for no memory.
-#[test]
-fn no_memory_but_for_publishing(rt: HostRuntime) {
-    let heap = Refusing::new(rt.alloc(), u64::MAX, 0);
-    let publisher = Publisher::new(&rt, &heap).expect(&rt, "memory");
-    heap.refuse_all();
-    watch_the_end(&rt, publisher);
-    holds(&rt, !heap.has_refused());
-    holds(&rt, heap.holds_nothing());
-}
-
-// Publishes a report of one more page, with no memory left.
-fn publish_with_none<R: Abort + Wait, A: Allocator>(
-    rt: &R,
-    publisher: &mut Publisher<A>,
-    entries: u32,
-)
-    requires before { (last_of (published publisher.old)).entries ≤ entries }
-    ensures after { (last_of (published publisher.new)).entries ≡ entries }
-    ensures same { publisher_id publisher.new ≡ publisher_id publisher.old }
-{
-    match publisher.publish(rt, one_page(entries)) {
-        Ok(_told) => {}
-        Err(_) => panic!(rt; "asks for memory again"),
-    }
-}
-
-// After its first report a publisher asks for no more memory.
-#[test]
-fn memory_for_the_first_report_alone(rt: HostRuntime) {
-    let heap = Refusing::new(rt.alloc(), u64::MAX, 0);
-    let mut publisher = Publisher::new(&rt, &heap).expect(&rt, "memory");
-    let mut watch = publisher.watch().expect(&rt, "a watch");
-    publish_with_none(&rt, &mut publisher, 1);
-    heap.refuse_all();
-    publish_with_none(&rt, &mut publisher, 2);
-    publish_with_none(&rt, &mut publisher, 3);
-    publish_with_none(&rt, &mut publisher, 4);
-    equal(&rt, watch.read(), Some(one_page(4)));
-    publisher.end(&rt);
-    drop(watch);
-    holds(&rt, !heap.has_refused());
-    holds(&rt, heap.holds_nothing());
-}
-
-// Tries a first publish, which is refused.
-fn publish_in_vain<R: Abort + Wait, A: Allocator>(
-    rt: &R,
-    publisher: &mut Publisher<A>,
-    watch: &mut Watch<A>,
-)
-    requires first { published publisher.old ≡ [] }
-    requires same { watch_id watch.old ≡ publisher_id publisher.old }
-    ensures publisher { (published publisher.new ≡ []) × (publisher_id publisher.new ≡ publisher_id publisher.old) }
-    ensures watch { watch_id watch.new ≡ watch_id watch.old }
-{
-    match publisher.publish(rt, one_page(1)) {
-        Ok(_told) => panic!(rt; "published with no memory"),
-        Err(fault) => equal(rt, fault, PublishFault::OutOfMemory),
-    }
-    watch.learn(publisher.tell());
-    equal(rt, watch.read(), Some(all_zeros()));
-}
-
-// When no memory is left, each publish is refused, and changes nothing.
-#[test]
-fn publish_refused_each_time(rt: HostRuntime) {
-    let heap = Refusing::new(rt.alloc(), u64::MAX, 0);
-    let mut publisher = Publisher::new(&rt, &heap).expect(&rt, "memory");
-    let mut watch = publisher.watch().expect(&rt, "a watch");
-    heap.refuse_all();
-    publish_in_vain(&rt, &mut publisher, &mut watch);
-    publish_in_vain(&rt, &mut publisher, &mut watch);
-    holds(&rt, heap.has_refused());
-    publisher.end(&rt);
-    drop(watch);
-    holds(&rt, heap.holds_nothing());
 }
