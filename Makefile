@@ -36,7 +36,7 @@ out/pageshare: $(SOURCES)
 	tools/build.py pageshare $@
 
 out/pageshare-v3: $(SOURCES)
-	tools/build.py pageshare_v3 $@ --cpu x86-64-v3
+	tools/build.py pageshare $@ --cpu x86-64-v3
 
 # The program and the library for both levels, and the host with the library that monitors preload and its units, with man pages,
 # completions, headers and documents, below DESTDIR and PREFIX; `make uninstall` with the same words removes them. LIBDIR is the

@@ -25,6 +25,7 @@ import copy
 import hashlib
 import os
 import pathlib
+import re
 import shutil
 import subprocess
 import sys
@@ -61,12 +62,16 @@ PRODUCTS = [
     Product("pageshare_c", OUT / "proved.a"),
     Product("pageshare_host_c", OUT / "proved_host.a"),
     Product("pageshare_window_c", OUT / "libpageshare_window.a"),
-    Product("pageshare_v3", OUT / "pageshare-v3", "x86-64-v3"),
+    Product("pageshare", OUT / "pageshare-v3", "x86-64-v3"),
     Product("pageshare", OUT / "pageshare"),
     Product("window_trace", OUT / "window_trace"),
 ]
 LEVELS = sorted({it.cpu for it in PRODUCTS})
 LIBRARIES = [it for it in PRODUCTS if it.file.suffix == ".a" and it.cpu == DEFAULT]
+
+
+# What is written in place of words of a program's main.rt where it is built for a level: a hash of as many pages as fit its vectors.
+WIDER = {("pageshare", "x86-64-v3"): {"Sha256Hash": "WideSha256Hash", "Four pages": "Eight pages", DEFAULT: "x86-64-v3"}}
 
 
 def checked_of(crate: Any) -> pathlib.Path:
@@ -171,6 +176,21 @@ def copied(kit: Any, names: Sequence[str], room: str) -> dict[str, Any]:
     return found
 
 
+def widened(crate: Any, product: Product, room: str) -> Any:
+    """The crate as it is built for a level: itself, or a copy in this folder with other words in its main.rt."""
+    words = WIDER.get((product.crate, product.cpu))
+    if words is None:
+        return crate
+    crate, folder = copy.copy(crate), pathlib.Path(room, product.crate)
+    shutil.copytree(crate.folder, folder, ignore=shutil.ignore_patterns("out"))
+    text = (folder / "src/main.rt").read_text(encoding="utf-8")
+    for old, new in words.items():
+        text = re.sub(rf"\b{re.escape(old)}\b", new, text)
+    (folder / "src/main.rt").write_text(text, encoding="utf-8")
+    crate.folder = str(folder)
+    return crate
+
+
 def compile_checked(kit: Any, crate: Any, words: Sequence[str], to: str) -> int:
     """Compiles a static library from what its proof checked, if that was of the files as they are now. Returns the status."""
     whole = [*words]
@@ -181,9 +201,10 @@ def compile_checked(kit: Any, crate: Any, words: Sequence[str], to: str) -> int:
     return subprocess.run([*kit.rtlib.guarded(), *ran], cwd=crate.folder, stdin=subprocess.DEVNULL, stdout=crate.out, stderr=crate.out, check=False).returncode
 
 
-def compiled(kit: Any, crate: Any, product: Product) -> str | None:
-    """Builds a crate for a processor level, and returns where its program or library lies."""
+def compiled(kit: Any, crate: Any, product: Product, room: str) -> str | None:
+    """Builds a crate for a processor level, and returns where its program or library lies. The folder is for a copy of the crate."""
     level = "" if product.cpu == DEFAULT else f"-{product.cpu}"
+    crate = widened(crate, product, room)
     made = f"{crate.folder}/out/{f'lib{crate.name}{level}.a' if crate.is_static else f'{crate.name}{level}'}"
     is_given = product.is_given(crate)
     if is_given and not crate.is_static and os.path.isfile(made):
@@ -210,11 +231,12 @@ def put(made: str, product: Product) -> None:
 def build_over(kit: Any, every: Mapping[str, Any], products: Sequence[Product], sums: Mapping[str, str]) -> list[Product]:
     """Builds products side by side over what is proved of these crates. Returns those that were built."""
     def build(product: Product) -> bool:
-        made = compiled(kit, every[product.crate], product)
-        print(f"{product.crate} for {product.cpu} {'built' if made else 'NOT BUILT'}", flush=True)
-        if made:
-            put(made, product)
-            note_of(product).write_text(rests_on(product, sums), encoding="utf-8")
+        with new_folder() as room:
+            made = compiled(kit, every[product.crate], product, str(room))
+            print(f"{product.crate} for {product.cpu} {'built' if made else 'NOT BUILT'}", flush=True)
+            if made:
+                put(made, product)
+                note_of(product).write_text(rests_on(product, sums), encoding="utf-8")
         if made and is_kept(kit, product, every[product.crate]):
             keep(product, sums)
         return made is not None
