@@ -1,5 +1,5 @@
-//! Worked hashes of pages and machines on one thread, by the public calls of `page_model` up to `merge_core`. Besides the tests it has
-//! one case of a law that no call shows, `copies`.
+//! Worked hashes of pages and machines on one thread, by the public calls of `page_model` up to `merge_core`, and what domains rest on.
+//! Besides the tests it has one case of a law that no call shows, `copies`.
 #![tactic(auto)]
 
 #[cfg(test)]
@@ -9,6 +9,8 @@ mod by_workers;
 #[cfg(test)]
 mod checks;
 pub mod copies;
+#[cfg(test)]
+mod domains;
 #[cfg(test)]
 mod foreseen;
 #[cfg(test)]

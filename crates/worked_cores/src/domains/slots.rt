@@ -1,6 +1,6 @@
 //! How often pages that clients lend are hashed.
 use crate::checks::holds;
-use crate::counted::Counted;
+use crate::domains::counted::Counted;
 use lent_slots::LentSlots;
 use machine_frames::Frames;
 use merge_core::SaltedHash;

@@ -1,6 +1,6 @@
 //! How often the pages of a domain are hashed.
 use crate::checks::holds;
-use crate::counted::Counted;
+use crate::domains::counted::Counted;
 use share_domain::{Domain, DomainConfig, Slot};
 use std::alloc::Global;
 use std::process::Abort;

@@ -1,6 +1,6 @@
 //! A domain whose frames are given for one machine after the other.
 use crate::checks::holds;
-use crate::frames::{returned_frames, three_frames};
+use crate::domains::frames::{returned_frames, three_frames};
 use page_digest::FoldHash;
 use share_domain::{Domain, DomainConfig, GivenFrames};
 
