@@ -1,5 +1,5 @@
-//! Worked rings, machines and runs, by the public calls of `share_rings` and `merge_run`.
-//! This crate has only tests.
+//! Worked rings, machines and runs, by the public calls of `share_rings` and `merge_run`, and machines that are watched, by those of
+//! `watched_machine`. This crate has only tests.
 #![tactic(auto)]
 
 #[cfg(test)]
@@ -18,3 +18,5 @@ mod rings;
 mod rounds;
 #[cfg(test)]
 mod runs;
+#[cfg(test)]
+mod watches;

@@ -4,7 +4,7 @@ ghost use Rattle.share_rings.specs.Closing.{has_close, is_close};
 ghost use Rattle.merge_run.specs.Runs.{CanBeRun};
 
 use crate::checks::{equal, equal_at, holds, holds_at};
-use crate::config::config_of;
+use crate::watches::config::config_of;
 use page_digest::Sha256Hash;
 use page_model::{Report, Request, Verdict};
 use refusing::Refusing;

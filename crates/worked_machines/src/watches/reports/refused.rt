@@ -4,7 +4,7 @@ ghost use Rattle.watched_machine.specs.Reports.{last_of};
 ghost use Rattle.watched_machine.specs.Lists.{published, publisher_id, watch_id, told_id};
 
 use crate::checks::{equal, holds, holds_at};
-use crate::reports::makes::{all_zeros, one_page};
+use crate::watches::reports::makes::{all_zeros, one_page};
 use page_model::Report;
 use refusing::Refusing;
 use std::alloc::Allocator;

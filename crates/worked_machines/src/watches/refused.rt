@@ -1,6 +1,6 @@
 //! Memory that is refused to a watched machine.
 use crate::checks::{equal, equal_at, holds, holds_at};
-use crate::config::config_of;
+use crate::watches::config::config_of;
 use refusing::Refusing;
 use std::alloc::{Allocator, Global};
 use std::process::Abort;

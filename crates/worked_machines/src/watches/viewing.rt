@@ -3,7 +3,7 @@ ghost use Rattle.std.specs.Prelude.{◌≡◌, false, All, length, IfOk};
 ghost use Rattle.share_rings.specs.Closing.{has_close};
 
 use crate::checks::{equal, holds};
-use crate::config::config_of;
+use crate::watches::config::config_of;
 use page_digest::Sha256Hash;
 use page_model::{Report, Request};
 use std::alloc::{AllocError, Allocator};

@@ -4,7 +4,7 @@ ghost use Rattle.watched_machine.specs.Reports.{last_of};
 ghost use Rattle.watched_machine.specs.Lists.{published, publisher_id, watch_id};
 
 use crate::checks::equal;
-use crate::reports::makes::mixed;
+use crate::watches::reports::makes::mixed;
 use page_model::Report;
 use std::sync::Wait;
 use watched_machine::{Publisher, Watch};

@@ -3,8 +3,8 @@ use Rattle.page_model.specs.Parts.{Totals}
 use Rattle.watched_machine.specs.Reports.{last_of}
 use Rattle.watched_machine.specs.Lists.{published, publisher_id, watch_id}
 use Rattle.watched_machine.proofs.Lists.{last_of_added}
-use Rattle.worked_watches.proofs.reports.published.publish_each.Goals as goal
-use Rattle.worked_watches.proofs.reports.published.publish_each.Goals.{in-Ok, in-Err}
+use Rattle.worked_machines.proofs.watches.reports.published.publish_each.Goals as goal
+use Rattle.worked_machines.proofs.watches.reports.published.publish_each.Goals.{in-Ok, in-Err}
 
 pub loop-before-preserved : goal.loop-before-preserved
 loop-before-preserved g c =
