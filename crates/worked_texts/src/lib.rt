@@ -1,5 +1,5 @@
-//! The engines of `share_text` with readers and writers that fail, and with memory refused; and each call of the interface as it was
-//! ordered. This crate has only tests.
+//! The engines of `share_text` with readers and writers that fail, and with memory refused; each call of the interface as it was
+//! ordered; and estimates, digests and fleets. This crate has only tests.
 #![tactic(auto)]
 
 #[cfg(test)]
@@ -8,6 +8,8 @@ mod calls;
 mod checks;
 #[cfg(test)]
 mod engine;
+#[cfg(test)]
+mod estimates;
 #[cfg(test)]
 mod journals;
 #[cfg(test)]

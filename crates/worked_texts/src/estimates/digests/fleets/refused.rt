@@ -1,6 +1,6 @@
 //! Refused memory.
 use crate::checks::{holds, holds_at};
-use crate::digests::fleets::merged::{Refusal, merge_texts};
+use crate::estimates::digests::fleets::merged::{Refusal, merge_texts};
 use fleet_census::Pairs;
 use refusing::Refusing;
 

@@ -1,6 +1,6 @@
 //! Memory that is refused.
-use crate::censuses::pages::{Memory, ReadSoFar, guest_of};
 use crate::checks::{equal, holds, holds_at};
+use crate::estimates::censuses::pages::{Memory, ReadSoFar, guest_of};
 use guest_digests::{GuestDigests, Sample, Sampling, digest_pages};
 use memory_pages::{PageSource, ReadFault};
 use refusing::Refusing;

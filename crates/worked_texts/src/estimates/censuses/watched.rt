@@ -1,5 +1,5 @@
 //! Pages in memory whose reads are watched.
-use crate::censuses::pages::{Memory, Unreadable};
+use crate::estimates::censuses::pages::{Memory, Unreadable};
 use memory_pages::PageSource;
 use page_model::Page;
 

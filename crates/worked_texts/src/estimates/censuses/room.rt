@@ -1,6 +1,6 @@
 //! How much memory a census asks for.
-use crate::censuses::pages::{Memory, census_of, guest_of};
 use crate::checks::{holds, holds_at};
+use crate::estimates::censuses::pages::{Memory, census_of, guest_of};
 use page_census::Guest;
 use page_digest::FoldHash;
 use refusing::Refusing;

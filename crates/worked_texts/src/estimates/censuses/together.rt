@@ -1,7 +1,7 @@
 //! Reads each of which waits for another, so that two workers are needed.
-use crate::censuses::pages::{census_of, guest_of};
-use crate::censuses::watched::{Watch, Watched};
 use crate::checks::holds;
+use crate::estimates::censuses::pages::{census_of, guest_of};
+use crate::estimates::censuses::watched::{Watch, Watched};
 use page_census::Guest;
 use page_digest::FoldHash;
 use std::alloc::Global;

@@ -1,7 +1,7 @@
 //! Memory that is refused, and reads that fail.
 
 use crate::checks::{equal, holds, holds_at};
-use crate::images::files::{core_file, is_unreadable, load, open};
+use crate::estimates::images::files::{core_file, is_unreadable, load, open};
 use memory_images::ImageFault;
 use memory_pages::PageSource;
 use refusing::Refusing;

@@ -1,7 +1,7 @@
 //! How often pages are read, and which guest is named when a read fails, be it the first of a page or a later one.
-use crate::censuses::pages::{ZeroHash, census_of, guest_of};
-use crate::censuses::watched::{Watch, Watched};
 use crate::checks::{equal, equal_at};
+use crate::estimates::censuses::pages::{ZeroHash, census_of, guest_of};
+use crate::estimates::censuses::watched::{Watch, Watched};
 use page_census::{CensusFault, Guest};
 use page_digest::{FoldHash, PageHash};
 use std::alloc::{AllocError, Global};

@@ -1,6 +1,6 @@
 //! The census of a few pages, with memory refused.
-use crate::censuses::pages::{Memory, ZeroHash, census_of, guest_of};
 use crate::checks::{equal, holds, holds_at};
+use crate::estimates::censuses::pages::{Memory, ZeroHash, census_of, guest_of};
 use page_census::{CensusFault, Guest, TotalNumbers};
 use page_digest::PageHash;
 use refusing::Refusing;
