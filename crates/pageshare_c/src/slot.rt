@@ -19,7 +19,7 @@ pub struct Slot {
 }
 
 impl Model for Slot {
-    ghost use Rattle.c_surface.specs.Held.{held_owns};
+    ghost use Rattle.c_handles.specs.Held.{held_owns};
     ghost use Rattle.pageshare_c.specs.Held.{core_row};
 
     ghost also_owns = { λ s. held_owns core_row s.at s.core };

@@ -19,7 +19,7 @@ pub struct HostSlot {
 }
 
 impl Model for HostSlot {
-    ghost use Rattle.c_surface.specs.Held.{held_owns};
+    ghost use Rattle.c_handles.specs.Held.{held_owns};
     ghost use Rattle.pageshare_host_c.specs.Held.{hosted_row};
 
     ghost also_owns = { λ s. held_owns hosted_row s.at s.host };

@@ -3,7 +3,7 @@ use denote.Param.Send.{IsSend, AllSend, owning_send, struct_send, sendable}
 use denote.Struct.Owning.{shape, fields, to}
 use denote.Struct.Struct.{exits_of}
 use Rattle.std_alloc.proofs.SendSync.{quiet}
-use Rattle.c_surface.proofs.Held.{held_keyless}
+use Rattle.c_handles.proofs.Held.{held_keyless}
 use Rattle.pageshare_c.proofs.hosted.Hosted.TheSendSync as core
 use Rattle.pageshare_c.specs.Held.{hosted_row}
 use Rattle.pageshare_c.specs.contracts.domain_slot.DomainSlot.{the_row, the_type}

@@ -25,8 +25,8 @@ use denote.Triple.Walked.{Stays, walk_of, says, stay_ref, Goes-ref, stay_dropped
 use Rattle.core.proofs.alloc.Calls.{Goes-blank}
 use Rattle.std.proofs.raw_atomic.Walks.{proved_at}
 use Rattle.std.specs.contracts.impls.GlobalAllocator.TheImpl.{ghosts}
-use Rattle.c_surface.proofs.Held.{Heap, heap_laws, HeapParcel, word}
-use Rattle.c_surface.proofs.Parcels.{two, parcel_typed, parcel_opens}
+use Rattle.c_handles.proofs.Held.{Heap, heap_laws, HeapParcel, word}
+use Rattle.c_handles.proofs.Parcels.{two, parcel_typed, parcel_opens}
 use Rattle.pageshare_c.proofs.domain_slot.DomainSlot.TheLaws.{lowers}
 use Rattle.pageshare_c.proofs.domain_slot.DomainSlot.fill.Code as code
 use Rattle.pageshare_c.proofs.domain_slot.DomainSlot.fill.Statement.{statement}

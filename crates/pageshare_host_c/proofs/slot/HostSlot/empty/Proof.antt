@@ -25,12 +25,12 @@ use Rattle.core.proofs.alloc.Calls.{Goes-blank, handle_tells}
 use Rattle.pageshare_host_c.specs.declared.hosted.Hosted.{Hosted}
 use Rattle.std.proofs.raw_atomic.Walks.{proved_at}
 use Rattle.std.specs.contracts.impls.GlobalAllocator.TheImpl.{ghosts}
-use Rattle.c_surface.proofs.Held.{Heap, heap_laws, HeapParcel, held}
-use Rattle.c_surface.proofs.Parcels.{two, handle, Block, parcel_typed, parcel_closes}
+use Rattle.c_handles.proofs.Held.{Heap, heap_laws, HeapParcel, held}
+use Rattle.c_handles.proofs.Parcels.{two, handle, Block, parcel_typed, parcel_closes}
 use Rattle.pageshare_host_c.proofs.slot.HostSlot.TheLaws.{lowers}
 use Rattle.pageshare_host_c.proofs.slot.HostSlot.empty.Code as code
 use Rattle.pageshare_host_c.proofs.slot.HostSlot.empty.Statement.{statement}
-use Rattle.c_surface.specs.Held.{heap, held_owns}
+use Rattle.c_handles.specs.Held.{heap, held_owns}
 use Rattle.pageshare_host_c.specs.Held.{hosted_row}
 use Rattle.pageshare_host_c.specs.contracts.slot.HostSlot as slot
 use Rattle.pageshare_host_c.specs.contracts.slot.HostSlot.empty as f
