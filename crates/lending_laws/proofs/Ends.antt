@@ -1,11 +1,10 @@
 -- The end of a lender is a step of a history for each page of which it is noted.
-use Rattle.std.proofs.Common.{◌≡◌, ◌∙◌, ◌⊎◌, inl, inr, ℕ, zero, suc, ◌+◌, ◌<◌, ◌≤◌, Bool, true, false, cond, List, [], ◌∷◌, length, Option, Some, None, refl, ap, sym, subst, arith}
-use Rattle.std.specs.Prelude.{nat_eq, option_map, slice_get, slice_set}
-use Rattle.std.proofs.lemmas.Bool.{cases_lt, eqb-false, eqb-true}
+use Rattle.std.proofs.Common.{◌≡◌, ◌∙◌, inl, inr, ℕ, zero, suc, ◌+◌, ◌<◌, ◌≤◌, Bool, true, List, [], ◌∷◌, length, Option, Some, None, refl, ap, sym, subst, arith}
+use Rattle.std.specs.Prelude.{option_map, slice_get, slice_set}
+use Rattle.std.proofs.lemmas.Bool.{cases_lt}
 use Rattle.std.proofs.lemmas.Option.{slice_get_within}
 use Rattle.page_lender.specs.Decisions.{account}
 use Rattle.page_lender.specs.declared.order.Order.{Order}
-use Rattle.window_events.specs.Windows.{Mappings}
 use Rattle.window_events.specs.declared.page.Page.{Page}
 use Rattle.window_pages.specs.Bytes.{belief_of}
 use Rattle.window_pages.specs.Lives.{WasDetached, left_page}
@@ -13,8 +12,8 @@ use Rattle.window_pages.specs.declared.page.WindowPage.{WindowPage}
 use Rattle.window_tables.proofs.Places.{set_length, set_other, set_own}
 use Rattle.window_tables.specs.Changes.{RangeChanged}
 use Rattle.window_tables.specs.declared.changes.Change.TheVariants.{Detached}
-use Rattle.lending_laws.specs.Ends.{EachEndIsWell, EachEndIsWellInAll, Ends}
-use Rattle.lending_laws.specs.Histories.{CarriedOut, DetachesAt, History, Moment, Nothing, Pending, Reads, detaches, without_account}
+use Rattle.lending_laws.specs.Ends.{EachEndIsWell, EachEndIsWellInAll}
+use Rattle.lending_laws.specs.Histories.{CarriedOut, DetachesAt, History, Moment, Nothing, Reads, detaches, without_account}
 use Rattle.lending_laws.specs.Processes.{OthersStay, Process, ProcessHistory, Span, moment_of}
 use Rattle.lending_laws.specs.Processes as all
 use Rattle.lending_laws.proofs.Kept.{IsKept, history_kept, some_page}

@@ -1,7 +1,7 @@
 -- Calls for many pages at once are calls of a history, one page after another.
 use Rattle.lend_steps.specs.Copies.{CameOfCopy, ChosenFor, ToCopy, is_changed, is_chosen, is_good, is_left, is_nothing, is_zeros}
 use Rattle.lend_steps.specs.Asks.{Answered, InVain, ToAsk, is_asked as is_question, is_crowded, is_found, is_in_vain, is_left_out, is_not_free, sees}
-use Rattle.lend_steps.specs.Holds.{ToGiveBack, ToHold, can_hold, has_loan, is_crowded_out, is_given_back, is_kept, is_ordered, is_passed_by, is_refused}
+use Rattle.lend_steps.specs.Holds.{ToGiveBack, ToHold, has_loan, is_crowded_out, is_given_back, is_kept, is_ordered, is_passed_by, is_refused}
 use Rattle.lend_steps.specs.Lists.{Deed, Told, is_not_there, is_there, Turn}
 use Rattle.lend_steps.specs.Loans.{CameOfLoan, NotLent, is_given, is_unheard, is_without_frame, is_without_slot}
 use Rattle.lend_steps.specs.Releases.{OrderedTo, asks, at_once, is_hold, passes, refused_first, FindsAt}

@@ -10,6 +10,11 @@ pub mod Outcomes
 pub mod Over
 pub mod Owned
 pub mod OwnedLists
+pub mod OwnedPages
+pub mod OwnedPlaces
+pub mod OwnedSlots
+pub mod OwnedStays
+pub mod OwnedWindows
 pub mod Pages
 pub mod ProcessCalls
 pub mod Processes

@@ -1,28 +1,27 @@
 -- Orders name only pages of their window that nothing bars, and take no more mappings than windows may have.
-use Rattle.std.proofs.Common.{◌≡◌, ◌∙◌, ℕ, ◌+◌, ◌<◌, ◌≤◌, ◌%◌, Bool, true, false, not, ◌&&◌, ◌||◌, cond, List, length, Some, None, refl, ap, sym, subst, arith}
+use Rattle.std.proofs.Common.{◌≡◌, ◌∙◌, ℕ, ◌+◌, ◌<◌, ◌≤◌, ◌%◌, Bool, true, false, not, ◌&&◌, ◌||◌, cond, List, length, Some, refl, ap, sym, subst, arith}
 use Rattle.std.proofs.lemmas.Bool.{eqb-true, leb-true}
 use Rattle.std.proofs.lemmas.Option.{slice_get_within}
 use Rattle.std.specs.Option.{option_map_or}
 use Rattle.std.specs.Prelude.{nat_eq, nat_le, nat_lt, slice_get, slice_index_or}
-use Rattle.lend_steps.specs.Asks.{Answered, AnsweredAt, ToAsk, has_room, is_asked as is_question, is_crowded, is_found, is_in_vain, is_left_out, is_not_free, takes_if_found}
-use Rattle.lend_steps.specs.Copies.{CameOfCopy, CopiedThen, ToCopy, can_choose, is_changed, is_chosen, is_good, is_left, is_nothing, is_zeros, lend_answer}
-use Rattle.lend_steps.specs.Holds.{ToGiveBack, ToHold, is_crowded_out, is_given_back, is_kept, is_ordered, is_passed_by, is_refused}
-use Rattle.lend_steps.specs.Lists.{AllInTurnWith, InTurnWith, Turn, begins_with, goes_on_with, is_not_there, is_there}
+use Rattle.lend_steps.specs.Asks.{Answered, AnsweredAt, has_room, is_asked as is_question, is_crowded, is_found, is_in_vain, is_left_out, is_not_free, takes_if_found}
+use Rattle.lend_steps.specs.Copies.{is_changed, is_chosen, is_good, is_left, is_nothing, is_zeros, lend_answer}
+use Rattle.lend_steps.specs.Holds.{is_crowded_out, is_given_back, is_kept, is_ordered, is_passed_by, is_refused}
+use Rattle.lend_steps.specs.Lists.{InTurnWith, Turn, begins_with, goes_on_with, is_not_there, is_there}
 use Rattle.lend_steps.specs.Releases.{is_hold}
 use Rattle.lend_steps.specs.declared.copies.CopyOutcome.{CopyOutcome}
 use Rattle.lending_laws.proofs.Kept.{some_page}
 use Rattle.lending_laws.proofs.Looks.{first_of, neither_left, neither_right, no_more, rest_of}
-use Rattle.lending_laws.specs.Orders.{EachCopyMay, EachHoldMay, EachListHasRoom, EachLoanMay, EachMapMay, EachQuestionMay, EachReturnMay, MayBeLent, MightBeLent, maps}
+use Rattle.lending_laws.specs.Orders.{EachCopyMay, EachHoldMay, EachListHasRoom, EachLoanMay, EachMapMay, EachQuestionMay, EachReturnMay, MayBeLent, maps}
 use Rattle.look_tasks.specs.Rooms.{fits}
 use Rattle.page_holds.specs.Bytes.{is_stuck, place_in, step_by}
-use Rattle.page_holds.specs.Orders.{IsRun, OrdersNext, facts_there, rank, step_at}
+use Rattle.page_holds.specs.Orders.{IsRun, facts_there, rank}
 use Rattle.page_holds.specs.Rows.{Asks, PageBecomes, is_asked}
-use Rattle.page_holds.specs.Steps.{parted, step_of, zeros_parted}
+use Rattle.page_holds.specs.Steps.{parted, step_of}
 use Rattle.page_holds.specs.declared.place.HeldPlace.{HeldPlace}
 use Rattle.page_holds.specs.declared.place.HeldPlace.TheVariants.{Free, Guarded, Aside, Replaced}
 use Rattle.page_holds.specs.declared.place.HoldStep.{HoldStep}
 use Rattle.page_holds.specs.declared.place.HoldStep.TheVariants.{Over, Compare as CompareStep, CompareZeros, Map as MapStep, GiveBack, PutBack, EndWatch}
-use Rattle.page_holds.specs.declared.rows.run.RowOrder.{RowOrder}
 use Rattle.page_lender.specs.Calls.{IsOrdered, is_free, order_due}
 use Rattle.page_lender.specs.Decisions.{due, is_barred, is_private, leads, prepared, waiting}
 use Rattle.page_lender.specs.declared.bars.Bars.{Bars}
@@ -40,8 +39,6 @@ use Rattle.window_pages.specs.declared.counts.PartCounts.{PartCounts}
 use Rattle.window_pages.specs.declared.facts.WindowFacts.{WindowFacts}
 use Rattle.window_pages.specs.declared.page.WindowPage.{WindowPage}
 use Rattle.window_tables.specs.Mappings.{is_whole, mappings_more}
-use Rattle.window_tables.specs.Tables.{can_note}
-use Rattle.window_tables.specs.declared.facts.TableFacts.{TableFacts}
 
 -- a page that nothing bars may be lent
 may_if : (facts : WindowFacts) (page : WindowPage) → is_barred (bars_of facts (known_of page)) ≡ false → MayBeLent facts page

@@ -1,5 +1,5 @@
 -- A call for a list of pages goes on page by page.
-use Rattle.std.proofs.Common.{◌≡◌, ◌∙◌, ℕ, zero, suc, ◌+◌, ◌<◌, ◌≤◌, Bool, true, false, List, length, Some, refl, ap, sym, subst, arith}
+use Rattle.std.proofs.Common.{◌≡◌, ◌∙◌, ℕ, ◌+◌, ◌<◌, Bool, false, List, length, Some, refl, ap, sym, subst, arith}
 use Rattle.std.specs.Prelude.{slice_get, slice_index_or, slice_set}
 use Rattle.lend_steps.specs.Copies.{ToCopy, is_chosen, is_left}
 use Rattle.lend_steps.specs.Lists.{Deed, InTurn, InTurnWith, Turn, begins, begins_with, goes_on, goes_on_with, is_not_there, is_there}

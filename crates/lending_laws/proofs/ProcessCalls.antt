@@ -22,13 +22,13 @@ with_window k m x = record {
   world = m.world;
 }
 
-its_own : {A : Type 0} (k : ℕ) (own before : A) → cond (nat_eq k k) own before ≡ own
+pub its_own : {A : Type 0} (k : ℕ) (own before : A) → cond (nat_eq k k) own before ≡ own
 its_own {A} k own before = pick (nat_eq k k) refl where
   pick : (b : Bool) → nat_eq k k ≡ b → cond b own before ≡ own
   pick true e = refl
   pick false e = absurd (eqb-false k k e refl)
 
-of_others : {A : Type 0} (j k : ℕ) (own before : A) → (j ≡ k → ⊥) → cond (nat_eq j k) own before ≡ before
+pub of_others : {A : Type 0} (j k : ℕ) (own before : A) → (j ≡ k → ⊥) → cond (nat_eq j k) own before ≡ before
 of_others {A} j k own before n = pick (nat_eq j k) refl where
   pick : (b : Bool) → nat_eq j k ≡ b → cond b own before ≡ before
   pick true e = absurd (n (eqb-true j k e))

@@ -6,6 +6,7 @@ pub mod Looks
 pub mod Notes
 pub mod Orders
 pub mod Owned
+pub mod OwnedWindows
 pub mod ProcessCalls
 pub mod Processes
 pub mod Reading

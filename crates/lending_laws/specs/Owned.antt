@@ -10,15 +10,20 @@ use Rattle.page_lender.specs.declared.order.Outcome.TheVariants.{Done, Refused}
 use Rattle.page_looks.specs.declared.finds.step.FindOutcome.{FindOutcome}
 use Rattle.process_lender.specs.Lists.{Answered, CameOfCopies, CameOfLoans, CameOfRelease, Chooses, ChoosesCopies, FindsReleases, NoAnswer, NoneFound}
 use Rattle.process_lender.specs.Notices.{TakesNote}
+use Rattle.process_lender.specs.Offers.{end_of, state_set}
+use Rattle.process_lender.specs.Pages.{NotesPage}
+use Rattle.process_lender.specs.Parts.{SetsWhole, part_noted, with_pins}
 use Rattle.process_lender.specs.Rows.{BeginsRow, CameOfOrder, FindsNext, nothing_next}
 use Rattle.process_lender.specs.Scans.{BeginsScan, CameOfSteps, FollowsChanges}
-use Rattle.process_lender.specs.Windows.{InPages, InWindow, Lender, Window, window_at}
+use Rattle.process_lender.specs.Windows.{InPages, InWindow, Lender, Window, window_at, window_changed}
 use Rattle.process_lender.specs.declared.choice.Choice.{Choice}
+use Rattle.process_lender.specs.declared.facts.ProcessFacts.{ProcessFacts}
+use Rattle.process_lender.specs.declared.facts.WindowState.{WindowState}
 use Rattle.process_lender.specs.declared.look.WindowScan.{WindowScan}
 use Rattle.process_lender.specs.declared.notice.Notice.{Notice}
-use Rattle.process_lender.specs.declared.notice.Notice.TheVariants as Notice
+use Rattle.process_lender.specs.declared.page_notice.PageNotice.{PageNotice}
+use Rattle.process_lender.specs.declared.part_notice.PartNotice.{PartNotice}
 use Rattle.window_pages.specs.Bytes.{belief_of}
-use Rattle.window_pages.specs.declared.page.WindowPage.{WindowPage}
 use Rattle.window_tables.specs.Tables.{Counted}
 use Rattle.lending_laws.specs.Histories.{Moment, Reads}
 use Rattle.lending_laws.specs.Lender.{AreSo, CopiesAreSo, CopyIsSo, HomesAreSo, IsSoOf, LoanIsSo, row_outcome}
@@ -69,7 +74,8 @@ pub record Between (m : Moment) (numbers : List ℕ) (n : ℕ) (now : Moment) : 
 abbrev pub EachIsSo : (ℕ → Moment → Type 0) → Moment → List ℕ → Type 0
 EachIsSo IsSo m numbers = (n : ℕ) (now : Moment) → n < length numbers → Between m numbers n now → IsSo n now
 
--- A call for pages of the window at a place, by its contract, whatever it returns. If it did something, what it says is so.
+-- A call for the window at a place, by its contract, whatever it returns. If it did something, what it says is so. A window that couldn't be offered, or
+-- not be taken out, changes nothing.
 pub data OwnedCall (gives : (ℕ → Bool) → ℕ → Bool) (first : ℕ) (m : Moment) (place : ℕ) (old new : Lender) : Type 0 where
   notes : (notice : Notice) (from n : ℕ) (is : Bool) → InWindow (TakesNote notice old.facts from n is) (is ≡ false) place old new
       → (is ≡ true → NoticeIsSo gives first m from n notice) → OwnedCall gives first m place old new
@@ -99,6 +105,14 @@ pub data OwnedCall (gives : (ℕ → Bool) → ℕ → Bool) (first : ℕ) (m : 
       → OwnedCall gives first m place old new
   released : (numbers : List ℕ) (is_heard is : Bool) → InPages (CameOfRelease numbers is_heard is) (is ≡ false) place old new
       → (is ≡ true → EachIsSo (λ n now. IsSoOf gives now (slice_index_or numbers n 0) (released_as is_heard)) m numbers) → OwnedCall gives first m place old new
+  notes_page : (page : ℕ) (notice : PageNotice) (is : Bool) → InPages (NotesPage notice page is) (is ≡ false) place old new → OwnedCall gives first m place old new
+  ends : new ≡ end_of place (window_at place old.windows) old → OwnedCall gives first m place old new
+  sets_facts : (facts : ProcessFacts) → new ≡ record old { facts = facts } → OwnedCall gives first m place old new
+  sets_state : (state : WindowState) → new ≡ state_set place state (window_at place old.windows) old → OwnedCall gives first m place old new
+  notes_part : (from : ℕ) (notice : PartNotice) → new ≡ window_changed (part_noted from notice) place (window_at place old.windows) old → OwnedCall gives first m place old new
+  sets_whole : (from : ℕ) (is_whole is : Bool) → InWindow (SetsWhole from is_whole is) (is ≡ false) place old new → OwnedCall gives first m place old new
+  sets_pins : (from n : ℕ) (is_pinned : Bool) → new ≡ window_changed (with_pins is_pinned from n) place (window_at place old.windows) old → OwnedCall gives first m place old new
+  is_refused : new ≡ old → OwnedCall gives first m place old new
 
 -- Then the process is at a moment of its history, and has the pages of each window as the lender has them. All windows of the lender but one are as they
 -- were. Each page of each open window reads what its guest stored last.

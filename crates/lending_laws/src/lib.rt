@@ -12,6 +12,7 @@ ghost use Rattle.lending_laws.specs.ProcessCalls.{EachCallGoesOnInAll};
 ghost use Rattle.lending_laws.specs.Notes.{EachIsDetached, EachLookIsCalls, EachNoteIsACall, EachStepTells};
 ghost use Rattle.lending_laws.specs.Orders.{EachCopyMay, EachHoldMay, EachListHasRoom, EachLoanMay, EachMapMay, EachQuestionMay, EachReturnMay};
 ghost use Rattle.lending_laws.specs.Owned.{EachOwnedCallCounts, EachOwnedCallGoesOn};
+ghost use Rattle.lending_laws.specs.OwnedWindows.{EachOfferGoesOn, EachOutIsFree, EachOwnedBegins, EachOwnedEndIsWell, EachTakeOutGoesOn};
 ghost use Rattle.lending_laws.specs.Processes.{EachPageOfAllIsRead, EachSlotIsOneWindows, EachWindowIsAlone, NoSlotOfAllIsLost, NoneOfAllIsReleasedShown};
 ghost use Rattle.lending_laws.specs.Reading.{EachBeliefIsRight, EachEventKeepsReading, EachFrameIsNoted, EachOrderIsDue, EachOrderIsPossible, EachPageIsRead, StartBegins};
 ghost use Rattle.lending_laws.specs.Slots.{EachSlotIsOnes, NoSlotIsLost, NoneIsReleasedShown};
@@ -63,11 +64,11 @@ pub fn lender_law()
     ensures ends_in_all { EachEndIsWellInAll }
 {}
 
-/// *An order names only a page that may be lent*: one that is in its window and stays there, and that no call of the monitor, transfer, device,
-/// child of a fork or lock bars, by the facts of the call that gives the order. So it is with each question to a host, each copy, each loan that is
-/// asked for, each hold, and each frame or zeros that are mapped in a page's place by an order that is given then. Pages are asked about and given back
-/// only where there is room for their mappings, and held only in parts that are split. Pages of a list that others have take no mapping beyond those
-/// that there may be (`room`).
+/// *A page of a list or a row is ordered to be asked about, copied, lent, held or mapped over only if it may be lent*: it is in its window and stays
+/// there, and no call of the monitor, transfer, device, child of a fork or lock bars it, by the facts of the call that gives the order. What is mapped in
+/// a row by an order that was given before is no such order. Pages are asked about and given back only where there is room for their mappings, and
+/// copied and held only in parts that are split. Pages of a list that others have take no mapping beyond those that there may be (`room`). Orders to let
+/// go, to take home and to release name barred pages, too: nothing is said of these here.
 pub fn orders_law()
     ensures asks { EachQuestionMay }
     ensures copies { EachCopyMay }
@@ -78,13 +79,23 @@ pub fn orders_law()
     ensures room { EachListHasRoom }
 {}
 
-/// *Each call of a value that owns all windows of a process* ([`ProcessLender`](process_lender::ProcessLender)) is a call for the pages of one window, and
-/// leaves the others as they were. So where what it says is so ([`OwnedCall`] has both), the process is at a moment of its history after each call, and
-/// each page of each window reads what its guest stored last. The counts of parts stay right. Of a list's pages each has its turn, and what is said of it
-/// is so then. That a lender is gone ([`Ends`]), that windows come and go, and notices of facts are none of these calls.
+/// *Each call of a value that owns all windows of a process* ([`ProcessLender`](process_lender::ProcessLender)) leads from a moment of the process's
+/// history to one, where what it says is so. Then each page of each open window reads what its guest stored last, all windows but one are as they were,
+/// and counts of parts stay right.
+///
+/// A new value has no windows (`begins`). A call for a window ([`OwnedCall`]) is calls for its pages, or leaves them as they are (`calls`, `counted`). Of a
+/// list's pages each has its turn, and what is said of it is so then. A window that is offered opens, at a place that was free, if its pages are in no
+/// open window, read what their guest stored last, and nothing is lent of them (`offers`). One that is taken out closes, if the host has its slots back
+/// (`takes_out`). A host that gives only slots that it hasn't given has, if no page of it is believed to show its frame (`out_is_free`). A lender's end
+/// may be noted of one part after another, if all that was carried out of its pages' orders is told (`ends`). Calls that only read change nothing.
 pub fn owned_law()
+    ensures begins { EachOwnedBegins }
     ensures calls { EachOwnedCallGoesOn }
     ensures counted { EachOwnedCallCounts }
+    ensures offers { EachOfferGoesOn }
+    ensures takes_out { EachTakeOutGoesOn }
+    ensures out_is_free { EachOutIsFree }
+    ensures ends { EachOwnedEndIsWell }
 {}
 
 /// With a host that gives only slots that it hasn't given: *each slot that it gave and hasn't got back is exactly one page's*, at each

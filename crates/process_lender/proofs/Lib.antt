@@ -1,2 +1,3 @@
 pub mod Owning
+pub mod PageCounts
 pub mod Wholes

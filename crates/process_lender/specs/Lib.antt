@@ -1,6 +1,7 @@
 pub mod Lists
 pub mod Notices
 pub mod Offers
+pub mod Pages
 pub mod Parts
 pub mod Questions
 pub mod Rows

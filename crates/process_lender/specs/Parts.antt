@@ -1,5 +1,5 @@
 -- Parts of a window, and pages of it that were pinned.
-use Rattle.std.specs.Prelude.{◌≡◌, ℕ, Bool, true, false, if◌then◌else◌, List, Option, Some, None, option_map, slice_get, slice_set}
+use Rattle.std.specs.Prelude.{◌≡◌, ℕ, Bool, true, false, if◌then◌else◌, length, nat_eq, List, Option, Some, None, option_map, replicate, slice_get, slice_set}
 use Rattle.page_looks.specs.Parts.{order_of, part_then}
 use Rattle.page_looks.specs.Rests.{found_then, woken}
 use Rattle.page_looks.specs.declared.parts.part.Part.{Part}
@@ -52,8 +52,13 @@ abbrev pub pins_then : Bool → ℕ → ℕ → List ℕ → List ℕ
 pins_then true first count pins = if can_pin first count pins then pinned first count pins else pins
 pins_then false first count pins = if can_unpin first count pins then unpinned first count pins else pins
 
+-- how often each page of a window was pinned
+abbrev pub pins_of : Window → List ℕ
+pins_of w = if nat_eq (length w.pins) 0 then replicate (length w.pages) 0 else w.pins
+
+-- a window of which pages were pinned once more, or once less, if they can be
 abbrev pub with_pins : Bool → ℕ → ℕ → Window → Window
-with_pins is_pinned first count w = record w { pins = pins_then is_pinned first count w.pins }
+with_pins is_pinned first count w = record w { pins = if can_change_pins is_pinned first count (pins_of w) then pins_then is_pinned first count (pins_of w) else w.pins }
 
 -- how many mappings there are once those of a part are others
 abbrev pub kept_of : ℕ → ℕ → ℕ → List Part → List Part → List WindowPage → ℕ → ℕ

@@ -7,7 +7,8 @@ use Rattle.window_tables.specs.declared.facts.TableFacts.{TableFacts}
 use Rattle.process_lender.specs.declared.facts.ProcessFacts.{ProcessFacts}
 use Rattle.process_lender.specs.declared.facts.WindowState.{WindowState}
 
--- A window: its pages, the counts of each part's pages, its parts, how often each page was pinned, and how many pages of its first part lie before it.
+-- A window: its pages, the counts of each part's pages, its parts, how often each page was pinned (nothing where none ever was), and how many pages of
+-- its first part lie before it.
 -- It had so many seams between mappings when it was offered. Once it has ended its mappings don't count.
 pub record Window : Type 0 where
   pub pages : List WindowPage

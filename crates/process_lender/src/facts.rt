@@ -1,6 +1,7 @@
 //! What is so of a process and of its windows.
 
 /// What is so of a process, as far as it bears on what is lent of its windows.
+#[repr(C)]
 #[derive(Clone, Copy)]
 pub struct ProcessFacts {
     /// How many mappings its windows may take in all.
@@ -16,6 +17,7 @@ pub struct ProcessFacts {
 }
 
 /// What is so of a window as long as it is one.
+#[repr(C)]
 #[derive(Clone, Copy)]
 pub struct WindowState {
     /// A child of a fork would have its pages.

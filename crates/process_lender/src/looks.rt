@@ -1,18 +1,19 @@
 //! The calls for a window's pages and parts that looks make, and what is read of it.
-ghost use Rattle.std.specs.Prelude.{◌≡◌, None, false, is_some, slice_get};
+ghost use Rattle.std.specs.Prelude.{◌≡◌, IfOk, None, OnErr, OnOk, false, is_some, slice_get};
 ghost use Rattle.std.specs.Option.{option_map_or};
 ghost use Rattle.part_scans.specs.Scans.{AreNumbers};
 ghost use Rattle.process_lender.specs.Lists.{NoAnswer};
-ghost use Rattle.process_lender.specs.Parts.{SetsWhole, can_change_pins, counts_of, order_at, part_noted, part_of, with_pins};
+ghost use Rattle.process_lender.specs.Pages.{NoneRead, NotesPage, ReadsPages};
+ghost use Rattle.process_lender.specs.Parts.{SetsWhole, can_change_pins, counts_of, order_at, part_noted, part_of, pins_of, with_pins};
 ghost use Rattle.process_lender.specs.Scans.{BeginsScan, CameOfSteps, FollowsChanges};
 ghost use Rattle.process_lender.specs.Windows.{InPages, InWindow, SeenIn, window_at, window_changed};
 ghost use Rattle.process_lender.specs.Questions.{FindsStaying, NoneStays};
 ghost use Rattle.window_tables.specs.Runs.{next_run};
 
-use crate::{PartNotice, ProcessLender, WindowScan};
+use crate::{PageNotice, PartNotice, ProcessLender, WindowScan};
 use page_looks::finds::FindOutcome;
 use page_looks::parts::{Part, PartConfig, PartLook, PartOrder};
-use std::alloc::Allocator;
+use std::alloc::{AllocError, Allocator};
 use window_pages::{PartCounts, WindowFacts, WindowPage};
 use window_tables::runs::{PageRun, next_run};
 
@@ -140,6 +141,33 @@ impl<A: Allocator> ProcessLender<A> {
         }
     }
 
+    /// Reads what is known of pages of a window, one after another, from the page `first` on: as many as `pages` has places. Returns false, and reads
+    /// nothing, if there is no such window, or if they aren't all there.
+    pub fn read_pages(&self, window: usize, first: usize, pages: &mut [WindowPage]) -> bool
+        ensures { SeenIn (λ w. ReadsPages first result pages.old pages.new w.pages) (NoneRead result pages.old pages.new) window self.now }
+    {
+        if window >= self.windows.len() {
+            return false;
+        }
+        match &self.windows[window] {
+            None => false,
+            Some(tables) => tables.read_pages(first, pages),
+        }
+    }
+
+    /// Notes something of a page of a window, and its part's counts follow. Returns false, and notes nothing, if there is no such window or page.
+    pub fn note_page(&mut self, window: usize, page: usize, notice: PageNotice) -> bool
+        ensures { InPages (NotesPage notice page result) (result ≡ false) window self.old self.new }
+    {
+        if window >= self.windows.len() {
+            return false;
+        }
+        match &mut self.windows[window] {
+            None => false,
+            Some(tables) => tables.note_page(page, notice),
+        }
+    }
+
     /// Returns the part of a page of a window, `None` if there is none.
     pub fn part(&self, window: usize, first: usize) -> Option<Part>
         ensures { result ≡ option_map_or (part_of first) (window_at window self.now.windows) None }
@@ -219,19 +247,33 @@ impl<A: Allocator> ProcessLender<A> {
             Some(tables) => tables.set_whole(&mut self.mappings, first, is_whole),
         }
     }
+}
 
+impl<A: Allocator + Clone> ProcessLender<A> {
     /// Notes that pages of a window were pinned once more, or once less. Returns whether it did: not if there is no such window, if one of them isn't
     /// there, was pinned 65,535 times, or is to be unpinned and isn't pinned. Then nothing changes.
-    pub fn set_pins(&mut self, window: usize, first: usize, count: usize, is_pinned: bool) -> bool
-        ensures done { result ≡ option_map_or (λ w. can_change_pins is_pinned first count w.pins) (window_at window self.old.windows) false }
-        ensures pins { self.new ≡ window_changed (with_pins is_pinned first count) window (window_at window self.old.windows) self.old }
+    ///
+    /// # Errors
+    ///
+    /// None of its pages was pinned yet, and there is no memory for their counts. Then nothing changed.
+    pub fn set_pins(
+        &mut self,
+        window: usize,
+        first: usize,
+        count: usize,
+        is_pinned: bool,
+    ) -> Result<bool, AllocError>
+        ensures done { IfOk result (λ is. is ≡ option_map_or (λ w. can_change_pins is_pinned first count (pins_of w)) (window_at window self.old.windows) false) }
+        ensures pins { OnOk result (self.new ≡ window_changed (with_pins is_pinned first count) window (window_at window self.old.windows) self.old) }
+        ensures same { OnErr result (self.new ≡ self.old) }
     {
+        let alloc = self.alloc.clone()?;
         if window >= self.windows.len() {
-            return false;
+            return Ok(false);
         }
         match &mut self.windows[window] {
-            None => false,
-            Some(tables) => tables.set_pins(first, count, is_pinned),
+            None => Ok(false),
+            Some(tables) => tables.set_pins(alloc, first, count, is_pinned),
         }
     }
 }

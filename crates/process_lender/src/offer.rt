@@ -85,7 +85,7 @@ pub(crate) fn new_tables<A: Allocator + Clone>(
     let many = parts_in(&pages, lead);
     let counts = new_counts(alloc.clone()?, many)?;
     let parts = new_parts(alloc.clone()?, many)?;
-    let pins = vec![in alloc; 0; count]?;
+    let pins = Vec::new(alloc);
     Ok(WindowTables {
         pages,
         counts,

@@ -1,12 +1,12 @@
 //! Parts of a window, and pages of it that were pinned.
-ghost use Rattle.std.specs.Prelude.{◌≡◌, is_some, slice_get};
-ghost use Rattle.process_lender.specs.Parts.{SetsPart, SetsWhole, can_change_pins, counts_of, noted, order_at, part_noted, part_of, with_pins};
+ghost use Rattle.std.specs.Prelude.{◌≡◌, IfOk, OnErr, OnOk, is_some, slice_get};
+ghost use Rattle.process_lender.specs.Parts.{SetsPart, SetsWhole, can_change_pins, counts_of, noted, order_at, part_noted, part_of, pins_of, pins_then, with_pins};
 ghost use Rattle.window_tables.specs.Tables.{part_at};
 
 use crate::PartNotice;
 use crate::tables::WindowTables;
 use page_looks::parts::{Part, PartConfig, PartLook, PartOrder};
-use std::alloc::Allocator;
+use std::alloc::{AllocError, Allocator};
 use window_pages::{PartCounts, WindowPage};
 use window_tables::pins::{pin, unpin};
 use window_tables::{PART, set_whole};
@@ -59,6 +59,18 @@ fn set_in<A: Allocator>(
     ensures { SetsPart first is_whole result lead mappings.old mappings.new pages.now parts.old.items parts.new.items }
 {
     set_whole(pages, parts, lead, first, is_whole, mappings)
+}
+
+// Pins pages once more, or once less, of whose counts these are. Returns whether it did.
+fn change_pins(counts: &mut [u16], first: usize, count: usize, is_pinned: bool) -> bool
+    ensures done { result ≡ can_change_pins is_pinned first count counts.old }
+    ensures pins { counts.new ≡ pins_then is_pinned first count counts.old }
+{
+    if is_pinned {
+        pin(counts, first, count)
+    } else {
+        unpin(counts, first, count)
+    }
 }
 
 impl<A: Allocator> WindowTables<A> {
@@ -143,15 +155,26 @@ impl<A: Allocator> WindowTables<A> {
         true
     }
 
-    // Pins pages once more, or once less.
-    pub(crate) fn set_pins(&mut self, first: usize, count: usize, is_pinned: bool) -> bool
-        ensures done { result ≡ can_change_pins is_pinned first count self.old.pins }
-        ensures pins { self.new ≡ with_pins is_pinned first count self.old }
+    // Pins pages once more, or once less. Where none was pinned yet it first gets memory for the counts of all.
+    pub(crate) fn set_pins(
+        &mut self,
+        alloc: A,
+        first: usize,
+        count: usize,
+        is_pinned: bool,
+    ) -> Result<bool, AllocError>
+        ensures done { IfOk result (λ is. is ≡ can_change_pins is_pinned first count (pins_of self.old)) }
+        ensures pins { OnOk result (self.new ≡ with_pins is_pinned first count self.old) }
+        ensures same { OnErr result (self.new ≡ self.old) }
     {
-        if is_pinned {
-            pin(&mut self.pins, first, count)
-        } else {
-            unpin(&mut self.pins, first, count)
+        if !self.pins.is_empty() {
+            return Ok(change_pins(&mut self.pins, first, count, is_pinned));
         }
+        let mut pins = vec![in alloc; 0; self.pages.len()]?;
+        let done = change_pins(&mut pins, first, count, is_pinned);
+        if done {
+            self.pins = pins;
+        }
+        Ok(done)
     }
 }

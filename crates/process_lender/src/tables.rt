@@ -15,7 +15,7 @@ pub(crate) struct WindowTables<A: Allocator> {
     pub(crate) counts: Vec<PartCounts, A>,
     // Its parts.
     pub(crate) parts: Vec<Part, A>,
-    // How often each page was pinned.
+    // How often each page was pinned. Empty as long as none was.
     pub(crate) pins: Vec<u16, A>,
     // How many pages of its first part lie before it.
     pub(crate) lead: usize,
