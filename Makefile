@@ -173,12 +173,12 @@ out/host/libpageshare-window.so: $(WINDOW_SOURCES) $(HOST_HEADERS) $(WINDOW_LIBR
 	@mkdir -p $(@D)
 	$(CC) $(HOST_FLAGS) -fPIC -shared -fvisibility=hidden $(WINDOW_LINK) -o $@ $(WINDOW_SOURCES) $(WINDOW_LIBRARY) -ldl
 
-out/libpageshare_window.a: $(SOURCES)
+out/proved_window.a: $(SOURCES)
 	tools/build.py pageshare_window_c $@
-
 out/proved_host.a: $(SOURCES)
 	tools/build.py pageshare_host_c $@
 
-out/libpageshare_host.a: out/proved_host.a
+# (with the kit's calls of malloc, realloc and free, of which a program may have its own)
+out/libpageshare_window.a out/libpageshare_host.a: out/libpageshare_%.a: out/proved_%.a
 	rm -f $@
 	printf 'create $@\naddlib $<\naddlib %s/c/liblibc_c.a\nsave\nend\n' "$$(dirname "$$(rt doc)")" | ar -M

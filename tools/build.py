@@ -14,7 +14,7 @@ says of which files FILE was built, and nothing is done where these are as they 
 
 --products builds all that is installed and all that `make check` needs, or of these what is for a processor LEVEL, side by side, and ends
 with 'N passed, M failed'. --libraries does the same for the static libraries of x86-64-v2: out/proved.a, out/proved_host.a and
-out/libpageshare_window.a. Status 0 where each FILE was written, else 1.
+out/proved_window.a. Status 0 where each FILE was written, else 1.
 """
 from __future__ import annotations
 
@@ -61,7 +61,7 @@ PRODUCTS = [
     Product("pageshare_c", OUT / "v3/proved.a", "x86-64-v3"),
     Product("pageshare_c", OUT / "proved.a"),
     Product("pageshare_host_c", OUT / "proved_host.a"),
-    Product("pageshare_window_c", OUT / "libpageshare_window.a"),
+    Product("pageshare_window_c", OUT / "proved_window.a"),
     Product("pageshare", OUT / "pageshare-v3", "x86-64-v3"),
     Product("pageshare", OUT / "pageshare"),
     Product("window_trace", OUT / "window_trace"),

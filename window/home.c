@@ -21,7 +21,7 @@ static void clear(struct window *window, size_t first, size_t count) {
 /* Notes that pages were given up: they are zeros, and take no memory, unless they had to be cleared. */
 static void note_given_up(struct window *window, size_t first, size_t count, bool are_cleared) {
     struct windows *windows = window->windows;
-    pageshare_window_give_up(TABLES(window), first, count);
+    NOTE(window, first, count, .kind = PAGESHARE_PROCESS_GIVEN_UP);
     for (size_t page = first; page < first + count; page++) {
         if (are_cleared) trace_copy(windows->trace, window->base + (uint32_t)page, address_of(window, page));
         else trace_discard(windows->trace, window->base + (uint32_t)page);
@@ -45,9 +45,9 @@ static struct window_result give_up(struct window *window, const struct pageshar
     const bool are_over = run->kind == PAGESHARE_WINDOW_KIND_IN_FRAMES;
     /* (what is mapped anew the caller's own userfaultfd watches no more) */
     if (are_over && is_watched_by_caller(window, first, count)) return result_of(WINDOW_WATCHED, EBUSY);
-    unsigned by = pageshare_window_given_up_by(TABLES(window), first, count, windows->is_watched);
-    bool is_anew = (by & PAGESHARE_WINDOW_BY_ZEROS) != 0 && map_pages(window, first, count, ZEROS, PROT_READ | PROT_WRITE) == 0;
-    bool are_cleared = (by & PAGESHARE_WINDOW_BY_CLEARING) != 0 && !is_anew;
+    bool wants = MAY(window, first, count, .kind = PAGESHARE_PROCESS_WANT_ZEROS, .flag = windows->is_watched);
+    bool is_anew = wants && map_pages(window, first, count, ZEROS, PROT_READ | PROT_WRITE) == 0;
+    bool are_cleared = are_over && !is_anew;
     if (!is_anew && !are_cleared && madvise(address_of(window, first), bytes_of(count), MADV_DONTNEED) < 0)
         return result_of(WINDOW_NO_MAPPING, errno);
     if (is_anew) note_apart(window, first, count);
@@ -62,7 +62,7 @@ static struct window_result give_up_left(struct window *window, size_t first, co
     if (is_watched_by_caller(window, first, facts->pages)) return result_of(WINDOW_WATCHED, EBUSY);
     /* (what can't be written takes a mapping in any case: a guest can't make it be so) */
     bool may_clear = (facts->protection & PROT_WRITE) != 0;
-    bool has_room = !may_clear || has_room_for_zeros(window, first, facts->pages);
+    bool has_room = !may_clear || MAY(window, first, facts->pages, .kind = PAGESHARE_PROCESS_TAKE_ZEROS);
     int cause = has_room ? map_pages(window, first, facts->pages, ZEROS, facts->protection) : ENOMEM;
     bool are_cleared = cause != 0 && may_clear;
     if (cause != 0 && !are_cleared) return result_of(WINDOW_NO_MAPPING, cause);
@@ -109,7 +109,8 @@ struct window_result for_parts(struct window *window, size_t first, size_t count
 }
 
 static struct window_result discard_part(struct window *window, size_t first, size_t count) {
-    struct window_result result = may_give_up(window, first, count) ? result_of(WINDOW_OK, 0) : result_of(WINDOW_STUCK, EBUSY);
+    bool may = MAY(window, first, count, .kind = PAGESHARE_PROCESS_GIVE_UP);
+    struct window_result result = may ? result_of(WINDOW_OK, 0) : result_of(WINDOW_STUCK, EBUSY);
     struct pageshare_window_run run = {.first = first};
     while (result.status == WINDOW_OK && go_to_run(window, &run, first + count, ITS))
         result = run.kind == PAGESHARE_WINDOW_KIND_LEFT ? give_up_all_left(window, &run) : give_up(window, &run);
@@ -164,7 +165,7 @@ static int find_which_stay(struct home *home) {
     struct windows *windows = home->window->windows;
     find_pins(windows);
     int cause = pagemap_find_copies(&windows->pagemap, address_of(home->window, home->first), home->count, home->stays);
-    if (cause == 0) find_staying(home->window, home->first, home->stays, home->count, home->why);
+    if (cause == 0) pageshare_process_find_staying(OF(home->window), home->why, home->first, home->stays, home->count);
     return cause;
 }
 
@@ -177,7 +178,7 @@ static int bring(struct home *home, size_t from, size_t count) {
             copy_page(copies + bytes_of(i), to + bytes_of(i));
     if (mremap(copies, bytes_of(count), bytes_of(count), MREMAP_MAYMOVE | MREMAP_FIXED, to) == MAP_FAILED) return errno;
     note_moved(window, home->first + from, count);
-    pageshare_window_moved_home(TABLES(window), home->first + from, count);
+    NOTE(window, home->first + from, count, .kind = PAGESHARE_PROCESS_MOVED_HOME);
     for (size_t i = from; i < from + count; i++)
         trace_copy(window->windows->trace, window->base + (uint32_t)(home->first + i), to + bytes_of(i - from));
     window->windows->counts.taken_home += count;
@@ -215,7 +216,7 @@ static int bring_home(struct home *home) {
 /* Gives pages that come home by that, at most PART, a copy of their own where they are. Returns 0 or an errno. */
 static int copy_in_place(struct window *window, const struct pageshare_window_run *run) {
     if (madvise(address_of(window, run->first), bytes_of(run->count), MADV_POPULATE_WRITE) < 0) return errno;
-    pageshare_window_copied_home(TABLES(window), run->first, run->count);
+    NOTE(window, run->first, run->count, .kind = PAGESHARE_PROCESS_COPIED_HOME);
     for (size_t page = run->first; page < run->first + run->count; page++)
         trace_copy(window->windows->trace, window->base + (uint32_t)page, address_of(window, page));
     window->windows->counts.taken_home += run->count;
@@ -226,10 +227,10 @@ static int copy_in_place(struct window *window, const struct pageshare_window_ru
 static struct window_result settle_home(struct window *window, size_t first, size_t count) {
     struct pageshare_window_run run = {.first = first};
     int cause = 0;
-    order_home(window, first, count, &(struct pageshare_window_facts){.pinned = true});
+    NOTE(window, first, count, .kind = PAGESHARE_PROCESS_CALLED_HOME, .why = {.pinned = true});
     while (cause == 0 && go_to_run(window, &run, first + count, PAGESHARE_WINDOW_KIND_COMING))
         cause = copy_in_place(window, &run);
-    pageshare_window_refused_home(TABLES(window), first, count);
+    NOTE(window, first, count, .kind = PAGESHARE_PROCESS_REFUSED_HOME);
     return cause == 0 ? result_of(WINDOW_OK, 0) : result_of(WINDOW_NO_MAPPING, cause);
 }
 
@@ -248,14 +249,15 @@ struct window_result take_home_for(struct window *window, size_t first, size_t c
     while (go_to_run(window, &run, first + count, PAGESHARE_WINDOW_KIND_IN_FRAMES)) {
         run.count = least(run.count, HOME_MOST);
         struct home home = {.window = window, .first = run.first, .count = run.count, .why = &why};
-        order_home(window, run.first, run.count, &why);
+        NOTE(window, run.first, run.count, .kind = PAGESHARE_PROCESS_CALLED_HOME, .why = why);
         int cause = bring_home(&home);
-        pageshare_window_refused_home(TABLES(window), run.first, run.count);
+        NOTE(window, run.first, run.count, .kind = PAGESHARE_PROCESS_REFUSED_HOME);
         if (windows->stuck_count > 0) return result_of(WINDOW_STUCK, cause);
         struct window_result result = settle_home(window, run.first, run.count);
         if (result.status != WINDOW_OK) return result;
     }
-    return may_go_on(window, first, count, why) ? result_of(WINDOW_OK, 0) : result_of(WINDOW_STUCK, EBUSY);
+    bool may = MAY(window, first, count, .kind = PAGESHARE_PROCESS_GO_ON, .why = why);
+    return may ? result_of(WINDOW_OK, 0) : result_of(WINDOW_STUCK, EBUSY);
 }
 
 void take_all_home(struct windows *windows) {
@@ -290,7 +292,7 @@ static struct window_result cut_part(struct window *window, size_t first, size_t
     struct window_result result = take_home_for(window, first, count, (struct pageshare_window_facts){.leaves = true});
     if (result.status != WINDOW_OK) return result;
     end_advice(window, first, count);
-    pageshare_window_leave(TABLES(window), first, count);
+    NOTE(window, first, count, .kind = PAGESHARE_PROCESS_LEFT);
     return result;
 }
 
@@ -319,5 +321,5 @@ void window_forget(struct window *window, size_t first, size_t count) {
     while (go_to_run(window, &run, first + count, ITS))
         for (size_t page = run.first; page < run.first + run.count; page++)
             trace_discard(windows->trace, window->base + (uint32_t)page);
-    pageshare_window_unmap(TABLES(window), first, count);
+    NOTE(window, first, count, .kind = PAGESHARE_PROCESS_UNMAPPED);
 }

@@ -32,8 +32,6 @@ struct hold {
     bool missing[HOLD_MOST];  /* nobody waits for the page any more, and what was mapped there has no page yet */
 };
 
-static page_entry *page_of(const struct hold *hold, size_t i) { return &hold->window->pages[hold->first + i]; }
-
 static uint8_t *place_of(const struct hold *hold, size_t i) { return address_of(hold->window, hold->first + i); }
 
 static uint8_t *aside_of(const struct hold *hold, size_t i) {
@@ -61,7 +59,7 @@ static void guard(struct hold *hold) {
     find_pins(windows);
     if (cause == 0 && may_pin(windows)) cause = pagemap_find_copies(&windows->pagemap, at, hold->count, stay);
     if (cause != 0) note_failure(windows, WINDOW_NO_MAPPING, cause);
-    find_staying(hold->window, hold->first, stay, hold->count, &nothing_more);
+    pageshare_process_find_staying(OF(hold->window), &nothing_more, hold->first, stay, hold->count);
     for (size_t i = 0; i < hold->count; i++) hold->held[i] = cause == 0 && !stay[i];
 }
 
@@ -69,7 +67,7 @@ static void guard(struct hold *hold) {
 static bool begin_hold(struct hold *hold) {
     struct windows *windows = hold->window->windows;
     void *at = address_of(hold->window, hold->first);
-    bool is_over_frame = is_over(page_of(hold, 0));
+    bool is_over_frame = MAY(hold->window, hold->first, 1, .kind = PAGESHARE_PROCESS_LIE_OVER);
     hold->moves = windows->faults.moves && !is_over_frame;
     if (!hold->moves && !is_over_frame && may_pin(windows)) return false;
     int cause = 0;
@@ -110,7 +108,7 @@ static void take(struct hold *hold) {
         hold->left += hold->held[i] ? 1 : 0;
         window->windows->counts.pinned += hold->held[i] ? 0 : 1;
     }
-    pageshare_window_begin_row(TABLES(window), hold->first, hold->row, hold->count, takings, hold->count);
+    pageshare_process_begin_row(OF(window), hold->first, hold->row, hold->count, takings, hold->count);
     for (size_t i = 0; i < hold->count; i++) {
         if (!hold->held[i]) continue;
         trace_content(trace, number_of(hold, i), memory_of(hold, i));
@@ -128,10 +126,12 @@ typedef struct came hold_do(struct hold *hold, const struct pageshare_window_row
 static struct came compare(struct hold *hold, const struct pageshare_window_row_order *todo) {
     struct windows *windows = hold->window->windows;
     bool is_frame = todo->step == PAGESHARE_WINDOW_HOLD_COMPARE;
+    page_entry pages[HOLD_MOST];
+    pageshare_process_read_pages(OF(hold->window), hold->first + todo->first, pages, todo->count);
     for (size_t done = 0; done < todo->count; done++) {
         size_t i = todo->first + done;
         const uint8_t *page = memory_of(hold, i);
-        uint32_t frame = page_of(hold, i)->frame;
+        uint32_t frame = pages[done].frame;
         const uint8_t *frames = windows->frames_at; /* (NULL if lending has ended since: then they aren't equal) */
         bool is_equal = is_frame ? frames != NULL && are_equal(page, frames + bytes_of(frame)) : is_zero(page);
         windows->counts.changed += is_equal ? 0 : 1;
@@ -167,14 +167,14 @@ static void note_held(struct hold *hold, size_t count) {
 /* Maps frames in a row, or zeros, and lets the threads go on that wait for them. */
 static struct came map(struct hold *hold, const struct pageshare_window_row_order *todo) {
     struct windows *windows = hold->window->windows;
+    const size_t first = hold->first + todo->first;
     bool is_frame = todo->step == PAGESHARE_WINDOW_HOLD_MAP;
-    uint32_t target = is_frame ? page_of(hold, todo->first)->frame : ZEROS;
-    bool has_room = is_frame || has_room_for_zeros(hold->window, hold->first + todo->first, todo->count);
+    uint32_t target = is_frame ? page_of(hold->window, first).frame : ZEROS;
+    bool has_room = is_frame || MAY(hold->window, first, todo->count, .kind = PAGESHARE_PROCESS_TAKE_ZEROS);
     trace_dawdle();
     for (size_t i = todo->first; i < todo->first + todo->count; i++)
         hold->given_up[i] = is_cleared(hold->window, hold->first + i);
-    int cause =
-        has_room ? map_pages(hold->window, hold->first + todo->first, todo->count, target, PROT_READ | PROT_WRITE) : ENOMEM;
+    int cause = has_room ? map_pages(hold->window, first, todo->count, target, PROT_READ | PROT_WRITE) : ENOMEM;
     if (cause != 0) {
         note_crowded(windows, todo->count);
         if (has_room) note_failure(windows, WINDOW_NO_MAPPING, cause);
@@ -207,13 +207,12 @@ static struct came put_back(struct hold *hold, const struct pageshare_window_row
 }
 
 /* Notes that nobody waits for a page any longer, unless the system refused that. */
-static void note_end(struct hold *hold, size_t i, bool is_done) {
+static void note_end(struct hold *hold, size_t i, const page_entry *page, bool is_done) {
     struct windows *windows = hold->window->windows;
-    const page_entry *page = page_of(hold, i);
     bool is_zeros = belief_of(page) == (PAGESHARE_WINDOW_EQUAL | PAGESHARE_WINDOW_ZEROS);
     bool is_given = is_zeros || is_lent(page);
     if (is_zeros) {
-        note_zero(hold->window, hold->first + i, true);
+        pageshare_process_note_page(OF(hold->window), hold->first + i, PAGESHARE_PROCESS_GIVEN_BACK, true);
         windows->counts.zeros++;
         hold->missing[i] = is_done && !hold->given_up[i];
         if (is_done) trace_discard(windows->trace, number_of(hold, i));
@@ -224,7 +223,9 @@ static void note_end(struct hold *hold, size_t i, bool is_done) {
 /* Lets the threads go on that wait for pages. */
 static struct came end_watch(struct hold *hold, const struct pageshare_window_row_order *todo) {
     int cause = faults_end_watch(&hold->window->windows->faults, place_of(hold, todo->first), todo->count);
-    for (size_t i = todo->first; i < todo->first + todo->count; i++) note_end(hold, i, cause == 0);
+    page_entry pages[HOLD_MOST];
+    pageshare_process_read_pages(OF(hold->window), hold->first + todo->first, pages, todo->count);
+    for (size_t i = 0; i < todo->count; i++) note_end(hold, todo->first + i, &pages[i], cause == 0);
     if (cause == 0) return (struct came){.done = todo->count};
     hold->stuck_cause = cause;
     return (struct came){.refused = todo->count};
@@ -251,13 +252,14 @@ static void carry_out(struct hold *hold) {
         [PAGESHARE_WINDOW_HOLD_PUT_BACK] = put_back, [PAGESHARE_WINDOW_HOLD_END_WATCH] = end_watch,
     };
     struct window *window = hold->window;
+    const size_t first = hold->first, count = hold->count;
     struct pageshare_window_row_order todo;
-    while ((todo = next_of_row(window, hold->first, hold->row, hold->count)).step != PAGESHARE_WINDOW_HOLD_OVER) {
+    while (pageshare_process_next_of_row(OF(window), first, hold->row, count, &todo), todo.step != PAGESHARE_WINDOW_HOLD_OVER) {
         const struct came came = does[todo.step](hold, &todo);
-        pageshare_window_row_done(TABLES(window), hold->first, hold->row, hold->count, &todo, came.done, came.refused);
+        pageshare_process_row_done(OF(window), first, hold->row, count, &todo, came.done, came.refused);
     }
-    for (size_t i = 0; i < hold->count; i++)
-        if ((hold->row[i] & PAGESHARE_WINDOW_STUCK) != 0) add_stuck(window, hold->first + i, hold->row[i], hold->scratch + i);
+    for (size_t i = 0; i < count; i++)
+        if ((hold->row[i] & PAGESHARE_WINDOW_STUCK) != 0) add_stuck(window, first + i, hold->row[i], hold->scratch + i);
 }
 
 int free_stuck(struct windows *windows) {
@@ -298,16 +300,15 @@ static void settle(struct hold *hold) {
     note_held(hold, hold->left);
     show_zeros(hold);
     for (size_t i = 0; i < hold->count; i++)
-        pageshare_window_held(page_of(hold, i), part_counts(hold->window, hold->first + i), hold->held[i]);
+        pageshare_process_note_page(OF(hold->window), hold->first + i, PAGESHARE_PROCESS_HELD, hold->held[i]);
 }
 
 /*
  * Whether a page equals what it is to show, although it may still be written: otherwise it isn't held at all. The comparison that
  * counts comes later, and finds both in the processor's cache.
  */
-static bool seems_equal(const struct window *window, size_t number) {
+static bool seems_equal(const struct window *window, size_t number, const page_entry *page) {
     const struct windows *windows = window->windows;
-    const page_entry *page = &window->pages[number];
     if (belief_of(page) == (PAGESHARE_WINDOW_READY | PAGESHARE_WINDOW_ZEROS)) return is_zero(address_of(window, number));
     return page->frame < windows->lender.frame_count && windows->frames_at != NULL &&
            are_equal(address_of(window, number), windows->frames_at + bytes_of(page->frame));
@@ -321,17 +322,32 @@ static size_t in_one_call(const uint32_t *pages, size_t count) {
     return found;
 }
 
+/* Pages of a list, while they come to be shown or copied. With the lock. */
+struct listed {
+    const uint32_t *numbers;
+    size_t known;                /* of how many of the first pages the rest is known */
+    uint8_t there[WINDOW_BATCH]; /* 1 for a page that is there */
+    uint8_t left[WINDOW_BATCH];  /* PAGESHARE_WINDOW_TO_HOLD for one that is ordered to be held, and isn't settled yet */
+    page_entry pages[WINDOW_BATCH];
+};
+
 /*
- * Finds which of the first pages are there, and returns of how many. One that was given up since it was found is missing, and reading it would
- * put the kernel's page of zeros there: who watches for missing pages later, as QEMU does for a postcopy, couldn't put another one in its place.
- * With the lock, and while it is held that stays so.
+ * Finds which of the next pages are there, of those before `end`. One that was given up since it was found is missing, and reading it would put the
+ * kernel's page of zeros there: who watches for missing pages later, as QEMU does for a postcopy, couldn't put another one in its place. While the lock
+ * is held that stays so.
  */
-static size_t find_there(const struct window *window, const uint32_t *pages, size_t most, uint8_t *there) {
+static void find_there(const struct window *window, struct listed *listed, size_t end) {
+    const uint32_t *numbers = listed->numbers + listed->known;
+    const size_t count = in_one_call(numbers, end - listed->known), all = numbers[count - 1] - numbers[0] + 1;
+    page_entry near[PART];
     bool own[PART];
-    const size_t count = in_one_call(pages, most);
-    pagemap_find_own(&window->windows->pagemap, address_of(window, pages[0]), pages[count - 1] - pages[0] + 1, own);
-    for (size_t i = 0; i < count; i++) there[i] = is_over(&window->pages[pages[i]]) || own[pages[i] - pages[0]] ? 1 : 0;
-    return count;
+    pageshare_process_read_pages(OF(window), numbers[0], near, all);
+    pagemap_find_own(&window->windows->pagemap, address_of(window, numbers[0]), all, own);
+    for (size_t i = 0; i < count; i++) {
+        const size_t at = numbers[i] - numbers[0];
+        listed->there[listed->known] = is_over(&near[at]) || own[at] ? 1 : 0;
+        listed->pages[listed->known++] = near[at];
+    }
 }
 
 void begin_turn(struct look *look) {
@@ -357,39 +373,42 @@ static void note_left_out(struct windows *windows, const uint8_t *answers, size_
     if (crowded > 0) note_crowded(windows, crowded);
 }
 
-/* Orders pages to be held. Writes 1 to `held` of each whose order that is from then on, else something else. With the lock. */
-static void order_holds(struct window *window, const uint32_t *pages, size_t count, enum wish wish, uint8_t *held) {
-    struct windows *windows = window->windows;
-    if (wish == TO_BE_SHOWN) pageshare_window_to_hold(TABLES(window), pages, count, held, count);
-    else pageshare_window_to_give_back(TABLES(window), pages, count, held, count);
-    note_left_out(windows, held, count);
+/* Orders pages in a row to be held, and reads them then. */
+static void order_holds(struct window *window, struct listed *listed, size_t from, size_t count, enum wish wish) {
+    const unsigned kind = wish == TO_BE_SHOWN ? PAGESHARE_PROCESS_TO_HOLD : PAGESHARE_PROCESS_TO_GIVE_BACK;
+    LIST(window, count, .kind = (uint8_t)kind, .numbers = listed->numbers + from, .answers = listed->left + from);
+    note_left_out(window->windows, listed->left + from, count);
+    pageshare_process_read_pages(OF(window), listed->numbers[from], listed->pages + from, count);
 }
 
-/* How many of the first pages are ordered to be held, are there, and equal what they are to show. With the lock. */
-static size_t equal_run(const struct window *window, const uint32_t *pages, const uint8_t *there, const uint8_t *held,
-                        size_t count) {
-    size_t run = 0;
-    while (run < count && held[run] == PAGESHARE_WINDOW_TO_HOLD && there[run] != 0 && seems_equal(window, pages[run])) run++;
-    return run;
+/* How many pages, from `from` on and before `end`, are ordered to be held, are there, and equal what they are to show. */
+static size_t equal_run(const struct window *window, const struct listed *listed, size_t from, size_t end) {
+    size_t i = from;
+    while (i < end && listed->left[i] == PAGESHARE_WINDOW_TO_HOLD && listed->there[i] != 0 &&
+           seems_equal(window, listed->numbers[i], &listed->pages[i]))
+        i++;
+    return i - from;
 }
 
-/* Refuses the orders of those pages that are left: they are others than those that were found. With the lock. */
-static void refuse_holds(struct window *window, const uint32_t *pages, const uint8_t *left, size_t count) {
+/* Refuses the orders of those pages that are left: they are others than those that were found. */
+static void refuse_holds(struct window *window, const struct listed *listed, size_t from, size_t count) {
     uint8_t outcomes[HOLD_MOST], answers[HOLD_MOST];
     for (size_t i = 0; i < count; i++) {
-        const bool is_left = left[i] == PAGESHARE_WINDOW_TO_HOLD;
+        const bool is_left = listed->left[from + i] == PAGESHARE_WINDOW_TO_HOLD;
         outcomes[i] = is_left ? PAGESHARE_WINDOW_COPY_CHANGED : PAGESHARE_WINDOW_NOT_COPIED;
         window->windows->counts.changed += is_left ? 1 : 0;
     }
-    pageshare_window_copied(TABLES(window), pages, count, outcomes, count, answers, count);
+    LIST(window, count, .kind = PAGESHARE_PROCESS_COPIED, .numbers = listed->numbers + from, .given = outcomes,
+         .answers = answers);
 }
 
-/* How many of the first pages are in a row, and all over frames or none. With the lock. */
-static size_t in_row(const struct window *window, const uint32_t *pages, size_t count) {
-    const bool are_over = is_over(&window->pages[pages[0]]);
+/* How many pages from `from` on are in a row, and all over frames or none. */
+static size_t in_row(const struct listed *listed, size_t from) {
+    const uint32_t *numbers = listed->numbers + from;
+    const page_entry *pages = listed->pages + from;
     size_t found = 1;
-    while (found < count && found < HOLD_MOST && pages[found] == pages[0] + found &&
-           is_over(&window->pages[pages[found]]) == are_over)
+    while (from + found < listed->known && found < HOLD_MOST && numbers[found] == numbers[0] + found &&
+           is_over(&pages[found]) == is_over(&pages[0]))
         found++;
     return found;
 }
@@ -424,22 +443,20 @@ static void settle_run(struct window *window, size_t first, size_t count, struct
 }
 
 /*
- * Settles the first of some pages that are in a row. Each is compared with what it is to show before it is held, since all of it may have
- * changed since it was found idle. Returns how many are settled, or stay as they are. With the lock.
+ * Settles pages from `from` on that are in a row. Each is compared with what it is to show before it is held, since all of it may have changed since it
+ * was found idle. Returns how many are settled, or stay as they are.
  */
-static size_t settle_row(struct window *window, const uint32_t *pages, const uint8_t *there, size_t count, enum wish wish,
-                         struct unsaid *unsaid) {
-    const size_t most = in_row(window, pages, count);
-    uint8_t left[HOLD_MOST] = {0};
-    order_holds(window, pages, most, wish, left);
-    for (size_t i = 0, run = 0; i < most; i += run > 0 ? run : 1) {
+static size_t settle_row(struct window *window, struct listed *listed, size_t from, enum wish wish, struct unsaid *unsaid) {
+    const size_t count = in_row(listed, from), end = from + count;
+    order_holds(window, listed, from, count, wish);
+    for (size_t i = from, run = 0; i<end; i += run> 0 ? run : 1) {
         /* (while a page is stuck none is held) */
-        run = window->windows->stuck_count == 0 ? equal_run(window, pages + i, there + i, left + i, most - i) : 0;
-        if (run > 0) settle_run(window, pages[i], run, unsaid);
-        memset(left + i, 0, run);
+        run = window->windows->stuck_count == 0 ? equal_run(window, listed, i, end) : 0;
+        if (run > 0) settle_run(window, listed->numbers[i], run, unsaid);
+        memset(listed->left + i, 0, run);
     }
-    refuse_holds(window, pages, left, most);
-    return most;
+    refuse_holds(window, listed, from, count);
+    return count;
 }
 
 /*
@@ -449,14 +466,13 @@ static size_t settle_row(struct window *window, const uint32_t *pages, const uin
 static size_t settle_some(struct look *look, const uint32_t *pages, size_t count, enum wish wish) {
     struct windows *windows = look->windows;
     struct unsaid unsaid = {.end = 0};
-    size_t done = 0, known = 0;
-    uint8_t there[SETTLE_MOST + HOLD_MOST];
+    struct listed listed = {.numbers = pages};
+    size_t done = 0;
     begin_turn(look);
     lock_for_look(windows);
     for (size_t rows = 0; rows < ROWS_MOST && done < least(count, SETTLE_MOST) && windows->stuck_count == 0; rows++) {
-        const size_t most = least(count, SETTLE_MOST + HOLD_MOST) - done;
-        if (done == known) known += find_there(look->window, pages + done, most, there + done);
-        done += settle_row(look->window, pages + done, there + done, known - done, wish, &unsaid);
+        if (done == listed.known) find_there(look->window, &listed, least(count, SETTLE_MOST + HOLD_MOST));
+        done += settle_row(look->window, &listed, done, wish, &unsaid);
     }
     say_unsaid(look->window, &unsaid);
     unlock_set(windows);
@@ -509,7 +525,8 @@ static void take_answers(struct window *window, struct batch *batch, const uint8
     const size_t count = batch->count;
     uint8_t answers[WINDOW_BATCH] = {0};
     lock_for_look(windows);
-    pageshare_window_answered(TABLES(window), batch->pages, count, batch->fingerprints, count, seen, count, answers, count);
+    LIST(window, count, .kind = PAGESHARE_PROCESS_ANSWERED, .numbers = batch->pages, .fingerprints = batch->fingerprints,
+         .given = seen, .answers = answers);
     note_left_out(windows, answers, count);
     for (size_t i = 0; i < count; i++) windows->counts.seen += seen[i] != 0 ? 1 : 0;
     windows->counts.asked += count;
@@ -528,8 +545,8 @@ static void take_lendable(struct look *look, uint32_t *numbers, bool *passing) {
     const size_t count = least(look->idle.count, WINDOW_BATCH);
     uint8_t answers[WINDOW_BATCH] = {0};
     lock_for_look(windows);
-    const struct pageshare_window_look now = look_now(windows);
-    pageshare_window_to_ask(TABLES(window), &now, look->idle.pages, count, answers, count);
+    LIST(window, count, .kind = PAGESHARE_PROCESS_TO_ASK, .numbers = look->idle.pages, .look = look_now(windows),
+         .answers = answers);
     note_left_out(windows, answers, count);
     unlock_set(windows);
     for (size_t i = 0, n = 0; i < count; i++) {
@@ -563,48 +580,49 @@ bool ask_lender(struct look *look) {
  * Whether a copy is of the page that a look found, by the check that is due. What a glance misses costs a loan at most, since the host compares
  * whole pages, and so does the thread before it maps a frame.
  */
-static bool is_as_found(const struct window *window, size_t number, uint8_t check, const unsigned char *copy,
+static bool is_as_found(const struct windows *windows, const page_entry *page, uint8_t check, const unsigned char *copy,
                         uint64_t fingerprint) {
-    if (check == PAGESHARE_WINDOW_CHECK_FINGERPRINT) return fingerprint_of(window->windows->lender.salt, copy) == fingerprint;
-    return check == PAGESHARE_WINDOW_CHECK_GLANCE && glance_at(fingerprint, copy) == clue_in(&window->pages[number]);
+    if (check == PAGESHARE_WINDOW_CHECK_FINGERPRINT) return fingerprint_of(windows->lender.salt, copy) == fingerprint;
+    return check == PAGESHARE_WINDOW_CHECK_GLANCE && glance_at(fingerprint, copy) == clue_in(page);
 }
 
-/* Copies a page to a place in the lender's buffer, with nothing guarded. Returns enum pageshare_window_copied. With the lock. */
-static uint8_t copy_one(struct window *window, size_t number, uint8_t check, unsigned char *to, uint64_t fingerprint) {
+/* Copies a page of a batch to a place in the lender's buffer, with nothing guarded. Returns enum pageshare_window_copied. With the lock. */
+static uint8_t copy_one(struct look *look, size_t i, uint8_t check, const page_entry *page, unsigned char *to) {
+    const struct batch *batch = &look->batch;
     if (check == PAGESHARE_WINDOW_CHECK_NO_COPY) return PAGESHARE_WINDOW_NOT_COPIED;
-    copy_page(to, address_of(window, number));
-    const bool is_same = is_as_found(window, number, check, to, fingerprint);
-    window->windows->counts.changed += is_same ? 0 : 1;
+    copy_page(to, address_of(look->window, batch->pages[i]));
+    const bool is_same = is_as_found(look->windows, page, check, to, batch->fingerprints[i]);
+    look->windows->counts.changed += is_same ? 0 : 1;
     if (!is_same) return PAGESHARE_WINDOW_COPY_CHANGED;
     return is_zero(to) ? PAGESHARE_WINDOW_COPY_ZEROS : PAGESHARE_WINDOW_COPY_GOOD;
 }
 
 /* Finds how the copy of each page of a batch is checked: enum pageshare_window_check. With the lock. */
-static void find_copies(struct window *window, const struct batch *batch, uint8_t *checks) {
+static void find_copies(struct window *window, const struct batch *batch, struct listed *listed, uint8_t *checks) {
     const size_t count = batch->count;
-    uint8_t there[WINDOW_BATCH];
-    for (size_t found = 0; found < count;) found += find_there(window, batch->pages + found, count - found, there + found);
-    pageshare_window_to_copy(TABLES(window), batch->pages, count, there, count, batch->fingerprints, count, checks, count);
+    while (listed->known < count) find_there(window, listed, count);
+    LIST(window, count, .kind = PAGESHARE_PROCESS_TO_COPY, .numbers = batch->pages, .given = listed->there,
+         .fingerprints = batch->fingerprints, .answers = checks);
 }
 
 /* Leaves those pages of the batch that can be lent still. Nothing is guarded: their users may write to them. */
 bool copy_for_lender(struct look *look) {
     struct windows *windows = look->windows;
-    struct window *window = look->window;
     struct batch *batch = &look->batch;
-    const size_t count = batch->count;
     size_t kept = 0;
     uint32_t copied[WINDOW_BATCH];
     uint8_t checks[WINDOW_BATCH] = {0}, outcomes[WINDOW_BATCH], lends[WINDOW_BATCH];
+    struct listed listed = {.numbers = batch->pages};
     lock_for_look(windows);
-    find_copies(window, batch, checks);
-    for (size_t i = 0; i < count; i++) {
-        outcomes[i] = copy_one(window, batch->pages[i], checks[i], windows->lender.pages[kept], batch->fingerprints[i]);
+    find_copies(look->window, batch, &listed, checks);
+    for (size_t i = 0; i < batch->count; i++) {
+        outcomes[i] = copy_one(look, i, checks[i], &listed.pages[i], windows->lender.pages[kept]);
         copied[kept] = batch->pages[i];
         kept += outcomes[i] == PAGESHARE_WINDOW_COPY_GOOD ? 1 : 0;
     }
     /* (the lock was held: of each good copy a loan is to be asked for) */
-    pageshare_window_copied(TABLES(window), batch->pages, count, outcomes, count, lends, count);
+    LIST(look->window, batch->count, .kind = PAGESHARE_PROCESS_COPIED, .numbers = batch->pages, .given = outcomes,
+         .answers = lends);
     unlock_set(windows);
     memcpy(batch->pages, copied, kept * sizeof copied[0]);
     batch->count = kept;
@@ -631,8 +649,8 @@ static void take_loans(struct window *window, struct batch *batch, const struct 
     uint8_t answers[WINDOW_BATCH] = {0};
     for (size_t i = 0; i < count; i++) slots[i] = loans[i].slot, frames[i] = loans[i].frame;
     lock_for_look(windows);
-    pageshare_window_loaned(TABLES(window), batch->pages, count, slots, count, frames, count, windows->lender.frame_count,
-                            are_got, answers, count);
+    LIST(window, count, .kind = PAGESHARE_PROCESS_LOANED, .numbers = batch->pages, .slots = slots, .frames = frames,
+         .file_frames = windows->lender.frame_count, .is_heard = are_got, .answers = answers);
     for (size_t i = 0; i < count; i++) {
         note_loan(windows, frames[i], answers[i]);
         batch->pages[kept] = batch->pages[i];

@@ -74,13 +74,16 @@ static void take_glances(struct scan *scan) {
     const struct window *window = scan->window;
     uint16_t places[PART];
     uint64_t numbers[PART];
+    page_entry pages[PART];
     const size_t count = find_with(scan, PAGESHARE_WINDOW_FIND_GLANCE, places);
-    pageshare_window_glance_numbers(TABLES(window), scan->first, places, count, numbers, count);
+    if (count == 0) return;
+    pageshare_process_read_pages(OF(window), scan->first, pages, scan->count);
+    pageshare_process_glance_numbers(OF(window), scan->first, places, count, numbers, count);
     for (size_t at = 0; at < count; at++) {
         if (at + AHEAD < count)
             __builtin_prefetch(page_at(scan, places[at + AHEAD]) + glance_place(numbers[at + AHEAD]) * sizeof(uint64_t));
         scan->outcomes[places[at]].glance = glance(scan, places[at], numbers[at]);
-        window->windows->counts.fresh += looks_of(&window->pages[scan->first + places[at]]) == 0 ? 1 : 0;
+        window->windows->counts.fresh += looks_of(&pages[places[at]]) == 0 ? 1 : 0;
     }
 }
 
@@ -97,36 +100,43 @@ static void read_pages(struct scan *scan) {
     windows->counts.reads += count;
 }
 
+/* Does something in a scan: the library writes what is done next with each page. */
+static void go_on(struct scan *scan, enum pageshare_process_scan_kind kind) {
+    struct pageshare_process_scan its = {.first = scan->first, .look = *scan->look, .kind = (uint8_t)kind};
+    its.memory = scan->memory;
+    its.outcomes = scan->outcomes;
+    its.row = scan->steps;
+    its.memory_count = its.outcomes_count = its.row_count = scan->count;
+    pageshare_process_scan(OF(scan->window), &its);
+}
+
 /* Does what is to be done with the pages of a part, one step of all of them after another. */
 static void scan_pages(struct scan *scan) {
-    struct window *window = scan->window;
-    const struct pageshare_window_part *part = part_of(window, scan->first);
-    pageshare_window_begin_scan(TABLES(window), scan->look, part, scan->first, scan->memory, scan->count, scan->steps,
-                                scan->count);
+    go_on(scan, PAGESHARE_PROCESS_SCAN_BEGIN);
     while (find_due(scan)) {
         find_copies(scan);
         take_glances(scan);
         read_pages(scan);
-        pageshare_window_scan_done(TABLES(window), scan->look, part, scan->first, scan->outcomes, scan->count, scan->steps,
-                                   scan->count);
-        if (count_bit(scan, PAGESHARE_WINDOW_SCAN_CHANGED) > 0)
-            pageshare_window_follow_changes(TABLES(window), scan->look, part, scan->first, scan->memory, scan->count, scan->steps,
-                                            scan->count);
+        go_on(scan, PAGESHARE_PROCESS_SCAN_DONE);
+        if (count_bit(scan, PAGESHARE_WINDOW_SCAN_CHANGED) > 0) go_on(scan, PAGESHARE_PROCESS_SCAN_FOLLOW);
     }
 }
 
-static void add(struct found *found, const struct window *window, size_t number) {
+static void add(struct found *found, size_t number, uint64_t fingerprint) {
     if (found->count == FOUND_MOST) return; /* (a later look finds it again) */
     found->pages[found->count] = (uint32_t)number;
-    found->fingerprints[found->count++] = kept_of(&window->pages[number]);
+    found->fingerprints[found->count++] = fingerprint;
 }
 
 /* Adds what a scan found. */
 static void add_found(const struct scan *scan, struct look *look) {
+    page_entry pages[PART];
+    bool is_read = false;
     for (size_t i = 0; i < scan->count; i++) {
         const unsigned step = step_of(scan, i);
-        if (step == PAGESHARE_WINDOW_FIND_IDLE) add(&look->idle, scan->window, scan->first + i);
-        if (step == PAGESHARE_WINDOW_FIND_ZEROS) add(&look->zeros, scan->window, scan->first + i);
+        if (step != PAGESHARE_WINDOW_FIND_IDLE && step != PAGESHARE_WINDOW_FIND_ZEROS) continue;
+        if (!is_read) is_read = pageshare_process_read_pages(OF(scan->window), scan->first, pages, scan->count);
+        add(step == PAGESHARE_WINDOW_FIND_IDLE ? &look->idle : &look->zeros, scan->first + i, kept_of(&pages[i]));
     }
 }
 
@@ -136,7 +146,8 @@ static void trace_part(struct window *window, size_t first, size_t count) {
     enum { EACH = 16 };
     unsigned char bytes[WINDOW_PAGE_BYTES] __attribute__((aligned(8)));
     for (size_t page = first + window->windows->counts.looks % EACH; page < first + count; page += EACH) {
-        if (!is_lent(&window->pages[page]) && !shows_past(&window->pages[page])) continue;
+        const page_entry its = page_of(window, page);
+        if (!is_lent(&its) && !shows_past(&its)) continue;
         copy_page(bytes, address_of(window, page));
         if (!pagemap_is_own(&window->windows->pagemap, address_of(window, page)))
             trace_shows(window->windows->trace, window->base + (uint32_t)page, bytes);
@@ -161,23 +172,23 @@ static void make_ready(struct window *window, size_t first, size_t count, size_t
 }
 
 /* Without PAGEMAP_SCAN the kernel's page of zeros looks like memory: where it was put in place of what was given back, bytes tell. */
-static void leave_out_zeros(const struct window *window, size_t first, size_t count, uint8_t *found) {
-    for (size_t i = 0; i < count; i++) {
-        const page_entry *page = &window->pages[first + i];
-        if (found[i] == PAGE_PRESENT && is_given_back(page) && !is_out(page) && is_zero(address_of(window, first + i)))
+static void leave_out_zeros(const uint8_t *at, const page_entry *pages, size_t count, uint8_t *found) {
+    for (size_t i = 0; i < count; i++)
+        if (found[i] == PAGE_PRESENT && is_given_back(&pages[i]) && !is_out(&pages[i]) && is_zero(at + bytes_of(i)))
             found[i] = PAGE_NONE;
-    }
 }
 
 /* Finds which memory pages of a part have, and whether the part is a huge page. Returns 0 or an errno. With the lock. */
 static int find_memory(const struct window *window, size_t first, size_t count, uint8_t *memory, bool *is_huge) {
     const struct windows *windows = window->windows;
+    const uint8_t *at = address_of(window, first);
+    page_entry pages[PART];
     bool over[PART] = {false};
-    for (size_t i = 0; i < count; i++) over[i] = is_over(&window->pages[first + i]);
+    pageshare_process_read_pages(OF(window), first, pages, count);
+    for (size_t i = 0; i < count; i++) over[i] = is_over(&pages[i]);
     /* (what isn't moved to be held might be a file's that the monitor mapped unseen) */
-    int cause =
-        pagemap_find(&windows->pagemap, address_of(window, first), count, windows->faults.moves ? over : NULL, memory, is_huge);
-    if (cause == 0 && !windows->pagemap.scans) leave_out_zeros(window, first, count, memory);
+    int cause = pagemap_find(&windows->pagemap, at, count, windows->faults.moves ? over : NULL, memory, is_huge);
+    if (cause == 0 && !windows->pagemap.scans) leave_out_zeros(at, pages, count, memory);
     return cause;
 }
 
@@ -185,7 +196,6 @@ static int find_memory(const struct window *window, size_t first, size_t count, 
 static void find_in_part(struct look *look, size_t first, size_t count, bool is_return) {
     struct windows *windows = look->windows;
     struct window *window = look->window;
-    struct pageshare_window_part *part = part_of(window, first);
     uint8_t memory[PART];
     bool is_huge = false;
     size_t own = 0;
@@ -195,19 +205,19 @@ static void find_in_part(struct look *look, size_t first, size_t count, bool is_
         return;
     }
     for (size_t i = 0; i < count; i++) own += memory[i] != PAGE_NONE ? 1 : 0;
-    if (!is_return) note_huge(window, first, is_huge && windows->pagemap.scans && part->whole);
-    if (!is_return && (part->whole || part->left == 0)) settle_part(window, first, own, is_huge);
+    if (!is_return) settle_part(window, first, own, is_huge);
     struct pageshare_window_look now = look_now(windows);
     now.ready = window->ready;
     now.is_return = is_return;
     struct scan scan = {.window = window, .first = first, .count = count, .look = &now, .memory = memory};
-    look->outcome.rests = part->rest > 0;
+    look->outcome.rests = part_of(window, first).part.rest > 0;
     scan_pages(&scan);
     add_found(&scan, look);
     windows->counts.again += count_bit(&scan, PAGESHARE_WINDOW_SCAN_AGAIN);
     look->outcome.young = (uint32_t)count_bit(&scan, PAGESHARE_WINDOW_SCAN_YOUNG);
     const uint32_t changes = (uint32_t)count_bit(&scan, PAGESHARE_WINDOW_SCAN_CHANGED);
-    if (!is_return) pageshare_window_set_rest(part, &now, changes, (uint32_t)own);
+    if (!is_return)
+        NOTE_PART(window, first, .kind = PAGESHARE_PROCESS_RESTS, .changes = changes, .own = (uint32_t)own, .look = now);
 #ifdef WINDOW_TRACE
     if (windows->trace != NULL) trace_part(window, first, count);
 #endif
@@ -218,9 +228,12 @@ static bool look_in(struct look *look, bool is_return) {
     struct windows *windows = look->windows;
     struct window *window = look->window;
     const size_t part = look->task.part, first = part == 0 ? 0 : part * PART - window->lead, count = rest_of_part(window, first);
-    /* (the part may become whole) */
-    if (part_of(window, first)->alone > 0) begin_turn(look);
     lock_for_look(windows);
+    if (part_of(window, first).part.alone > 0) { /* (the part may become whole) */
+        unlock_set(windows);
+        begin_turn(look);
+        lock_for_look(windows);
+    }
     bool goes_on = !window->ended && windows->stuck_count == 0 && !windows->is_watched;
     look->outcome.rests = false;
     look->outcome.young = 0;

@@ -19,76 +19,46 @@ void lock_for_look(struct windows *windows) {
 
 void find_pins(struct windows *windows) {
     if (windows->config.find_pins == NULL || windows->config.pins != WINDOWS_PINS_NEVER) return;
-    if (windows->config.find_pins(windows->config.find_pins_opaque) != WINDOWS_PINS_NEVER)
-        windows->config.pins = WINDOWS_PINS_POSSIBLE;
+    if (windows->config.find_pins(windows->config.find_pins_opaque) == WINDOWS_PINS_NEVER) return;
+    windows->config.pins = WINDOWS_PINS_POSSIBLE;
+    follow_facts(windows);
 }
 
 _Static_assert(WINDOW_SLOT_RESTS - 1 <= UINT32_MAX / WINDOW_SLOT_TOPS, "a slot has a name of 32 bits");
 
 uint64_t slot_number(uint32_t name) { return (uint64_t)(name / WINDOW_SLOT_RESTS) << 32 | name % WINDOW_SLOT_RESTS; }
 
-/* ---- what the library decides, and hears ---- */
+/* ---- what the library hears ---- */
 
-/* The pins of a window of whose pages no transfer was under way yet. */
-static const uint16_t no_pins;
-
-struct pageshare_window_tables tables_of(const struct window *window) {
-    struct windows *windows = window->windows;
-    const bool has_pins = window->pins != NULL;
-    return (struct pageshare_window_tables){.pages = window->pages,
-                                            .pages_count = window->count,
-                                            .counts = window->counts,
-                                            .counts_count = parts_in(window),
-                                            .parts = window->parts,
-                                            .parts_count = parts_in(window),
-                                            .pins = has_pins ? window->pins : &no_pins,
-                                            .pins_count = has_pins ? window->count : 0,
-                                            .mappings = &windows->counts.mappings,
-                                            .most = windows->mappings_most,
-                                            .lead = window->lead,
-                                            .facts = {.elsewhere = windows->transfers_elsewhere,
-                                                      .may_pin = windows->config.pins != WINDOWS_PINS_NEVER,
-                                                      .inherited = !window->advice.dont_fork,
-                                                      .locked = windows->is_locked,
-                                                      .ends = window->ends,
-                                                      .is_over = windows->is_over || windows->is_watched}};
+void follow_facts(struct windows *windows) {
+    const struct pageshare_process_facts facts = {.most = windows->mappings_most,
+                                                  .elsewhere = windows->transfers_elsewhere,
+                                                  .may_pin = windows->config.pins != WINDOWS_PINS_NEVER,
+                                                  .locked = windows->is_locked,
+                                                  .is_over = windows->is_over || windows->is_watched};
+    pageshare_process_set_facts(&windows->process, &facts);
 }
 
-void order_home(struct window *window, size_t first, size_t count, const struct pageshare_window_facts *why) {
-    pageshare_window_order_home(TABLES(window), why, first, count);
+void follow_state(struct window *window) {
+    const struct pageshare_process_state state = state_of(window);
+    pageshare_process_set_state(OF(window), &state);
 }
 
-void find_staying(const struct window *window, size_t first, bool *copies, size_t count,
-                  const struct pageshare_window_facts *why) {
-    pageshare_window_find_staying(TABLES(window), why, first, copies, count);
-}
-
-bool may_go_on(const struct window *window, size_t first, size_t count, struct pageshare_window_facts why) {
-    return pageshare_window_may_go_on(TABLES(window), &why, first, count);
-}
-
-bool may_give_up(const struct window *window, size_t first, size_t count) {
-    return pageshare_window_may_give_up(TABLES(window), first, count);
-}
-
-bool are_movable(const struct window *window, size_t first, size_t count) {
-    return pageshare_window_are_movable(TABLES(window), first, count);
-}
-
-struct pageshare_window_row_order next_of_row(struct window *window, size_t first, const uint8_t *row, size_t count) {
-    struct pageshare_window_row_order order;
-    pageshare_window_next_of_row(TABLES(window), first, row, count, &order);
-    return order;
-}
-
-void note_zero(struct window *window, size_t number, bool is_zero) {
-    pageshare_window_give_back(&window->pages[number], part_counts(window, number), is_zero);
+void do_list(const struct window *window, size_t count, struct pageshare_process_list *list) {
+    static const uint64_t nothing[PART]; /* what isn't known of the pages (no array may be NULL) */
+    if (list->fingerprints == NULL) list->fingerprints = nothing;
+    if (list->given == NULL) list->given = (const uint8_t *)nothing;
+    if (list->slots == NULL) list->slots = nothing;
+    if (list->frames == NULL) list->frames = (const uint32_t *)nothing;
+    list->numbers_count = list->answers_count = list->fingerprints_count = count;
+    list->given_count = list->slots_count = list->frames_count = count;
+    pageshare_process_list(OF(window), list);
 }
 
 /* ---- what lies at pages' places ---- */
 
 bool go_to_run(const struct window *window, struct pageshare_window_run *run, size_t end, uint8_t kinds) {
-    return pageshare_window_next_run(TABLES(window), run->first + run->count, end, kinds, run);
+    return pageshare_process_next_run(OF(window), run->first + run->count, end, kinds, run);
 }
 
 bool has_kind(const struct window *window, size_t first, size_t end, uint8_t kinds) {
@@ -111,12 +81,8 @@ size_t run_of_its(const struct window *window, size_t first, size_t most, bool *
     return ends ? other.first - first : most;
 }
 
-size_t mappings_of(const struct window *window, size_t first, size_t count) {
-    return pageshare_window_mappings_at(TABLES(window), first, count);
-}
-
 void note_moved(struct window *window, size_t first, size_t count) {
-    pageshare_window_uncover(TABLES(window), first, count, true);
+    NOTE(window, first, count, .kind = PAGESHARE_PROCESS_MOVED_THERE);
     note_cleared(window, first, count, false);
 }
 
@@ -126,10 +92,6 @@ static const uint8_t *source_of(const struct window *window, uint32_t frame, int
     if (!window->advice.dont_fork || protection != (PROT_READ | PROT_WRITE)) return NULL;
     if (frame == ZEROS) return window->advice.is_reserved ? windows->reserved_zeros : windows->zeros;
     return windows->frames_are_given ? windows->frames_at + bytes_of(frame) : NULL;
-}
-
-bool has_room_for_zeros(const struct window *window, size_t first, size_t count) {
-    return pageshare_window_has_room_for_zeros(TABLES(window), first, count);
 }
 
 enum { BITS = 8 /* of `cleared` in a byte */ };
@@ -143,18 +105,20 @@ void note_cleared(struct window *window, size_t first, size_t count, bool are_cl
 }
 
 void note_apart(struct window *window, size_t first, size_t count) {
-    bool written[PART], are_zeros[PART];
+    bool written[PART];
+    page_entry pages[PART];
     int cause = pagemap_find_copies(&window->windows->pagemap, address_of(window, first), count, written);
     if (cause != 0) memset(written, true, sizeof written); /* (too many mappings may be counted, but not too few) */
-    if (is_moved(&window->pages[first]) || memchr(written, true, count) == NULL) return;
-    for (size_t i = 0; i < count; i++) are_zeros[i] = is_given_back(&window->pages[first + i]) && !written[i];
+    pageshare_process_read_pages(OF(window), first, pages, count);
+    if (is_moved(&pages[0]) || memchr(written, true, count) == NULL) return;
     note_moved(window, first, count);
     for (size_t i = 0; i < count; i++)
-        if (are_zeros[i]) note_zero(window, first + i, true);
+        if (is_given_back(&pages[i]) && !written[i])
+            pageshare_process_note_page(OF(window), first + i, PAGESHARE_PROCESS_GIVEN_BACK, true);
 }
 
 int map_pages(struct window *window, size_t first, size_t count, uint32_t frame, int protection) {
-    bool is_file = frame != ZEROS, has_left = is_out(&window->pages[first]);
+    bool is_file = frame != ZEROS, has_left = !has_kind(window, first, first + 1, IN_WINDOW);
     const uint8_t *source = source_of(window, frame, protection);
     void *at = address_of(window, first);
     int cause = source != NULL ? mapping_copy(at, source, count) : ENOENT;
@@ -166,8 +130,8 @@ int map_pages(struct window *window, size_t first, size_t count, uint32_t frame,
     if (cause != 0) return cause;
     /* (what the system refuses to say of zeros keeps it from joining them with what is beside them) */
     bool is_said = has_left || (is_file && are_copies) || say_again(window, first, count, is_file, are_copies);
-    if (is_file) pageshare_window_cover(TABLES(window), first, count, frame);
-    else pageshare_window_put_zeros(TABLES(window), first, count, is_said);
+    if (is_file) NOTE(window, first, count, .kind = PAGESHARE_PROCESS_COVERED, .frame = frame);
+    else NOTE(window, first, count, .kind = PAGESHARE_PROCESS_ZEROS_MAPPED, .flag = is_said);
     note_cleared(window, first, count, false);
     return 0;
 }

@@ -1,27 +1,13 @@
 /*
  * What the thread that lends a monitor's pages decides, in C11 or C++11: the functions of libpageshare_window.a. They decide what is done
- * next with a page, and in a look; which pages a call of the monitor is about, which ones a device may hold, and which numbers a new window's
- * pages get; how many mappings may be made, and how much processor time the thread may use. They are proved, make no system call and allocate
- * nothing.
- *
- * Pages of a window, of which nothing is lent where its tables are zeros, and a list of those that are idle:
- *
- *     struct pageshare_window_tables tables = {.pages = pages, .pages_count = 4096, .counts = counts, .counts_count = 8, ..};
- *     pageshare_window_to_copy(&tables, list, 3, there, 3, prints, 3, checks, 3);
- *     pageshare_window_copied(&tables, list, 3, outcomes, 3, lends, 3);  once they were copied
- *     pageshare_window_loaned(&tables, list, 3, slots, 3, given, 3, frames, true, answers, 3);  once they were lent
- *     pageshare_window_to_hold(&tables, list, 3, held, 3);
+ * next in a look; which pages a call of the monitor is about, and which numbers a new window's pages get; how many mappings may be made, and
+ * how much processor time the thread may use; and what is said to the host. Those for windows' pages are in pageshare_process.h. They are proved, and
+ * make no system call. Those that are here allocate nothing.
  *
  * A budget:
  *
  *     struct pageshare_window_budget budget;
  *     pageshare_window_begin(&budget, 2, 25, now, used);            2 percent of one processor, 25 while there is a credit
- *
- * Held pages in a row, each with a byte of `row`:
- *
- *     pageshare_window_begin_row(&tables, 512, row, 16, takings, 16);
- *     while (pageshare_window_next_of_row(&tables, 512, row, 16, &order), order.step != PAGESHARE_WINDOW_HOLD_OVER)
- *         pageshare_window_row_done(&tables, 512, row, 16, &order, done, refused);  once the order was carried out
  *
  * A scan, of tasks that are carried out one after another:
  *
@@ -43,21 +29,16 @@
  *     static struct pageshare_window_transfer transfers[128];
  *     uint64_t elsewhere = 0;
  *     size_t place = pageshare_window_begin_transfer(transfers, 128, &elsewhere, begin, end);
- *     pageshare_window_pin(pins, 4096, 512, 2);                     counts it at its pages: a device may hold them, or any while `elsewhere` isn't 0
- *     pageshare_window_unpin(pins, 4096, 512, 2);
  *     pageshare_window_end_transfer(transfers, 128, &elsewhere, place);
  *
  * Over any stretch of calls the thread uses at most a sum of these: its share of the time that passed, what was saved before, the credit,
  * what it may owe, and the work of one task. That holds if it sleeps when pageshare_window_next_task says so.
  *
  * The caller ensures:
- * - Pointers are valid, not null, and point to a page, counts, a budget or a table that no other thread uses during the call.
- * - Budgets, tasks, pages, counts, transfers, pins and ranges are written by these calls alone, but for what is set to zeros at first, and for what
- *   the caller writes of a range: `window`, `base` and `said`. The counts that a call for one page gets are those of the page's part.
- * - The tables that a call gets are those of one window.
- * - Of an order or a task it carries out what that says and nothing else, and what it says came of it is true.
- * - Before a call of the monitor goes on that changes a page, it passes what is so of the page from then on.
- * - It says of each page what was put at its place, and when it is written, given up, unmapped or leaves.
+ * - Pointers are valid, not null, and point to a budget, a session or a table that no other thread uses during the call.
+ * - Budgets, tasks, transfers, sessions and ranges are written by these calls alone, but for what is set to zeros at first, and for what the
+ *   caller writes of a range: `window`, `base` and `said`.
+ * - Of a task it carries out what that says and nothing else, and what it says came of it is true.
  */
 #ifndef PAGESHARE_WINDOW_LIBRARY_H
 #define PAGESHARE_WINDOW_LIBRARY_H
@@ -175,13 +156,6 @@ size_t pageshare_window_begin_transfer(struct pageshare_window_transfer *table, 
                                        uint64_t begin, uint64_t end);
 /* Ends a transfer, by what pageshare_window_begin_transfer returned. */
 void pageshare_window_end_transfer(struct pageshare_window_transfer *table, size_t places, uint64_t *elsewhere, size_t place);
-/*
- * Pins `count` of a window's pages from `from` on once more, or unpins them once. `pins`: how often each of its `pages` pages was pinned.
- * Returns false, and changes nothing, if they aren't all there, if one was pinned 65,535 times, or if one isn't pinned.
- */
-bool pageshare_window_pin(uint16_t *pins, size_t pages, size_t from, size_t count);
-bool pageshare_window_unpin(uint16_t *pins, size_t pages, size_t from, size_t count);
-
 /* The numbers of a window's pages: so many in a row. */
 struct pageshare_window_taken {
     uint32_t base;  /* that of its first page */
@@ -261,9 +235,6 @@ struct pageshare_window_facts {
     bool ended;     /* lending has ended */
 };
 
-/* A page was given back as zeros and has no memory; or it has memory. Nothing is noted of a page over a frame. */
-void pageshare_window_give_back(struct pageshare_window_page *page, struct pageshare_window_counts *part, bool is_zeros);
-
 /* Kinds of pages. Each page is of one of the first four, by its place. */
 enum pageshare_window_kind {
     PAGESHARE_WINDOW_KIND_OWN = 1,       /* it is in the window, and has memory of its own */
@@ -281,9 +252,7 @@ struct pageshare_window_run {
     uint8_t kind; /* enum pageshare_window_kind */
 };
 
-/* ---- tables of a window's pages ---- */
-
-/* A part. The library alone writes the members, but for `is_huge`, and `whole` of a new window: the caller writes them. */
+/* A part. The library alone writes the members. */
 struct pageshare_window_part {
     bool whole;    /* it is left to the system's huge pages: nothing of it is lent */
     uint8_t pause; /* looks at it until it may change again */
@@ -294,101 +263,6 @@ struct pageshare_window_part {
     bool is_huge;  /* it is whole, and was a huge page at the last look */
     uint32_t own;  /* pages that had memory of their own at the last look */
 };
-
-/* What is so of a window and its process, as far as it keeps the window's pages from being lent. */
-struct pageshare_window_table_facts {
-    uint64_t elsewhere; /* how many transfers aren't counted at their pages, and may be of any page */
-    bool may_pin;       /* devices may hold memory of any page that is a copy over a frame, for all that is known */
-    bool inherited;     /* a child of a fork would have the window's pages */
-    bool locked;        /* memory of the process is locked */
-    bool ends;          /* nothing is lent of the window any more */
-    bool is_over;       /* nothing is lent of any window any more */
-};
-
-/*
- * The tables of one window, and what is so of it now. The caller fills it in for a call: arrays, each with its length, a counter of the process,
- * and facts. A call changes what `pages`, `counts` and `mappings` point to, and nothing of the struct itself.
- */
-struct pageshare_window_tables {
-    struct pageshare_window_page *pages;
-    size_t pages_count;
-    struct pageshare_window_counts *counts; /* of each part's pages */
-    size_t counts_count;
-    const struct pageshare_window_part *parts;
-    size_t parts_count;
-    const uint16_t *pins; /* how often each page was pinned; of no page where there are none */
-    size_t pins_count;
-    size_t *mappings; /* how many mappings the process's windows have taken, */
-    uint64_t most;    /* and may take in all */
-    size_t lead;      /* pages of the first part that lie before the window */
-    struct pageshare_window_table_facts facts;
-};
-
-/*
- * Finds the next run of pages of these kinds, a sum of them: it begins with the first such page from `first` on and before `end`, and goes on as long
- * as pages before `end` are of the same kind. A page that is COMING or LEFT_OVER counts as that where it is looked for, and else as it lies. Returns
- * false, and leaves `run` as it is, if there is none.
- */
-bool pageshare_window_next_run(const struct pageshare_window_tables *tables, size_t first, size_t end, uint8_t kinds,
-                               struct pageshare_window_run *run);
-
-/*
- * Of `count` pages from `first` on. Each returns false if they aren't all there.
- *
- * Whether a call of the monitor may go on by each of them, of which `why` is so from then on: no write to any of them waits, and none that must
- * have memory of its own shows a frame. Whether one may that gives them up: no write waits. And whether their memory may be exchanged for other
- * memory: none of them is held, and nothing bars one.
- */
-bool pageshare_window_may_go_on(const struct pageshare_window_tables *tables, const struct pageshare_window_facts *why,
-                                size_t first, size_t count);
-bool pageshare_window_may_give_up(const struct pageshare_window_tables *tables, size_t first, size_t count);
-bool pageshare_window_are_movable(const struct pageshare_window_tables *tables, size_t first, size_t count);
-/*
- * What becomes of `count` pages from `first` on. Each returns false, and notes nothing, if the pages aren't all there, or if there are more pages
- * than their parts have counts.
- *
- * Where other memory may come to their places, the number of mappings changes by what begins at them then, or at the page behind them, less what
- * began there.
- *
- * Frames in a row were mapped at their places, of which the first has this number; or memory of their own was put there, moved all at once, or
- * mapped; or zeros were mapped there, of which the system let be said what is said of the window (`is_said`), or not. The page behind them begins what
- * was moved, if it was moved.
- */
-bool pageshare_window_cover(struct pageshare_window_tables *tables, size_t first, size_t count, uint32_t frame);
-bool pageshare_window_uncover(struct pageshare_window_tables *tables, size_t first, size_t count, bool moved);
-bool pageshare_window_put_zeros(struct pageshare_window_tables *tables, size_t first, size_t count, bool is_said);
-/* They were unmapped, or something else was mapped in their place. They have left their window. */
-bool pageshare_window_unmap(struct pageshare_window_tables *tables, size_t first, size_t count);
-/* Their lender is gone, and no slot of theirs counts any more. What they show stays. */
-bool pageshare_window_detach(struct pageshare_window_tables *tables, size_t first, size_t count);
-/* Their content was given up. */
-bool pageshare_window_give_up(struct pageshare_window_tables *tables, size_t first, size_t count);
-/* They have left their window, with what they contain. */
-bool pageshare_window_leave(struct pageshare_window_tables *tables, size_t first, size_t count);
-/*
- * `count` pages from `first` on get memory of their own in place of frames. Each returns false, and changes nothing, if they aren't all there, or,
- * but for find_staying, if the table has more pages than its parts.
- *
- *   order_home: those that show their frames get the order to. `why` is so of them besides.
- *   find_staying: which of them stay where they are while writes to them wait: they are to get their copy there, or have one that a device may
- *     hold. `copies` says before whether each has memory of its own, and then whether it stays.
- *   moved_home: it was moved there. If a page was to get it, that was done. What looks have found of it counts no more.
- *   copied_home: they got a copy where they are, which brings those home that are COMING. None shows a frame of a lender that is gone any more.
- *   refused_home: those that were to get memory of their own get none.
- */
-bool pageshare_window_order_home(struct pageshare_window_tables *tables, const struct pageshare_window_facts *why, size_t first,
-                                 size_t count);
-bool pageshare_window_find_staying(const struct pageshare_window_tables *tables, const struct pageshare_window_facts *why,
-                                   size_t first, bool *copies, size_t count);
-bool pageshare_window_moved_home(struct pageshare_window_tables *tables, size_t first, size_t count);
-bool pageshare_window_copied_home(struct pageshare_window_tables *tables, size_t first, size_t count);
-bool pageshare_window_refused_home(struct pageshare_window_tables *tables, size_t first, size_t count);
-
-/*
- * Memory with what these pages contained was moved to their places at once: what looks have found of those over frames counts no more, and all have
- * memory of their own. `*mappings` changes as above. Returns false, and changes nothing, as those do.
- */
-bool pageshare_window_one_memory(struct pageshare_window_tables *tables, size_t first, size_t count);
 
 /* What came of an attempt to hold a page. */
 enum pageshare_window_taking {
@@ -425,23 +299,7 @@ struct pageshare_window_row_order {
     uint8_t step;
 };
 
-/*
- * Holds pages in a row, from the page `first` of a table on. `row` has a byte of each, enum pageshare_window_held_place.
- *
- * begin_row takes what came of the attempt to hold each of them, enum pageshare_window_taking. next_of_row finds what is done next: all are compared
- * before anything is mapped, all is mapped before anything is put back, and watches end last. Frames that are to be mapped are in a row.
- * row_done takes with how many of the order's pages that was done, and with how many behind these it was refused and has changed nothing; the
- * others weren't tried, and are ordered again. begin_row and row_done return false, and change nothing, if the pages aren't all there, or if the
- * table has more pages than its parts. Then the row is over.
- *
- * row_again returns the byte of a page with which a row of its own begins: it isn't stuck any more.
- */
-bool pageshare_window_begin_row(struct pageshare_window_tables *tables, size_t first, uint8_t *row, size_t row_count,
-                                const uint8_t *takings, size_t takings_count);
-void pageshare_window_next_of_row(struct pageshare_window_tables *tables, size_t first, const uint8_t *row, size_t row_count,
-                                  struct pageshare_window_row_order *order);
-bool pageshare_window_row_done(struct pageshare_window_tables *tables, size_t first, uint8_t *row, size_t row_count,
-                               const struct pageshare_window_row_order *order, size_t done, size_t refused);
+/* Returns the byte of a page with which a row of its own begins: it isn't stuck any more. */
 uint8_t pageshare_window_row_again(uint8_t byte);
 
 /* What is to be done with a part of a window: the pages that one huge page could hold. */
@@ -478,41 +336,6 @@ struct pageshare_window_part_look {
  */
 uint8_t pageshare_window_next_of_part(struct pageshare_window_part *part, const struct pageshare_window_part_config *config,
                                       const struct pageshare_window_part_look *look);
-
-/*
- * VMAs of `count` pages of a window from `first` on:
- *   _at: how many begin at these pages, or at the one behind them, as far as these are there. Of all pages: how many the window uses.
- *   _new: how many a new window of `count` pages uses.
- * A part that isn't there counts as split.
- *
- * Pages with memory of their own count as one mapping if it was moved there all at once, or not moved, in parts that are all whole or all split.
- * Frames do if their numbers are in a row, but at each multiple of 32,768. One pair of other frames in 32,768 does, too.
- */
-size_t pageshare_window_mappings_at(const struct pageshare_window_tables *tables, size_t first, size_t count);
-size_t pageshare_window_mappings_new(const struct pageshare_window_part *parts, size_t parts_count, size_t lead, size_t count);
-
-/*
- * Whether windows may take the mappings that zeros in place of `count` pages from `first` on need. False if the pages aren't all there.
- */
-bool pageshare_window_has_room_for_zeros(const struct pageshare_window_tables *tables, size_t first, size_t count);
-
-/* How pages of one kind are given up whose memory isn't given back at their places. */
-enum {
-    PAGESHARE_WINDOW_BY_ZEROS = 1,   /* zeros are mapped there, */
-    PAGESHARE_WINDOW_BY_CLEARING = 2 /* and what can't be so is cleared */
-};
-/*
- * Returns how `count` pages of one kind from `first` on are given up. With 0, or where only zeros could be mapped and the system refuses it, their memory is
- * given back. `is_watched`: others watch the memory, and would miss what is mapped there.
- */
-uint8_t pageshare_window_given_up_by(const struct pageshare_window_tables *tables, size_t first, size_t count, bool is_watched);
-/*
- * The part whose first page is this one is whole from now on, or split. `*mappings` changes by what begins at its pages then, or at the one behind
- * them, less what began there. Returns false, and changes nothing, if this isn't the first page of a part whose pages are all there.
- */
-bool pageshare_window_set_whole(const struct pageshare_window_page *pages, size_t pages_count,
-                                struct pageshare_window_part *parts, size_t parts_count, size_t lead, size_t first, bool is_whole,
-                                size_t *mappings);
 
 /* ---- looks ---- */
 
@@ -653,36 +476,7 @@ void pageshare_window_be_eager(struct pageshare_window_times *times);
 void pageshare_window_look_ended(struct pageshare_window_times *times, const struct pageshare_window_finds *finds, bool may_lend);
 uint64_t pageshare_window_pause_ms(const struct pageshare_window_times *times, uint64_t took_ms);
 
-/*
- * A scan of a part, whose first page is the page `first` of its window. begin_scan takes which memory each page has: 0 none of its own, 1 some, 2 some
- * that is swapped out. It writes a byte of each to `row`: what is done next with those that the scan takes. scan_done takes what came of each step, and
- * writes what is done next; an outcome of a page without a step counts for nothing. follow_changes takes pages beside those that have changed, too,
- * where the part rests and the scan would leave them out. A scan is over once no page has a step left (COPY to COUNT). Bytes of a page are read only
- * if its step says so. Each returns false, and changes nothing, if these pages aren't all there, if the table has more pages than its parts, or if
- * what it takes isn't as long as `row`.
- */
-bool pageshare_window_begin_scan(struct pageshare_window_tables *tables, const struct pageshare_window_look *look,
-                                 const struct pageshare_window_part *part, size_t first, const uint8_t *memory,
-                                 size_t memory_count, uint8_t *row, size_t row_count);
-bool pageshare_window_scan_done(struct pageshare_window_tables *tables, const struct pageshare_window_look *look,
-                                const struct pageshare_window_part *part, size_t first,
-                                const struct pageshare_window_find_outcome *outcomes, size_t outcomes_count, uint8_t *row,
-                                size_t row_count);
-bool pageshare_window_follow_changes(struct pageshare_window_tables *tables, const struct pageshare_window_look *look,
-                                     const struct pageshare_window_part *part, size_t first, const uint8_t *memory,
-                                     size_t memory_count, uint8_t *row, size_t row_count);
-/* The numbers that say where glances look at the pages at these places, counted from `first` on. A glance is a number below 32,768. */
-void pageshare_window_glance_numbers(const struct pageshare_window_tables *tables, size_t first, const uint16_t *places,
-                                     size_t places_count, uint64_t *numbers, size_t numbers_count);
-/* A page is to be asked about at once; or it was to be held, and was, or wasn't. */
-void pageshare_window_ask_at_once(struct pageshare_window_page *page, struct pageshare_window_counts *part);
-void pageshare_window_held(struct pageshare_window_page *page, struct pageshare_window_counts *part, bool was_held);
-/* What a look found of a part: idle pages that have changed, and pages with memory of their own. Or its rest ends. */
-void pageshare_window_set_rest(struct pageshare_window_part *part, const struct pageshare_window_look *look, uint32_t changes,
-                               uint32_t own);
-void pageshare_window_wake(struct pageshare_window_part *part);
-
-/* ---- lists of a window's pages, of which one is taken after another ---- */
+/* ---- lists of a window's pages ---- */
 
 /* The answer to a page about which a host may be asked, or was: a sum of these. */
 enum pageshare_window_ask {
@@ -717,50 +511,6 @@ enum pageshare_window_loan {
     PAGESHARE_WINDOW_LOAN_WRONG = 4,    /* the host owes a slot, or a frame of its file */
     PAGESHARE_WINDOW_LOAN_IN_FILE = 8   /* the frame is in the host's file */
 };
-
-/*
- * The pages of a list have these numbers. Of each there is an entry in the other lists. Where a page isn't in the table, the answer to it is 0, and
- * nothing else is done. Each returns false, and changes nothing, if lists have different lengths, or if the table has more pages than its parts.
- *
- * to_ask finds those about which a host may be asked: each is free, and by itself there is room for its mappings. answered takes which of them
- * somebody else has; there is room for all together of which the answer is 1. Of whole parts it notes whether somebody else has a page. Answers:
- * enum pageshare_window_ask.
- * to_copy chooses those that are to be copied, which have these fingerprints by the last look. `there` is 1 for a page that is there. Answers: enum
- * pageshare_window_check. While that isn't 0, the page's order is open.
- * copied takes what came of the copies, enum pageshare_window_copied. The answer is 1 for a page of which a loan is to be asked for. That a page has
- * changed it takes of one that was to be held, too.
- * loaned takes what a host said of them, if it was heard, whose file has so many frames: the slot and the frame of each loan, or UINT32_MAX as a
- * frame for none. Answers: enum pageshare_window_loan. If it wasn't heard, it has lent none of them.
- * to_hold orders those to be held that have their loans. The loan of one that mustn't be lent now, or whose part is whole, isn't needed any more.
- * to_give_back orders those to be held that are free, to be given back as zeros. Answers of both: PAGESHARE_WINDOW_TO_HOLD; of to_give_back also
- * PAGESHARE_WINDOW_ASK_CROWDED, by itself, where there is no room for zeros in the page's place.
- * released takes whether the host heard that their slots aren't needed.
- */
-bool pageshare_window_to_ask(struct pageshare_window_tables *tables, const struct pageshare_window_look *look,
-                             const uint32_t *numbers, size_t numbers_count, uint8_t *answers, size_t answers_count);
-bool pageshare_window_answered(struct pageshare_window_tables *tables, const uint32_t *numbers, size_t numbers_count,
-                               const uint64_t *fingerprints, size_t fingerprints_count, const uint8_t *seen, size_t seen_count,
-                               uint8_t *answers, size_t answers_count);
-bool pageshare_window_to_copy(struct pageshare_window_tables *tables, const uint32_t *numbers, size_t numbers_count,
-                              const uint8_t *there, size_t there_count, const uint64_t *fingerprints, size_t fingerprints_count,
-                              uint8_t *answers, size_t answers_count);
-bool pageshare_window_copied(struct pageshare_window_tables *tables, const uint32_t *numbers, size_t numbers_count,
-                             const uint8_t *outcomes, size_t outcomes_count, uint8_t *answers, size_t answers_count);
-bool pageshare_window_loaned(struct pageshare_window_tables *tables, const uint32_t *numbers, size_t numbers_count,
-                             const uint64_t *slots, size_t slots_count, const uint32_t *given, size_t given_count,
-                             uint32_t frames, bool is_heard, uint8_t *answers, size_t answers_count);
-bool pageshare_window_to_hold(struct pageshare_window_tables *tables, const uint32_t *numbers, size_t numbers_count,
-                              uint8_t *answers, size_t answers_count);
-bool pageshare_window_to_give_back(struct pageshare_window_tables *tables, const uint32_t *numbers, size_t numbers_count,
-                                   uint8_t *answers, size_t answers_count);
-bool pageshare_window_released(struct pageshare_window_tables *tables, const size_t *numbers, size_t numbers_count, bool is_done);
-/*
- * Finds which of `count` pages from `first` on are to be released: their slots aren't needed, no order of them is open, and no transfer of them is
- * under way. Releasing them is their order from then on. Writes the numbers of as many as there is room for, and returns how many; none if the
- * pages aren't all there, or if the table has more pages than its parts.
- */
-size_t pageshare_window_to_release(struct pageshare_window_tables *tables, size_t first, size_t count, size_t *places,
-                                   size_t places_count);
 
 /* ---- sessions ---- */
 

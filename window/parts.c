@@ -24,18 +24,23 @@ int begin_parts(struct window *window) {
     unlock_set(window->windows);
     window->keeps_huge = window->keeps_huge && advice_allows_huge(&window->found);
     if (!window->keeps_huge || count == 0) return advice_begin(window->at, window->count);
-    for (size_t page = first; page < end; page += PART) part_of(window, page)->whole = true;
     int cause = first > 0 ? advice_begin(window->at, first) : 0;
     if (cause == 0 && end < window->count) cause = advice_begin(address_of(window, end), window->count - end);
     return cause;
+}
+
+void note_whole_parts(struct window *window) {
+    size_t count = 0, first = full_parts(window, &count), end = first + (window->keeps_huge ? count * PART : 0);
+    for (size_t page = first; page < end; page += PART) NOTE_PART(window, page, .kind = PAGESHARE_PROCESS_WHOLE, .flag = true);
 }
 
 void count_parts(struct window *window, bool is_more) {
     struct windows_counts *counts = &window->windows->counts;
     size_t count = 0, whole = 0, huge = 0, first = full_parts(window, &count);
     for (size_t page = first; page < first + count * PART; page += PART) {
-        whole += part_of(window, page)->whole ? 1 : 0;
-        huge += part_of(window, page)->is_huge ? 1 : 0;
+        const struct pageshare_window_part part = part_of(window, page).part;
+        whole += part.whole ? 1 : 0;
+        huge += part.is_huge ? 1 : 0;
     }
     size_t split = window->keeps_huge ? count - whole : 0;
     counts->parts_whole += is_more ? whole : (size_t)0 - whole;
@@ -43,10 +48,11 @@ void count_parts(struct window *window, bool is_more) {
     counts->parts_huge += is_more ? huge : (size_t)0 - huge;
 }
 
-void note_huge(struct window *window, size_t first, bool is_huge) {
-    struct pageshare_window_part *part = part_of(window, first);
-    window->windows->counts.parts_huge += (is_huge ? 1u : 0u) - (size_t)part->is_huge;
-    part->is_huge = is_huge;
+/* Notes whether a part is a huge page. */
+static void note_huge(const struct window *window, size_t first, bool is_huge) {
+    if (is_huge == part_of(window, first).part.is_huge) return;
+    window->windows->counts.parts_huge += is_huge ? 1 : (size_t)-1;
+    NOTE_PART(window, first, .kind = PAGESHARE_PROCESS_HUGE, .flag = is_huge);
 }
 
 int window_say_huge(struct window *window, size_t first, size_t count, bool may) {
@@ -57,7 +63,7 @@ int window_say_huge(struct window *window, size_t first, size_t count, bool may)
     for (size_t page = first, run = 0; page < first + count; page += run) {
         run = rest_of_part(window, page);
         if (run > first + count - page) run = first + count - page;
-        bool is_said = has_kind(window, page, page + 1, ITS) && (!may || (run == PART && part_of(window, page)->whole));
+        bool is_said = has_kind(window, page, page + 1, ITS) && (!may || (run == PART && part_of(window, page).part.whole));
         int refused = is_said ? advice_say(address_of(window, page), run, may ? MADV_HUGEPAGE : MADV_NOHUGEPAGE) : 0;
         if (refused != 0) cause = refused;
     }
@@ -72,8 +78,7 @@ int window_say_huge(struct window *window, size_t first, size_t count, bool may)
 
 static void set_whole(struct window *window, size_t first, bool is_whole) {
     struct windows_counts *counts = &window->windows->counts;
-    pageshare_window_set_whole(window->pages, window->count, window->parts, parts_in(window), window->lead, first, is_whole,
-                               &counts->mappings);
+    NOTE_PART(window, first, .kind = PAGESHARE_PROCESS_WHOLE, .flag = is_whole);
     note_huge(window, first, is_whole);
     counts->parts_whole += is_whole ? 1 : (size_t)-1;
     if (window->keeps_huge) counts->parts_split -= is_whole ? 1 : (size_t)-1;
@@ -84,6 +89,7 @@ static void set_whole(struct window *window, size_t first, bool is_whole) {
 /* ---- whole parts are split ---- */
 
 static void split(struct window *window, size_t first, bool is_huge) {
+    page_entry pages[PART];
     int cause = 0;
     /* (what has left the window is the monitor's) */
     struct pageshare_window_run run = {.first = first};
@@ -93,10 +99,9 @@ static void split(struct window *window, size_t first, bool is_huge) {
         window->windows->advice_cause = cause;
         return;
     }
-    for (size_t page = first; page < first + PART; page++) {
-        if (!is_seen(&window->pages[page])) continue;
-        pageshare_window_ask_at_once(&window->pages[page], part_counts(window, page));
-    }
+    pageshare_process_read_pages(OF(window), first, pages, PART);
+    for (size_t i = 0; i < PART; i++)
+        if (is_seen(&pages[i])) pageshare_process_note_page(OF(window), first + i, PAGESHARE_PROCESS_ASKED_AT_ONCE, false);
     set_whole(window, first, false);
 }
 
@@ -145,7 +150,7 @@ static void note_one_memory(struct window *window, size_t first) {
         for (size_t page = run.first; page < run.first + run.count; page++)
             trace_copy(windows->trace, window->base + (uint32_t)page, address_of(window, page));
     }
-    pageshare_window_one_memory(TABLES(window), first, PART);
+    NOTE(window, first, PART, .kind = PAGESHARE_PROCESS_ONE_MEMORY);
     note_cleared(window, first, PART, false);
 }
 
@@ -184,7 +189,7 @@ static struct pageshare_window_part_look found_of(const struct window *window, s
     const struct windows *windows = window->windows;
     bool may_be_huge = window->keeps_huge && windows->pagemap.scans && first + PART <= window->ready;
     return (struct pageshare_window_part_look){.own = (uint32_t)own,
-                                               .shareable = part_counts(window, first)->shareable,
+                                               .shareable = part_of(window, first).counts.shareable,
                                                .is_huge = is_huge,
                                                .may_be_huge = may_be_huge,
                                                .may_lend = can_lend(window),
@@ -192,14 +197,6 @@ static struct pageshare_window_part_look found_of(const struct window *window, s
                                                .may_pin = may_pin(windows),
                                                .is_loose = true,
                                                .is_movable = true};
-}
-
-/* Finds out whether that is so. */
-static void find_part_facts(const struct window *window, size_t first, struct pageshare_window_part_look *look) {
-    const struct windows *windows = window->windows;
-    look->has_mappings = pageshare_window_has_mappings(MAPPINGS(windows), PART);
-    look->is_loose = may_give_up(window, first, PART);
-    look->is_movable = are_movable(window, first, PART);
 }
 
 /* The numbers by which parts change. */
@@ -211,32 +208,32 @@ static struct pageshare_window_part_config config_of(const struct windows *windo
 }
 
 /* What is to be done with a part: the proved library says so. Its pages are looked at only if something may be. */
-static enum pageshare_window_part_order next_of_part(struct window *window, size_t first, size_t own, bool is_huge) {
+static unsigned next_of_part(struct window *window, size_t first, size_t own, bool is_huge) {
     struct windows *windows = window->windows;
-    struct pageshare_window_part *part = part_of(window, first);
-    const struct pageshare_window_part_config config = config_of(windows);
-    struct pageshare_window_part_look look = found_of(window, first, own, is_huge);
-    struct pageshare_window_part its = *part, wanted = its;
-    unsigned order = pageshare_window_next_of_part(&wanted, &config, &look);
-    if (order != PAGESHARE_WINDOW_STAY) {
-        find_part_facts(window, first, &look);
-        if (order == PAGESHARE_WINDOW_SPLIT && !look.has_mappings) note_crowded(windows, part_counts(window, first)->shareable);
-        order = pageshare_window_next_of_part(&its, &config, &look);
-    } else {
-        its = wanted;
+    struct pageshare_process_part_notice notice = {
+        .kind = PAGESHARE_PROCESS_SETTLED, .config = config_of(windows), .found = found_of(window, first, own, is_huge)};
+    const struct pageshare_window_part before = part_of(window, first).part;
+    struct pageshare_window_part wanted = before;
+    unsigned order = pageshare_window_next_of_part(&wanted, &notice.config, &notice.found);
+    if (order != PAGESHARE_WINDOW_STAY) { /* (then it is found out whether that is so) */
+        notice.found.has_mappings = has_mappings(windows, PART);
+        notice.found.is_loose = MAY(window, first, PART, .kind = PAGESHARE_PROCESS_GIVE_UP);
+        notice.found.is_movable = MAY(window, first, PART, .kind = PAGESHARE_PROCESS_EXCHANGE);
     }
-    bool is_due = part->alone < config.alone && its.alone >= config.alone;
+    if (order == PAGESHARE_WINDOW_SPLIT && !notice.found.has_mappings) note_crowded(windows, notice.found.shareable);
+    order = note_part(window, first, &notice);
+    bool is_due = before.alone < notice.config.alone && part_of(window, first).part.alone >= notice.config.alone;
     if (is_due && order == PAGESHARE_WINDOW_STAY) windows->counts.not_made_whole++;
-    *part = its;
     return order;
 }
 
 void settle_part(struct window *window, size_t first, size_t own, bool is_huge) {
-    struct pageshare_window_part *part = part_of(window, first);
-    if (rest_of_part(window, first) < PART || window->ends || (!part->whole && !window->keeps_huge)) return;
-    enum pageshare_window_part_order order = next_of_part(window, first, own, is_huge);
+    const struct pageshare_window_part part = part_of(window, first).part;
+    note_huge(window, first, is_huge && window->windows->pagemap.scans && part.whole);
+    if (rest_of_part(window, first) < PART || window->ends || (!part.whole && (part.left > 0 || !window->keeps_huge))) return;
+    unsigned order = next_of_part(window, first, own, is_huge);
     if (order == PAGESHARE_WINDOW_STAY) return;
-    pageshare_window_wake(part);
+    NOTE_PART(window, first, .kind = PAGESHARE_PROCESS_WOKEN);
     if (order == PAGESHARE_WINDOW_SPLIT) split(window, first, is_huge);
     else make_whole(window, first);
 }

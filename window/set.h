@@ -4,7 +4,7 @@
 
 #include "bytes.h"
 #include "kernel.h"
-#include "pageshare_window.h"
+#include "pageshare_process.h"
 #include "trace.h"
 #include "window.h"
 #include <pthread.h>
@@ -25,7 +25,7 @@ enum {
 static const uint32_t ZEROS = WINDOW_NO_FRAME - 1;
 
 /*
- * A page is struct pageshare_window_page: the proved library writes it, and decides by it.
+ * A page is struct pageshare_window_page: the proved library keeps it, writes it and decides by it; here is what is read of a copy.
  *
  * A page that has left its window is the caller's alone, unless a frame is mapped at its place still. Then its own copy, which a device
  * may have pinned, stays where it is. Nothing is lent of it any more, but a discard must not uncover the frame.
@@ -65,18 +65,15 @@ struct window {
     struct windows *windows;
     struct window *next;
     uint8_t *at;
-    size_t count;  /* of pages */
-    size_t lead;   /* pages of its first part that lie before it */
-    uint32_t base; /* the number of its first page among all windows' */
-    page_entry *pages;
-    struct pageshare_window_part *parts;
-    struct pageshare_window_counts *counts; /* of each part's pages */
-    uint16_t *pins;                         /* how many transfers are under way of each page; NULL: none was yet */
-    uint8_t *cleared;                       /* a bit of each page: it was given up over a frame, where it is zeros of its own */
-    struct advice found;                    /* what was said of the range before it was a window */
+    size_t count;        /* of pages */
+    size_t lead;         /* pages of its first part that lie before it */
+    uint32_t base;       /* the number of its first page among all windows' */
+    size_t place;        /* in the process, which knows of its pages */
+    uint8_t *cleared;    /* a bit of each page: it was given up over a frame, where it is zeros of its own */
+    struct advice found; /* what was said of the range before it was a window */
     struct advice advice;
     size_t ready;    /* its pages before this one are left alone by KSM */
-    size_t seams;    /* between mappings that it consisted of when it was made: they count as mappings as long as it is one */
+    size_t seams;    /* between mappings that it consisted of when it was made */
     bool keeps_huge; /* the system may back parts of it by huge pages */
     bool has_cuts;   /* pages were cut out, of which the caller may have said advice since */
     bool ends;       /* nothing is lent of it any more */
@@ -102,6 +99,7 @@ struct windows {
     pthread_mutex_t lock; /* round all below but what never changes, and what only the looking thread uses */
     atomic_uint waiting;  /* threads that wait for the lock: looks let them go first */
     struct window *first;
+    struct pageshare_process process; /* what the library knows of the windows' pages */
     struct faults faults;
     struct pagemap pagemap;
     uint8_t *scratch;        /* place for SCRATCH pages that are held, or were */
@@ -151,13 +149,6 @@ static inline size_t least(size_t a, size_t b) { return a < b ? a : b; }
 
 static inline uint8_t *address_of(const struct window *window, size_t page) { return window->at + bytes_of(page); }
 
-static inline struct pageshare_window_part *part_of(const struct window *window, size_t page) {
-    return &window->parts[(page + window->lead) / PART];
-}
-/* The counts of the part that a page belongs to. */
-static inline struct pageshare_window_counts *part_counts(const struct window *window, size_t page) {
-    return &window->counts[(page + window->lead) / PART];
-}
 static inline size_t parts_in(const struct window *window) { return (window->count + window->lead + PART - 1) / PART; }
 /* How many pages there are from `first` on to the end of its part. */
 static inline size_t rest_of_part(const struct window *window, size_t first) {
@@ -183,7 +174,7 @@ static inline bool can_lend(const struct window *window) {
     return window->advice.dont_fork && !window->ends && !windows->is_over && !windows->is_watched;
 }
 
-/* Counts those that are under way at the pages of a new window. Returns false if that can't be. With the lock. */
+/* Counts those transfers that are under way at the pages of a new window. Returns false if that can't be. With the lock. */
 bool count_transfers(struct window *window);
 size_t bytes_of_places(const struct windows *windows);
 void free_places(struct windows *windows);
@@ -191,7 +182,7 @@ void free_places(struct windows *windows);
 static inline bool may_pin(const struct windows *windows) {
     return windows->config.pins != WINDOWS_PINS_NEVER || windows->transfers_elsewhere > 0;
 }
-/* Asks whether devices may pin pages by now. With the lock, or by the looking thread. */
+/* Asks whether devices may pin pages by now. With the lock. */
 void find_pins(struct windows *windows);
 
 /* For all threads but the looking one. */
@@ -207,13 +198,49 @@ static inline void unlock_set(struct windows *windows) { pthread_mutex_unlock(&w
 /* Notes something that went wrong in a look; the first is what the look returns. */
 void note_failure(struct windows *windows, enum window_status status, int cause);
 
-/*
- * How many mappings of the system begin at these pages, or at the one behind them.
- * What changes these pages changes the windows' count of mappings by what begins there then, less what began there before. With the lock.
- */
-size_t mappings_of(const struct window *window, size_t first, size_t count);
+/* ---- what the library knows of pages, and decides. All with the lock ---- */
 
-/* ---- what the library decides of pages. All with the lock ---- */
+/* A window's process and its place there, as calls of pageshare_process.h take them. */
+#define OF(WINDOW) &(WINDOW)->windows->process, (WINDOW)->place
+/* Notes what has become of pages, or asks something of them: the members of struct pageshare_process_notice, or _question. */
+#define NOTE(WINDOW, FIRST, COUNT, ...)                                                                                          \
+    pageshare_process_note(OF(WINDOW), FIRST, COUNT, &(struct pageshare_process_notice){__VA_ARGS__})
+#define MAY(WINDOW, FIRST, COUNT, ...)                                                                                           \
+    pageshare_process_may(OF(WINDOW), FIRST, COUNT, &(struct pageshare_process_question){__VA_ARGS__})
+
+/* The library hears what is so of the process from now on, or of a window that hasn't ended. */
+void follow_facts(struct windows *windows);
+void follow_state(struct window *window);
+static inline struct pageshare_process_state state_of(const struct window *window) {
+    return (struct pageshare_process_state){.inherited = !window->advice.dont_fork, .ends = window->ends};
+}
+
+/* Reads a page. Pages in a row are read at once (pageshare_process_read_pages). */
+static inline page_entry page_of(const struct window *window, size_t number) {
+    page_entry page = {.slot = 0};
+    pageshare_process_read_pages(OF(window), number, &page, 1);
+    return page;
+}
+/* Reads the part that a page belongs to. */
+static inline struct pageshare_process_part part_of(const struct window *window, size_t page) {
+    struct pageshare_process_part part = {.part = {.whole = false}};
+    pageshare_process_read_part(OF(window), page, &part);
+    return part;
+}
+/* Notes something of that part: the members of struct pageshare_process_part_notice. Returns what is to be done with it. */
+#define NOTE_PART(WINDOW, PAGE, ...) note_part(WINDOW, PAGE, &(struct pageshare_process_part_notice){__VA_ARGS__})
+static inline uint8_t note_part(const struct window *window, size_t page, const struct pageshare_process_part_notice *notice) {
+    uint8_t order = PAGESHARE_WINDOW_STAY;
+    pageshare_process_note_part(OF(window), page, notice, &order);
+    return order;
+}
+/* Whether windows may take the mappings of so many pages. */
+static inline bool has_mappings(struct windows *windows, size_t count) {
+    return pageshare_window_has_mappings(windows->mappings_most, pageshare_process_mappings(&windows->process), count);
+}
+/* Does something with a list of so many pages, at most PART: the members of struct pageshare_process_list, but for the arrays' lengths. */
+#define LIST(WINDOW, COUNT, ...) do_list(WINDOW, COUNT, &(struct pageshare_process_list){__VA_ARGS__})
+void do_list(const struct window *window, size_t count, struct pageshare_process_list *list);
 
 /* Pages by how they lie: sums of enum pageshare_window_kind. */
 enum {
@@ -233,26 +260,6 @@ bool has_kind_between(const struct window *window, const uint8_t *begin, const u
 /* How many pages from `first` on, of at most `most`, are all the window's or all not; and which. */
 size_t run_of_its(const struct window *window, size_t first, size_t most, bool *is_its);
 
-/* A window's tables and what is so of it and its process, as the library takes them. That stays so while the lock is held. */
-struct pageshare_window_tables tables_of(const struct window *window);
-#define TABLES(WINDOW) ((struct pageshare_window_tables[]){tables_of(WINDOW)})
-/* How many mappings windows may take, and have taken. */
-#define MAPPINGS(WINDOWS) (WINDOWS)->mappings_most, (WINDOWS)->counts.mappings
-/* Orders that pages that show their frames get memory of their own. `why`: what is so of them besides, from now on. */
-void order_home(struct window *window, size_t first, size_t count, const struct pageshare_window_facts *why);
-/* Which of these pages stay where they are; `copies` says before whether each has memory of its own, as the system says. */
-void find_staying(const struct window *window, size_t first, bool *copies, size_t count,
-                  const struct pageshare_window_facts *why);
-/* Whether a call of the monitor may go on by each of these pages, of which `why` is so from then on, beside what is so already. */
-bool may_go_on(const struct window *window, size_t first, size_t count, struct pageshare_window_facts why);
-/* Whether one may that gives them up: no write to any of them waits. */
-bool may_give_up(const struct window *window, size_t first, size_t count);
-/* Whether their memory may be exchanged for other memory: none is held, and nothing keeps one from being lent. */
-bool are_movable(const struct window *window, size_t first, size_t count);
-/* What is done next with held pages in a row, of which `row` has a byte each. */
-struct pageshare_window_row_order next_of_row(struct window *window, size_t first, const uint8_t *row, size_t count);
-/* Pages were given back as zeros, or have memory again. */
-void note_zero(struct window *window, size_t page, bool is_zero);
 /* A slot's number of a lender, by the name in 32 bits that the library gave it. */
 uint64_t slot_number(uint32_t name);
 
@@ -270,9 +277,6 @@ void note_moved(struct window *window, size_t first, size_t count);
  * With the lock.
  */
 void note_apart(struct window *window, size_t first, size_t count);
-
-/* Whether the system has mappings for zeros in place of pages in a row. What others of the process need is left to them. With the lock. */
-bool has_room_for_zeros(const struct window *window, size_t first, size_t count);
 
 /*
  * Whether a page was given up while the system had no mapping for it, so that it was cleared. Once no frame lies under it any more it is
@@ -309,11 +313,12 @@ struct window_result for_parts(struct window *window, size_t first, size_t count
 
 /* Says that huge pages leave a new window alone, but for parts that can be huge pages, which are whole. Returns 0 or an errno. */
 int begin_parts(struct window *window);
+/* The library hears which parts of a new window are whole. With the lock. */
+void note_whole_parts(struct window *window);
 /* Counts a window's parts, or counts them no more. With the lock. */
 void count_parts(struct window *window, bool is_more);
-/* Notes whether a part is a huge page. With the lock. */
-void note_huge(struct window *window, size_t first, bool is_huge);
-/* Splits a whole part, or makes a split one whole, if that is worth it by what a look has found of it. With the lock. */
+/* Notes whether a part is a huge page. Splits a whole one, or makes a split one whole, if that is worth it by what a look has found of it. With the
+ * lock. */
 void settle_part(struct window *window, size_t first, size_t own, bool is_huge);
 
 /* Notes that so many pages weren't lent since mappings are short. With the lock. */
@@ -324,7 +329,7 @@ void note_hold(struct windows *windows, uint64_t begun_ns, size_t pages);
 /* Reads the system's limit of mappings, if that counts. With the lock, or before there is a window. */
 void follow_limit(struct windows *windows);
 
-/* Frees a window's tables. */
+/* Frees what is kept of a window here. */
 void free_window(struct window *window);
 
 /*

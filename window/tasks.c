@@ -21,21 +21,25 @@ struct slots {
     size_t pages[WINDOW_BATCH];
 };
 
+/* Orders pages of a part to be released whose slots are to be, and collects these. With the lock. */
 static void collect_part(struct slots *slots, struct window *window, size_t first) {
-    const size_t before = slots->count;
-    slots->count += pageshare_window_to_release(TABLES(window), first, rest_of_part(window, first), slots->pages + before,
-                                                WINDOW_BATCH - before);
-    for (size_t i = before; i < slots->count; i++) slots->windows[i] = window;
+    const size_t begin = slots->count, all = rest_of_part(window, first);
+    page_entry pages[PART];
+    if (part_of(window, first).counts.releases == 0) return;
+    slots->count += pageshare_process_to_release(OF(window), first, all, slots->pages + begin, WINDOW_BATCH - begin);
+    pageshare_process_read_pages(OF(window), first, pages, all);
+    for (size_t i = begin; i < slots->count; i++) {
+        slots->windows[i] = window;
+        slots->slots[i] = slot_number(pages[slots->pages[i] - first].slot);
+    }
 }
 
-/* Orders pages to be released whose slots are to be, and collects these. Takes the lock. */
+/* The same of all pages, as many as one message names. Takes the lock. */
 static void collect(struct windows *windows, struct slots *slots) {
     slots->count = 0;
     lock_for_look(windows);
     for (struct window *window = windows->first; window != NULL && slots->count < WINDOW_BATCH; window = window->next)
-        for (size_t first = 0; first < window->count; first += rest_of_part(window, first))
-            if (part_counts(window, first)->releases > 0) collect_part(slots, window, first);
-    for (size_t i = 0; i < slots->count; i++) slots->slots[i] = slot_number(slots->windows[i]->pages[slots->pages[i]].slot);
+        for (size_t first = 0; first < window->count; first += rest_of_part(window, first)) collect_part(slots, window, first);
     unlock_set(windows);
 }
 
@@ -45,7 +49,7 @@ static void note_releases(struct windows *windows, const struct slots *slots, bo
     for (size_t i = 0, count = 1; i < slots->count; i += count, count = 1) {
         struct window *window = slots->windows[i];
         while (i + count < slots->count && slots->windows[i + count] == window) count++;
-        pageshare_window_released(TABLES(window), slots->pages + i, count, are_released);
+        pageshare_process_released(OF(window), slots->pages + i, count, are_released);
         for (size_t n = i; are_released && n < i + count; n++)
             trace_release(windows->trace, window->base + (uint32_t)slots->pages[n]);
     }
@@ -99,6 +103,7 @@ static void look_for_locks(struct windows *windows) {
     windows->locked_kib = kib;
     lock_for_look(windows);
     windows->is_locked = is_locked;
+    follow_facts(windows);
     unlock_set(windows);
     if (kib > 0) windows->locks_after_ns = again_ns(windows, begun, clock_spent_ns() - spent);
     if (windows->is_locked) {
@@ -133,6 +138,7 @@ static void look_for_watches(struct windows *windows) {
     lock_for_look(windows);
     windows->watches_after_ns = again_ns(windows, begun_ns, clock_spent_ns() - spent);
     if (refused == 0 && !is_any && windows->watches_begun == begun) windows->is_watched = false;
+    follow_facts(windows);
     unlock_set(windows);
     if (refused != 0) note_failure(windows, WINDOW_NO_PAGEMAP, refused);
 }
@@ -201,22 +207,12 @@ static bool go_to_window(struct look *look) {
     return true;
 }
 
-static bool has_slots(const struct window *window) {
-    for (size_t part = 0; part < parts_in(window); part++)
-        if (window->counts[part].releases > 0) return true;
-    return false;
-}
-
 /* Frees windows that have ended, and hold no slot any more. With the lock. */
 static void free_ended(struct windows *windows) {
     for (struct window **at = &windows->first; *at != NULL;) {
         struct window *window = *at;
-        if (!window->ended || has_slots(window)) {
-            at = &window->next;
-            continue;
-        }
-        *at = window->next;
-        free_window(window);
+        if (pageshare_process_take_out(OF(window))) *at = window->next, free_window(window);
+        else at = &window->next;
     }
 }
 

@@ -25,9 +25,7 @@ static void find_pages(const struct window *window, uint64_t begin, uint64_t end
 static bool count_at(struct window *window, const struct pageshare_window_transfer *transfer) {
     size_t first, count;
     find_pages(window, transfer->begin, transfer->end, &first, &count);
-    if (count == 0) return true;
-    if (window->pins == NULL) window->pins = table_make(window->count, sizeof *window->pins);
-    return window->pins != NULL && pageshare_window_pin(window->pins, window->count, first, count);
+    return count == 0 || pageshare_process_pin(OF(window), first, count, true);
 }
 
 /* Counts it no more, at windows before this one. */
@@ -35,7 +33,7 @@ static void count_no_more(struct windows *windows, const struct pageshare_window
     size_t first, count;
     for (struct window *window = windows->first; window != stop; window = window->next) {
         find_pages(window, transfer->begin, transfer->end, &first, &count);
-        if (count > 0) pageshare_window_unpin(window->pins, window->count, first, count);
+        if (count > 0) pageshare_process_pin(OF(window), first, count, false);
     }
 }
 
@@ -97,6 +95,7 @@ struct windows_transfer windows_transfer_begin(struct windows *windows, const st
         bool is_empty = buffers[i].iov_len == 0;
         if (!is_empty && !begin_one(windows, begin, begin + buffers[i].iov_len, &begun)) begun.elsewhere++;
     }
+    follow_facts(windows);
     unlock_set(windows);
     return begun;
 }
@@ -113,6 +112,7 @@ void windows_transfer_end(struct windows *windows, struct windows_transfer trans
         windows->places_free = number;
     }
     for (size_t i = 0; i < transfer.elsewhere; i++) pageshare_window_end_transfer(&none, 0, &windows->transfers_elsewhere, 0);
+    follow_facts(windows);
     unlock_set(windows);
 }
 

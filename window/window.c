@@ -8,10 +8,6 @@
 static size_t bytes_of_bits(const struct window *window) { return (window->count + 7) / 8; }
 
 void free_window(struct window *window) {
-    table_free(window->pages, window->count, sizeof *window->pages);
-    table_free(window->parts, parts_in(window), sizeof *window->parts);
-    table_free(window->counts, parts_in(window), sizeof *window->counts);
-    table_free(window->pins, window->count, sizeof *window->pins);
     table_free(window->cleared, bytes_of_bits(window), sizeof *window->cleared);
     table_free(window, 1, sizeof *window);
 }
@@ -53,15 +49,12 @@ static struct window_result find_facts_of_range(void *at, size_t bytes, struct r
     return facts->is_watched ? result_of(WINDOW_WATCHED, EBUSY) : result_of(WINDOW_OK, 0);
 }
 
-static struct window *make_tables(struct windows *windows, void *at, size_t pages) {
+static struct window *make_table(struct windows *windows, void *at, size_t pages) {
     struct window *window = table_make(1, sizeof *window);
     if (window == NULL) return NULL;
     *window = (struct window){.windows = windows, .at = at, .count = pages, .lead = (uintptr_t)at / WINDOW_PAGE_BYTES % PART};
-    window->pages = table_make(pages, sizeof *window->pages);
-    window->parts = table_make(parts_in(window), sizeof *window->parts);
-    window->counts = table_make(parts_in(window), sizeof *window->counts);
     window->cleared = table_make(bytes_of_bits(window), sizeof *window->cleared);
-    if (window->pages != NULL && window->parts != NULL && window->counts != NULL && window->cleared != NULL) return window;
+    if (window->cleared != NULL) return window;
     free_window(window);
     return NULL;
 }
@@ -92,18 +85,29 @@ static void unprepare(struct window *window) {
     unlock_set(window->windows);
 }
 
+/* Offers a new window to the process, which knows then which of its pages were pinned. Returns false if there is no memory. With the lock. */
+static bool offer(struct window *window) {
+    struct pageshare_process_offer offer = {.count = window->count, .seams = window->seams, .state = state_of(window)};
+    offer.number = (uintptr_t)window->at / WINDOW_PAGE_BYTES;
+    window->place = pageshare_process_offer(&window->windows->process, &offer);
+    if (window->place == SIZE_MAX) return false;
+    if (count_transfers(window)) return true;
+    pageshare_process_end(OF(window));
+    pageshare_process_take_out(OF(window));
+    return false;
+}
+
 /* Takes a new window into its set. With the lock. */
 static struct window_result enter(struct window *window) {
     struct windows *windows = window->windows;
     struct window_result result = find_numbers(windows, window);
     if (result.status != WINDOW_OK) return result;
-    if (!count_transfers(window)) return result_of(WINDOW_NO_MEMORY, ENOMEM);
+    if (!offer(window)) return result_of(WINDOW_NO_MEMORY, ENOMEM);
+    note_whole_parts(window);
     window->next = windows->first;
     windows->first = window;
     windows->counts.windows++;
     windows->counts.pages += window->count;
-    windows->counts.mappings +=
-        window->seams + pageshare_window_mappings_new(window->parts, parts_in(window), window->lead, window->count);
     count_parts(window, true);
     return result;
 }
@@ -130,7 +134,7 @@ struct window_result window_read(struct window **read, struct windows *windows, 
     *read = NULL;
     struct window_result result = find_facts_of_range(at, bytes, &facts);
     if (result.status != WINDOW_OK) return result;
-    struct window *window = make_tables(windows, at, bytes / WINDOW_PAGE_BYTES);
+    struct window *window = make_table(windows, at, bytes / WINDOW_PAGE_BYTES);
     if (window == NULL) return result_of(WINDOW_NO_MEMORY, ENOMEM);
     window->found = window->advice = facts.advice;
     window->seams = facts.mappings - 1;
@@ -160,6 +164,7 @@ struct window_result window_make(struct window **made, struct windows *windows, 
 static void set_ends(struct window *window, bool ends) {
     lock_set(window->windows);
     window->ends = ends;
+    follow_state(window);
     unlock_set(window->windows);
 }
 
@@ -185,9 +190,9 @@ struct window_result window_free(struct window *window, enum window_end end) {
     lock_set(windows);
     windows->counts.windows--;
     windows->counts.pages -= window->count;
-    windows->counts.mappings -= mappings_of(window, 0, window->count) + window->seams;
     count_parts(window, false);
     end_advice(window, 0, window->count);
+    pageshare_process_end(OF(window));
     window->ended = window->ends = true; /* (the looking thread may free it from now on) */
     unlock_set(windows);
     return result;
@@ -213,6 +218,7 @@ struct window_result window_advise(struct window *window, int advice) {
     bool was_dont_fork = window->advice.dont_fork;
     if (advice == MADV_DOFORK) window->advice.dont_fork = false;
     if (advice == MADV_DONTDUMP || advice == MADV_DODUMP) window->advice.dont_dump = advice == MADV_DONTDUMP;
+    follow_state(window);
     unlock_set(windows);
     /* (a child would go on showing frames that are released) */
     if (advice == MADV_DOFORK) result = for_parts(window, 0, window->count, take_home);
@@ -223,6 +229,7 @@ struct window_result window_advise(struct window *window, int advice) {
     if (cause != 0) result = result_of(WINDOW_ADVICE, cause);
     if (advice == MADV_DOFORK && result.status != WINDOW_OK) window->advice.dont_fork = was_dont_fork;
     if (advice == MADV_DONTFORK && result.status == WINDOW_OK) window->advice.dont_fork = true;
+    follow_state(window);
     unlock_set(windows);
     return result;
 }
@@ -230,10 +237,9 @@ struct window_result window_advise(struct window *window, int advice) {
 enum window_page window_page_is(struct window *window, size_t page) {
     enum window_page is = WINDOW_PAGE_OUT;
     lock_set(window->windows);
-    if (page < window->count && !is_out(&window->pages[page]))
-        is = is_lent(&window->pages[page]) || shows_past(&window->pages[page]) ? WINDOW_PAGE_LENT
-             : is_given_back(&window->pages[page])                             ? WINDOW_PAGE_ZERO
-                                                                               : WINDOW_PAGE_PRIVATE;
+    page_entry its;
+    if (pageshare_process_read_pages(OF(window), page, &its, 1) && !is_out(&its))
+        is = is_lent(&its) || shows_past(&its) ? WINDOW_PAGE_LENT : is_given_back(&its) ? WINDOW_PAGE_ZERO : WINDOW_PAGE_PRIVATE;
     unlock_set(window->windows);
     return is;
 }

@@ -13,7 +13,7 @@
  *
  * windows_look, windows_attach, windows_detach, windows_taken_up and the calls for a budget are made by one thread at a time. All other
  * calls may come from any thread at any time, but windows_free. Nobody waits long: the lock inside is never held while a lender is called,
- * nor over a long run of pages.
+ * nor over a long run of pages, but by window_begin and window_free: the first writes the tables of all pages, some 7 ms for each GiB.
  *
  * Callers must:
  * - not discard (madvise), map, unmap, move or protect a part of a window, but by window_discard, window_cut and window_forget. A

@@ -60,7 +60,10 @@ static uint8_t *map_frames(size_t frames, int fd, bool *are_given) {
 }
 
 static struct window_result open_parts(struct windows *windows, const struct windows_config *config) {
+    static const struct pageshare_process_facts none;
     struct range_facts facts;
+    if (!pageshare_process_make(&windows->process, &none)) return result_of(WINDOW_NO_MEMORY, ENOMEM);
+    follow_facts(windows);
     int cause = faults_open(&windows->faults, config->faults, config->never_move);
     if (cause != 0) return result_of(WINDOW_NO_FAULTS, cause);
     cause = pagemap_open(&windows->pagemap, config->never_scan);
@@ -79,6 +82,7 @@ static struct window_result open_parts(struct windows *windows, const struct win
 void follow_limit(struct windows *windows) {
     if (!windows->follows_limit) return;
     windows->mappings_most = windows->counts.mappings_most = (size_t)pageshare_window_mappings_most(mappings_limit());
+    follow_facts(windows);
 }
 
 static void begin_budget(struct windows *windows, const struct windows_config *config) {
@@ -136,6 +140,7 @@ void windows_free(struct windows *windows) {
     }
     forget_frames(windows);
     free_places(windows);
+    pageshare_process_free(&windows->process);
     close_file(windows->faults.fd);
     close_file(windows->pagemap.fd);
     if (windows->scratch != NULL) unmap_apart(windows->scratch, bytes_of(SCRATCH));
@@ -189,17 +194,10 @@ struct window_result windows_attach(struct windows *windows, const struct window
 
 /* No slot of a part counts any more; what its pages show is of the past. Takes the lock. */
 static void detach_part(struct window *window, size_t first) {
-    struct windows *windows = window->windows;
-    const size_t count = rest_of_part(window, first);
-    lock_for_look(windows);
-    struct pageshare_window_tables tables = tables_of(window);
-    size_t others = 0;
-    /* (the mappings of a window that has ended aren't counted) */
-    if (window->ended) tables.mappings = &others;
-    pageshare_window_detach(&tables, first, count);
-    struct pageshare_window_part *part = part_of(window, first);
-    *part = (struct pageshare_window_part){.whole = part->whole, .is_huge = part->is_huge};
-    unlock_set(windows);
+    lock_for_look(window->windows);
+    NOTE(window, first, rest_of_part(window, first), .kind = PAGESHARE_PROCESS_DETACHED);
+    NOTE_PART(window, first, .kind = PAGESHARE_PROCESS_FORGOTTEN);
+    unlock_set(window->windows);
 }
 
 /* (windows that are made meanwhile come before the first one, and have no slot; the thread that calls this alone frees windows) */
@@ -216,20 +214,18 @@ static void each_part(struct windows *windows, void (*does)(struct window *windo
     windows->awaits_loans = false;
 }
 
-/* A page wasn't lent of which a lender was asked for a loan. With the lock. */
-static void refuse_loan(struct window *window, uint32_t number) {
-    const uint64_t slot = 0;
-    const uint32_t frame = WINDOW_NO_FRAME;
-    uint8_t answer;
-    pageshare_window_loaned(TABLES(window), &number, 1, &slot, 1, &frame, 1, 0, false, &answer, 1);
-}
-
 /* None of a part's pages was lent that a lender was asked to lend. Takes the lock. */
 static void refuse_part(struct window *window, size_t first) {
-    const size_t behind = first + rest_of_part(window, first);
+    const size_t all = rest_of_part(window, first);
+    page_entry pages[PART];
+    uint32_t numbers[PART];
+    uint8_t answers[PART];
+    size_t count = 0;
     lock_for_look(window->windows);
-    for (size_t i = first; i < behind; i++)
-        if (belief_of(&window->pages[i]) == PAGESHARE_WINDOW_COPIED) refuse_loan(window, (uint32_t)i);
+    pageshare_process_read_pages(OF(window), first, pages, all);
+    for (size_t i = 0; i < all; i++)
+        if (belief_of(&pages[i]) == PAGESHARE_WINDOW_COPIED) numbers[count++] = (uint32_t)(first + i);
+    LIST(window, count, .kind = PAGESHARE_PROCESS_LOANED, .is_heard = false, .numbers = numbers, .answers = answers);
     unlock_set(window->windows);
 }
 
@@ -255,6 +251,7 @@ void windows_tune(struct windows *windows, const struct windows_tuning *tuning) 
 void windows_set_pins(struct windows *windows, enum windows_pins pins) {
     lock_set(windows);
     windows->config.pins = pins;
+    follow_facts(windows);
     unlock_set(windows);
 }
 
@@ -263,6 +260,7 @@ int windows_watch(struct windows *windows) {
     windows->is_watched = true;
     windows->watches_open++;
     windows->watches_begun++;
+    follow_facts(windows);
     int cause = free_stuck(windows);
     unlock_set(windows);
     return cause;
@@ -285,6 +283,7 @@ bool windows_are_watched(struct windows *windows) {
 void windows_end(struct windows *windows) {
     lock_set(windows);
     windows->is_over = true;
+    follow_facts(windows);
     uint8_t *at = take_frames(windows);
     size_t bytes = bytes_of(windows->lender.frame_count);
     unlock_set(windows);
@@ -300,20 +299,23 @@ int windows_pause(struct windows *windows) {
 
 void windows_resume(struct windows *windows) { unlock_set(windows); }
 
+/* Counts pages of a window, and what tables it takes: of each page its entry and its pins, and a bit of `cleared`. With the lock. */
+static void count_window(const struct window *window, struct windows_counts *counts) {
+    const size_t each = sizeof(page_entry) + sizeof(uint16_t), part = sizeof(struct pageshare_process_part);
+    counts->table_bytes += sizeof *window + window->count * each + parts_in(window) * part + window->count / 8;
+    for (size_t first = 0; first < window->count && !window->ended; first += rest_of_part(window, first)) {
+        const struct pageshare_window_counts its = part_of(window, first).counts;
+        counts->lent += its.lent;
+        counts->zeros_now += its.zeros;
+    }
+}
+
 void windows_count(struct windows *windows, struct windows_counts *counts) {
     lock_set(windows);
     *counts = windows->counts;
+    counts->mappings = pageshare_process_mappings(&windows->process);
     counts->table_bytes = sizeof *windows + bytes_of_places(windows);
     counts->left_mapped = left_mapped();
-    for (const struct window *window = windows->first; window != NULL; window = window->next) {
-        size_t parts = parts_in(window);
-        for (size_t i = 0; i < parts && !window->ended; i++) {
-            counts->lent += window->counts[i].lent;
-            counts->zeros_now += window->counts[i].zeros;
-        }
-        counts->table_bytes += sizeof *window + window->count * sizeof window->pages[0];
-        counts->table_bytes += parts * (sizeof window->parts[0] + sizeof window->counts[0]) + window->count / 8;
-        if (window->pins != NULL) counts->table_bytes += window->count * sizeof window->pins[0];
-    }
+    for (const struct window *window = windows->first; window != NULL; window = window->next) count_window(window, counts);
     unlock_set(windows);
 }

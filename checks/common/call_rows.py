@@ -4,16 +4,17 @@
     make ranges range[3]                  an array of three structs, of which all is zeros
     make why facts 0 0 0 0 0 1 0          a struct with these members
     make pins uint16_t[4] 0 1 7 0         numbers
-    tables window pages pins/2 lead=510   the tables of a window: what was made under these names, whole or so much of it, and numbers
+    over list list kind=TO_ASK numbers/2  a struct of arrays: what was made under these names, whole or so much of it, and numbers
     == the name of a case                 what was made before the first case is made anew for each one
     add_range ranges 3 count 30 40 1 = true
     9 * look_ended times finds true       the same row so many times
     task := next_task tasks budget 5 0    what the call returns is kept
+    call make process facts = true        a call whose name is one of these words
     set ranges[1].window 7                a member, a number or a struct becomes this
     is ranges[1] 10 20 7 0 0              what it contains is due
 
 The values of an array begin anew where there are fewer than it has members. A word is a number, true or false, a constant of the header
-without PAGESHARE_WINDOW_, or something that was made. A row with `=` or `is` is compared.
+without what its names begin with, or something that was made. A row with `=` or `is` is compared.
 """
 from __future__ import annotations
 
@@ -28,7 +29,7 @@ from typing import Any
 from common.window_library import TYPES, Library, values_of
 from harness import Tally
 
-PLACE = re.compile(r"(\w+)(?:\[(\d+)\])?(?:\.(\w+))?")
+PLACE = re.compile(r"(\w+)(?:\[(\d+)\])?((?:\.\w+)*)")
 MADE = re.compile(r"(\w+)(?:\[(\d+)\])?")
 TIMES = re.compile(r"(\d+) \* (.*)")
 # A row, and where it is.
@@ -50,6 +51,11 @@ def filled(kind: Any, values: Iterator[Any]) -> Any:
     return kind(next(values))
 
 
+def member_of(at: Any, key: Any) -> Any:
+    """A member of a struct, or what an array or the names that were made have at a place."""
+    return getattr(at, key) if isinstance(at, ctypes.Structure) else at[key]
+
+
 class Rows:
     """What the rows of a case have made so far."""
 
@@ -57,15 +63,15 @@ class Rows:
         self.library, self.tally, self.name = library, tally, name
         self.made: dict[str, Any] = {}
 
-    def tables(self, words: Sequence[str]) -> Any:
-        """The tables of a window, of what these words are by now: `pages`, `counts=parts`, `pins/2` or `lead=510`."""
+    def over(self, kind: str, *words: str) -> Any:
+        """A struct of arrays, of what these words are by now: `row`, `given=memory`, `numbers/2` or `first=510`."""
         members = {}
         for word in words:
             name, _, of = word.partition("=")
             of, _, count = (of or name).partition("/")
             name = name.partition("/")[0]
             members[name] = (self.value(of), int(count, 0)) if count else self.value(of)
-        return self.library.tables(**members)
+        return self.library.over(kind, **members)
 
     def value(self, word: str) -> Any:
         """What a word is."""
@@ -75,11 +81,17 @@ class Rows:
             return self.library.constants[word]
         if word[0].isdigit() or word[0] == "-":
             return int(word, 0)
-        name, place, member = PLACE.fullmatch(word).groups()  # type: ignore[union-attr]
-        found = self.made[name]
-        found = self.tables(found) if isinstance(found, list) else found
-        found = found if place is None else found[int(place)]
-        return found if member is None else getattr(found, member)
+        found = member_of(*self.place(word))
+        return self.over(*found) if isinstance(found, list) else found
+
+    def place(self, word: str) -> tuple[Any, Any]:
+        """What a word names: of what it is a member, a place or a name, and which one."""
+        name, place, members = PLACE.fullmatch(word).groups()  # type: ignore[union-attr]
+        keys: list[Any] = [name, *([] if place is None else [int(place)]), *members.split(".")[1:]]
+        at: Any = self.made
+        for key in keys[:-1]:
+            at = member_of(at, key)
+        return at, keys[-1]
 
     def make(self, name: str, what: str, *words: str) -> None:
         kind, count = MADE.fullmatch(what).groups()  # type: ignore[union-attr]
@@ -88,15 +100,13 @@ class Rows:
         self.made[name] = filled(of, itertools.cycle([self.value(word) for word in words] or [0]))
 
     def set(self, word: str, *words: str) -> None:
-        name, place, member = PLACE.fullmatch(word).groups()  # type: ignore[union-attr]
-        values = [self.value(it) for it in words]
-        at = self.made[name] if place is None or member is None else self.made[name][int(place)]
-        if member is not None:
-            setattr(at, member, values[0])
-        elif place is not None:
-            at[int(place)] = values[0] if len(values) == 1 else type(at[int(place)])(*values)
+        (at, key), values = self.place(word), [self.value(it) for it in words]
+        before = member_of(at, key)
+        value = values[0] if isinstance(before, int) else filled(type(before), iter(values))
+        if isinstance(at, ctypes.Structure):
+            setattr(at, key, value)
         else:
-            self.made[name] = filled(type(at), iter(values))
+            at[key] = value
 
     def case(self, number: int, found: Any, due: Sequence[str]) -> None:
         """A case: what a row gives, and what was due."""
@@ -116,13 +126,14 @@ class Rows:
         due = words[words.index("=") + 1 :] if "=" in words else None
         if name == "make":
             self.make(*words)
-        elif name == "tables":
+        elif name == "over":
             self.made[words[0]] = words[1:]
         elif name == "set":
             self.set(*words)
         elif name == "is":
             self.case(number, self.value(words[0]), words[1:])
         else:
+            name, *words = words if name == "call" else [name, *words]
             given = words if due is None else words[: words.index("=")]
             found = self.library.call(name, *map(self.value, given))
             if kept:

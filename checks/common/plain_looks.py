@@ -5,6 +5,7 @@ A page is idle once it was found alike as often as STILL says. Numbers of steps 
 from __future__ import annotations
 
 import dataclasses
+from collections.abc import Sequence
 
 from common.plain_page import SHOWING, WITH_SLOT, Facts, Page
 
@@ -22,25 +23,96 @@ TURNS, WHOLE_TURNS, TOGETHER = 8, 2, 64
 READ_EACH, READ_EACH_OVER, PASSING_EACH = 16, 2, 4
 # Next to nothing is one page in so many.
 CALM_PART = 16
+# What is to be done with a part, which has so many pages.
+STAY, SPLIT, MAKE_WHOLE = range(3)
+PART = 512
+
+
+@dataclasses.dataclass(frozen=True)
+class Look:
+    """A look, and how often it takes what."""
+
+    zeros: int = 0
+    ready: int = 0
+    look: int = 0
+    turns: int = 0
+    rest_most: int = 0
+    is_return: bool = False
+
+
+@dataclasses.dataclass(frozen=True)
+class PartConfig:
+    """When parts are split, and when they are made whole."""
+
+    huge_from: int = 0
+    alone_part: int = 0
+    alone: int = 0
+    pause: int = 0
+
+
+@dataclasses.dataclass(frozen=True)
+class PartFound:
+    """What a look found of a part."""
+
+    own: int = 0
+    shareable: int = 0
+    is_huge: bool = False
+    may_be_huge: bool = False
+    may_lend: bool = False
+    has_mappings: bool = False
+    may_pin: bool = False
+    is_loose: bool = False
+    is_movable: bool = False
 
 
 @dataclasses.dataclass
 class Part:
-    """What is known of a part, and of the look at it: how many looks a turn is apart, and how many pages are left out at most."""
+    """What is known of a part, and the look at it."""
 
     whole: bool = False
+    pause: int = 0
+    alone: int = 0
     rest: int = 0
     left: int = 0
     is_still: bool = False
-    own: int = 512
-    turns: int = 16
-    rest_most: int = 7
-    zeros: int = 70
+    is_huge: bool = False
+    own: int = 0
+    by: Look = Look()
+
+    def known(self) -> tuple[int, ...]:
+        """Its members as the library has them."""
+        return (self.whole, self.pause, self.alone, self.rest, self.left, self.is_still, self.is_huge, self.own)
+
+    # ---- what is done with it ----
+
+    def is_to_change(self, config: PartConfig, found: PartFound) -> bool:
+        """It is to be split, or made whole, unless it was a short time ago."""
+        if self.whole:
+            least = config.huge_from if found.is_huge else 1
+            return found.is_loose and found.may_lend and found.has_mappings and 0 < found.shareable >= least
+        share = min(config.huge_from, PART)
+        is_alone = config.alone_part < config.huge_from and (PART - found.own) * config.alone_part < share
+        self.alone = min(self.alone + 1, 255) if is_alone else 0
+        return found.may_be_huge and found.may_lend and found.is_movable and not found.may_pin and self.alone >= config.alone
+
+    def settle(self, config: PartConfig, found: PartFound) -> int:
+        """A look found this of it. Returns what is to be done with it."""
+        if self.pause:
+            self.pause -= 1
+        elif self.is_to_change(config, found):
+            self.pause, self.alone = config.pause, 0
+            return SPLIT if self.whole else MAKE_WHOLE
+        return STAY
+
+    def forget(self) -> None:
+        """What looks have found of it counts no more."""
+        self.pause = self.alone = self.rest = self.left = self.own = 0
+        self.is_still = False
 
     # ---- which pages a look takes ----
 
     def idle_apart(self) -> int:
-        turns = self.turns or TURNS
+        turns = self.by.turns or TURNS
         return max(turns * WHOLE_TURNS if self.whole else turns, self.rest + 1)
 
     def looks_apart(self, page: Page) -> int:
@@ -80,7 +152,7 @@ class Part:
 
     def found(self, fingerprint: int) -> int:
         """What an idle page with this fingerprint is."""
-        return (COUNT if self.whole else ZEROS) if fingerprint == self.zeros else IDLE
+        return (COUNT if self.whole else ZEROS) if fingerprint == self.by.zeros else IDLE
 
     def begin(self, page: Page, facts: Facts, look: int, number: int, memory: int, is_ready: bool) -> int:
         """What is done first. Memory is none, some, or some that is swapped out."""
@@ -123,7 +195,7 @@ class Part:
         if changes * CALM_PART > own:
             self.rest = self.left = 0
         elif self.left == 0:
-            self.rest = self.left = min(self.rest * 2 + 1, self.rest_most)
+            self.rest = self.left = min(self.rest * 2 + 1, self.by.rest_most)
         else:
             self.left -= 1
         self.own, self.is_still = own, changes == 0
@@ -180,18 +252,15 @@ class Scan:
     """A scan of pages in a row, of which the first has a number: what it keeps of each page."""
 
     part: Part
-    look: int
     first: int
-    ready: int
-    is_return: bool
-    facts: list[Facts]
-    pages: list[Page]
-    memory: list[int]
+    facts: Sequence[Facts]
+    pages: Sequence[Page]
+    memory: Sequence[int] = ()
 
     def take(self, place: int) -> int:
         """It takes a page. Returns its byte."""
         page, number, memory = self.pages[place], self.first + place, self.memory[place]
-        step = self.part.begin(page, self.facts[place], self.look, number, memory, number < self.ready)
+        step = self.part.begin(page, self.facts[place], self.part.by.look, number, memory, number < self.part.by.ready)
         has_memory = memory in (1, 2)
         again = AGAIN if is_again(page) and step in COUNTED else 0
         return step + TAKEN + again + (MEMORY if has_memory else 0) + (YOUNG if has_memory and is_young(page) else 0)
@@ -201,11 +270,11 @@ class Scan:
             page = self.pages[place]
             if not takes_all and self.memory[place] not in (1, 2):
                 return False
-            return is_young(page) if self.is_return else self.part.rest == 0 or self.part.takes(page, self.look, self.first + place)
+            return is_young(page) if self.part.by.is_return else self.part.rest == 0 or self.part.takes(page, self.part.by.look, self.first + place)
 
         return [self.take(place) if is_taken(place) else 0 for place in range(len(self.pages))]
 
-    def done(self, row: list[int], outcomes: list[tuple[int, int, bool]]) -> list[int]:
+    def done(self, row: Sequence[int], outcomes: Sequence[tuple[int, int, bool]]) -> list[int]:
         """What came of the steps."""
 
         def after(place: int) -> int:
@@ -213,7 +282,7 @@ class Scan:
             if step in (OVER, IDLE, ZEROS):
                 return byte
             was_idle, was_again = page.looks >= STILL, is_again(page)
-            following = self.part.done(page, step, self.look, self.first + place, *outcomes[place])
+            following = self.part.done(page, step, self.part.by.look, self.first + place, *outcomes[place])
             byte = byte & (TAKEN | CHANGED | AGAIN | MEMORY) | following
             byte |= CHANGED if was_idle and page.looks < STILL else 0
             byte |= AGAIN if was_again and following in COUNTED else 0
@@ -221,12 +290,12 @@ class Scan:
 
         return [after(place) for place in range(len(row))]
 
-    def follow(self, row: list[int]) -> list[int]:
+    def follow(self, row: Sequence[int]) -> list[int]:
         """Pages are taken that are beside changed ones, and were left out."""
 
         def is_taken(place: int) -> bool:
             beside = any(0 <= at < len(row) and row[at] & CHANGED for at in (place - 1, place + 1))
-            left_out = not self.part.takes(self.pages[place], self.look, self.first + place)
+            left_out = not self.part.takes(self.pages[place], self.part.by.look, self.first + place)
             return not row[place] & TAKEN and beside and self.memory[place] == 1 and left_out
 
         return [self.take(place) if is_taken(place) else row[place] for place in range(len(row))]

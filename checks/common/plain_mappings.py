@@ -17,7 +17,9 @@ class Mappings:
     lead: int
 
     def is_whole(self, at: int) -> bool:
-        return self.whole[(self.lead + at) // PART]
+        """Whether a page's part is whole. One that isn't there counts as split."""
+        number = (self.lead + at) // PART
+        return number < len(self.whole) and self.whole[number]
 
     def begins(self, at: int) -> bool:
         """Whether a mapping begins at a page."""

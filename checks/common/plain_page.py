@@ -1,11 +1,10 @@
-"""A page of a window with a field for each fact, and what each call makes of it: the rules of docs/MONITOR.md and of the header, in plain Python.
+"""A page of a window with a field for each fact, and what each call makes of it: the rules of docs/MONITOR.md and of the headers, in plain Python.
 
 Numbers of beliefs, orders and outcomes are those of window/pageshare_window.h.
 """
 from __future__ import annotations
 
 import dataclasses
-import random
 from collections.abc import Iterable
 
 PRIVATE, CHOSEN, COPIED, READY, HELD, EQUAL, LETTING_GO, SHOWN, HOMING_IN_PLACE, HOMING, LEAVING = range(11)
@@ -61,7 +60,7 @@ class Facts:
     ended: bool = False
 
 
-NONE, LOCKED_FACTS = Facts(), Facts(locked=True)
+NONE = Facts()
 
 
 @dataclasses.dataclass
@@ -82,16 +81,6 @@ class Page:
     looks: int = 0
     asks: int = 0
     seen: bool = False
-
-    @staticmethod
-    def of(slot: int, frame: int, clue: int, belief: int, looks: int) -> Page:
-        """The page of these 12 bytes. A stage that no belief has is that of a private page, and a target counts on the way to it alone."""
-        stage, target = belief & 15, belief & ZEROS if READY <= belief & 15 <= LETTING_GO else 0
-        return Page(
-            stage | target if stage <= LEAVING else PRIVATE, slot, frame,
-            bool(looks & 1), bool(belief & 32), bool(belief & 64), bool(belief & 128), bool(looks & 2), bool(looks & 4), bool(looks & 8),
-            clue & 0x7FFF, looks >> 4 & 3, looks >> 6, bool(clue & 0x8000),
-        )
 
     def bytes(self) -> tuple[int, int, int, int, int]:
         """Its slot, frame, clue, belief and looks as the library has them."""
@@ -211,6 +200,12 @@ class Page:
         self.clue = 0 if self.over else self.clue
         self.put_memory(False, moved, begins)
 
+    def one_memory(self) -> None:
+        """Memory with what it contained is moved to its place: its lender hears that, and one over a frame is forgotten."""
+        if self.over:
+            self.forget()
+        self.written()
+
     def begin(self) -> None:
         """It begins what was moved, if it was moved."""
         self.begins = self.begins or self.moved
@@ -284,15 +279,6 @@ class Page:
         self.ordered = False
         self.belief = LETTING_GO | ZEROS if waits else PRIVATE
         self.forget()
-
-
-def some_page(chance: random.Random) -> Page:
-    """A page of any bytes."""
-    clue = chance.choice([0, 1, 2, 32767]) + chance.choice([0, 32768])
-    page = Page.of(chance.randrange(4), chance.randrange(4), clue, chance.randrange(256), chance.randrange(256))
-    if page.belief in WITH_SLOT - WITH_FRAME:
-        page.frame = 0
-    return page
 
 
 def sums(pages: Iterable[Page]) -> tuple[int, ...]:

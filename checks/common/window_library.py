@@ -1,13 +1,14 @@
 """The proved libraries for windows and for hosts, called from Python as their headers declare them.
 
     library = built()
-    page, counts = library.make("page"), library.make("counts")
-    library.call("leave", library.tables(pages=page, counts=counts), 0, 1)
-    page.belief == library.constants["OUT"]
+    budget = library.make("budget")
+    library.call("begin", budget, 10, 50, 0, 0)
+    budget.percent == 10
 
 Names are those of the header, without what they all begin with. Structs and functions are read off the header, so a new one needs no line
 here. Which member a struct has at which place is what `checks/structs.py` compares with the library's. `built_host` is the library for
-hosts: its handle is the struct `host`, and a list of pages is passed as an array of bytes.
+hosts: its handle is the struct `host`, and a list of pages is passed as an array of bytes. `built_process` has the calls of the library for windows
+over all windows of a process: its handle is the struct `process`, and the structs of windows have their whole names.
 """
 from __future__ import annotations
 
@@ -16,7 +17,7 @@ import functools
 import pathlib
 import re
 from collections.abc import Iterable
-from typing import Any
+from typing import Any, Optional
 
 from common.c_programs import CC, WINDOW_LIBRARY, run
 from harness import OUT, TOP, LeftOut, needs
@@ -44,14 +45,15 @@ def linked(path: pathlib.Path, archive: str) -> pathlib.Path:
 
 
 class Library:
-    """The structs, the constants and the functions of a library, whose names in its header all begin with `prefix`."""
+    """The structs, the constants and the functions of a library, whose names in its header all begin with `prefix`. It may use structs of another one."""
 
-    def __init__(self, path: pathlib.Path, header: pathlib.Path, prefix: str) -> None:
+    def __init__(self, path: pathlib.Path, header: pathlib.Path, prefix: str, of: Optional[Library] = None) -> None:
         text = COMMENT.sub("", header.read_text(encoding="utf-8"))
         self.prefix, self.handle = f"{prefix}_", prefix.rpartition("_")[2]
-        numbers = re.findall(rf"^\s*(?:#define |enum \{{ )?{prefix.upper()}_(\w+)(?: =)? (0x[0-9a-f]+|\d+)", text, re.M)
-        self.constants = {name: int(number, 0) for name, number in numbers}
-        self.structs: dict[str, Any] = {}
+        numbers = re.findall(rf"^\s*(?:#define |enum \{{ )?{prefix.upper()}_(\w+)(?: =)?\s+(0x[0-9a-f]+|\d+)", text, re.M)
+        self.constants: dict[str, int] = {} if of is None else {**of.constants}
+        self.constants.update((name, int(number, 0)) for name, number in numbers)
+        self.structs: dict[str, Any] = {} if of is None else {of.prefix + name: it for name, it in of.structs.items()}
         for name, inside in re.findall(rf"^struct {prefix}(?:_(\w+))? \{{(.*?)^\}};", text, re.M | re.S):
             members = [
                 (member, self.member(kind, star, size)) for _, kind, star, names, size in MEMBER.findall(inside) for member in names.split(", ")
@@ -87,7 +89,7 @@ class Library:
         self.called.add(name)
         return self.functions[name](*words)
 
-    def make(self, kind: str, **members: Any) -> Any:
+    def make(self, kind: str, /, **members: Any) -> Any:
         """A struct, or a number of a type, of which all is zeros but these members."""
         return (TYPES[kind] if kind in TYPES else self.structs[kind])(**members)
 
@@ -97,20 +99,16 @@ class Library:
         of = TYPES[kind] if kind in TYPES else self.structs[kind]
         return (of * max(1, len(given)))(*given)
 
-
-    def tables(self, lead: int = 0, most: int = 0, facts: Any = None, mappings: Any = 0, **arrays: Any) -> Any:
-        """The tables of a window. `pages`, `counts`, `parts` and `pins` are each an array, a struct in place of one, or such with a number of
-        members; what isn't given has none. `mappings` is a counter or a number."""
-        made = self.structs["tables"](lead=lead, most=most, facts=facts if facts is not None else self.make("table_facts"))
-        made.kept = [mappings if isinstance(mappings, ctypes.c_size_t) else ctypes.c_size_t(mappings)]
-        made.mappings = ctypes.addressof(made.kept[0])
-        for name in ("pages", "counts", "parts", "pins"):
-            given = arrays.pop(name, (ctypes.c_uint64(), 0))
-            array, count = given if isinstance(given, tuple) else (given, len(given) if isinstance(given, ctypes.Array) else 1)
-            made.kept.append(array)
+    def over(self, kind: str, /, **members: Any) -> Any:
+        """A struct in which arrays are pointers, each with a number of members: an array, or one with how many of it count. What isn't given has none."""
+        fields = [name for name, _ in self.structs[kind]._fields_]
+        arrays = {name: members.pop(name, (ctypes.c_uint64(), 0)) for name in fields if f"{name}_count" in fields}
+        made = self.structs[kind](**members)
+        made.kept = [*arrays.values()]
+        for name, given in arrays.items():
+            array, count = given if isinstance(given, tuple) else (given, len(given))
             setattr(made, name, ctypes.addressof(array))
             setattr(made, f"{name}_count", count)
-        assert not arrays, arrays
         return made
 
 
@@ -125,11 +123,20 @@ def values_of(value: Any) -> Any:
 
 def built() -> Library:
     """The library for windows as it was built and proved."""
-    needs("what the library for windows decides", CC)
+    needs("what the library for windows decides", CC, "ar", "make")
+    if (OUT / "proved_window.a").exists() and run(["make", "--no-print-directory", "-C", TOP, "out/libpageshare_window.a"]).returncode != 0:
+        raise SystemExit("out/libpageshare_window.a can't be made")
     if not pathlib.Path(WINDOW_LIBRARY).exists():
         raise LeftOut(f"what the library for windows decides, since there is no {WINDOW_LIBRARY} (tools/build.py --libraries)")
     made = linked(OUT / "rows/libpageshare_window.so", WINDOW_LIBRARY)
     return Library(made, TOP / "window/pageshare_window.h", "pageshare_window")
+
+
+@functools.lru_cache(maxsize=None)
+def built_process() -> Library:
+    """The calls of the library for windows over all windows of a process."""
+    windows = built()
+    return Library(OUT / "rows/libpageshare_window.so", TOP / "window/pageshare_process.h", "pageshare_process", windows)
 
 
 @functools.lru_cache(maxsize=None)

@@ -1,4 +1,4 @@
-"""Lives of a table of pages: lists, rows, ways home, facts and others' events come as chance has it, and the events of what is done are played.
+"""Lives of pages of a window: lists, rows, ways home, facts and others' events come as chance has it, and the events of what is done are played.
 
 The library says what is done with each page. Each event for which an order stands must be possible by the protocol of windows
 (common/plain_windows.py), and after each move what is believed of each page is right of it, and is what the host has for it.
@@ -8,21 +8,26 @@ from __future__ import annotations
 import collections
 import dataclasses
 import random
+from collections.abc import Sequence
 from typing import Any, Optional
 
 from common.compared import Compared
 from common.plain_page import (
-    CHOSEN, COPIED, EQUAL, FACTS, HELD, HOMES, HOMING, HOMING_IN_PLACE, LEAVING, LETTING_GO, PRIVATE, READY, SHOWING, SHOWN, WITH_FRAME, WITH_SLOT,
-    ZEROS, Facts,
+    CHOSEN, COPIED, EQUAL, HELD, HOMES, HOMING, HOMING_IN_PLACE, LEAVING, LETTING_GO, PRIVATE, READY, SHOWING, SHOWN, WITH_FRAME, WITH_SLOT, ZEROS,
+    Facts,
+)
+from common.plain_looks import MAKE_WHOLE, PART, PartConfig, PartFound
+from common.plain_process import (
+    ASIDE, COMPARE, COMPARE_ZEROS, END_WATCH, GIVE_BACK, MAP, NO_FRAME, NOT_TAKEN, OVER, STUCK, TAKEN, TAKEN_ASIDE, WATCHED, ProcessFacts,
 )
 from common.plain_windows import Event, Window, Windows
-from common.window_library import Library
+from common.window_library import Library, built_process
+from common.window_process import Process
 from harness import Tally
-from window_cases.held import ASIDE, COMPARE, COMPARE_ZEROS, END_WATCH, GIVE_BACK, MAP, NOT_TAKEN, OVER, STUCK, TAKEN, TAKEN_ASIDE, WATCHED
 
-# The table's pages are 1 to 4. Page 0 has another lender. A host's file has two frames for them.
-PAGES, FIRST, FRAMES, NO_FRAME = 4, 1, 2, 2**32 - 1
-SEEDS, MOVES = 4, 20_000
+# The first pages of the window are 1 to 4, and the others of their part do nothing. Page 0 has another lender. A host's file has two frames for them.
+PAGES, FIRST, FRAMES = 4, 1, 2
+SEEDS, MOVES = 2, 20_000
 LEAST = {
     "mapped": 50, "released": 100, "given back": 50, "home": 10, "refused at once": 50, "in vain": 80, "crowded": 10, "stuck": 20, "lost": 50,
     "goes on": 100, "splits": 10, "wholes": 10,
@@ -46,32 +51,41 @@ def is_right(belief: int, frame: int, page: Window) -> bool:
 
 @dataclasses.dataclass(eq=False)
 class Row:
-    """Pages that are held: the first one, how many they are, and the library's byte of each."""
+    """Pages that are held: the first one, and the library's byte of each."""
 
     first: int
-    count: int
-    bytes: Any
+    bytes: Sequence[int]
 
 
 class Life:
-    """A table of pages in one part, a host's own account of each, and what the pages show."""
+    """A window of one part, a host's own account of each, and what the pages show."""
 
     def __init__(self, library: Library, seen: Compared, seed: int) -> None:
         self.library, self.seen, self.chance = library, seen, random.Random(seed)
-        self.pages, self.counts = library.array("page", [()] * PAGES), library.make("counts")
-        self.table, self.pins, self.why = library.make("table_facts"), library.array("uint16_t", [0] * PAGES), Facts()
+        self.process, self.facts, self.state, self.why = Process(built_process()), ProcessFacts(), (False, False), Facts()
+        self.process.make(self.facts)
+        self.process.offer(0, PART)
+        self.pins, self.whole, self.config = [False] * PAGES, False, PartConfig(16, 4, 2, 3)
+        self.known: Optional[list[tuple[int, ...]]] = None
         # what the host has given for each page: a slot with a frame
         self.given: list[Optional[tuple[int, int]]] = [None] * PAGES
         self.slots = 0
         self.rows: list[Row] = []
         self.windows = Windows([1] * (PAGES + 1), [0, 1, 1])
-        self.part, self.config = library.make("part", whole=True), library.make("part_config", huge_from=16, alone_part=4, alone=2, pause=3)
-        self.mappings, self.most = library.make("size_t"), 0
-        self.mappings.value = self.call("mappings_at", 0, PAGES)
         self.tally: collections.Counter[str] = collections.Counter()
+        self.make_whole(True)
+
+    def page(self, place: int) -> tuple[int, ...]:
+        """What the library knows of a page: its slot, frame, clue, belief and looks."""
+        if self.known is None:
+            self.known = self.process.read_pages(0, 0, PAGES)
+        return self.known[place] if self.known else ()
 
     def belief(self, place: int) -> int:
-        return int(self.pages[place].belief & 31)
+        return self.page(place)[3] & 31
+
+    def frame(self, place: int) -> int:
+        return self.page(place)[1]
 
     def window(self, place: int) -> Window:
         return self.windows.pages[FIRST + place]
@@ -81,7 +95,7 @@ class Life:
 
     def is_over(self, place: int) -> bool:
         """Whether a frame lies under a page, for all that is known."""
-        return bool(self.pages[place].belief & 32)
+        return bool(self.page(place)[3] & 32)
 
     def some(self) -> list[int]:
         """Some pages, one after another."""
@@ -89,33 +103,23 @@ class Life:
 
     # ---- calls ----
 
-    def given_facts(self, facts: Facts) -> Any:
-        return self.library.make("facts", **{name: getattr(facts, name) for name in FACTS})
+    def call(self, name: str, *words: Any, **more: Any) -> Any:
+        self.known = None
+        return getattr(self.process, name)(*([] if name == "set_facts" else [0]), *words, **more)
 
-    def call(self, name: str, *words: Any) -> Any:
-        tables = self.library.tables(
-            pages=self.pages, counts=self.counts, parts=self.part, pins=self.pins, mappings=self.mappings, most=self.most, facts=self.table,
-        )
-        return self.library.call(name, tables, *words)
-
-    def call_list(self, name: str, places: list[int], lists: list[tuple[str, list[int]]], *more: Any) -> list[int]:
+    def go_through(self, kind: str, places: list[int], **more: Any) -> list[int]:
         """A call for a list of pages. Returns its answers."""
-        made, words = self.library.array, list[Any]()
-        for kind, values in [("uint32_t", places), *lists]:
-            words += [made(kind, values), len(values)]
-        answers = made("uint8_t", [0] * len(places))
-        self.seen.holds(name, self.call(name, *words, *more, answers, len(places)))
-        return list(answers)[: len(places)]
+        is_done, answers = self.call("go_through", kind, places, **more)
+        self.seen.holds(kind, is_done)
+        return list(answers)
 
-    def note(self, name: str, place: int, *words: Any, count: int = 1) -> None:
+    def note(self, kind: str, place: int, count: int = 1, **more: Any) -> None:
         """A call for pages in a row."""
-        self.seen.holds(name, self.call(name, place, count, *words))
+        self.seen.holds(kind, self.call("note", place, count, kind, **more))
 
-    def put(self, name: str, place: int, *words: Any, count: int = 1) -> None:
-        """The same where other memory comes to their places. Then as many mappings are taken as there are."""
-        self.seen.holds(name, self.call(name, place, count, *words))
-        taken = self.call("mappings_at", 0, PAGES)
-        self.seen.equal(f"mappings after {name}", self.mappings.value, taken)
+    def make_whole(self, whole: bool) -> None:
+        self.whole = whole
+        self.seen.equal("WHOLE", self.call("note_part", 0, "WHOLE", flag=whole), (True, 9))
 
     def must(self, word: str, place: int, *more: int) -> None:
         """An event of a page that must be possible."""
@@ -128,10 +132,10 @@ class Life:
         """Pages are copied to the lender's buffer; some are others than those that were found."""
         places = self.some()
         there, prints = [int(self.chance.random() < 0.9) for _ in places], [0 for _ in places]
-        checks = self.call_list("to_copy", places, [("uint8_t", there), ("uint64_t", prints)])
+        checks = self.go_through("TO_COPY", places, given=there, fingerprints=prints)
         self.others()
         outcomes = [self.chance.choice([1, 1, 1, 1, 2, 3]) if check else 0 for check in checks]
-        answers = self.call_list("copied", places, [("uint8_t", outcomes)])
+        answers = self.go_through("COPIED", places, given=outcomes)
         self.seen.equal("loans that are to be asked for", answers, [int(it == 1) for it in outcomes])
 
     def lend(self) -> None:
@@ -148,24 +152,24 @@ class Life:
                 self.tally["lost"] += self.given[place] is not None
                 self.given[place] = None
         loans = [self.given[place] or (0, NO_FRAME) for place in places]
-        lists = [("uint64_t", [slot for slot, _ in loans]), ("uint32_t", [frame for _, frame in loans])]
-        answers = self.call_list("loaned", places, lists, FRAMES, is_heard)
+        slots, frames = [slot for slot, _ in loans], [frame for _, frame in loans]
+        answers = self.go_through("LOANED", places, slots=slots, frames=frames, file_frames=FRAMES, is_heard=is_heard)
         self.seen.equal("the loans", answers, [(9 if self.given[place] else 2) if is_heard else 0 for place in places])
 
     def release(self) -> None:
         """Slots are released, or the host has them still. If the reply is lost the orders stay open until one comes."""
         room, ready = self.chance.randrange(1, PAGES + 1), self.ready()
-        numbers, is_gone = self.library.array("size_t", [0] * room), self.chance.random() < 0.5
-        found = self.call("to_release", 0, PAGES, numbers, room)
+        is_gone, (found, numbers) = self.chance.random() < 0.5, self.call("to_release", 0, PAGES, room)
         self.refused(ready)
         for place in numbers[:found]:
-            self.seen.equal("the slot", self.given[place] and self.given[place][0], self.pages[place].slot)
+            given = self.given[place]
+            self.seen.equal("the slot", given and given[0], self.page(place)[0])
             if is_gone:
                 self.given[place] = None
                 self.must("release", place)
         if self.chance.random() < 0.3:
             self.others()
-        self.seen.holds("released", self.call("released", numbers, found, is_gone))
+        self.seen.holds("released", self.call("released", numbers[:found], is_gone))
         self.tally["released"] += found if is_gone else 0
 
     # ---- pages that are held ----
@@ -180,7 +184,7 @@ class Life:
     def show(self) -> None:
         """Pages that have their loans are held, to show their frames."""
         places, ready = self.some(), self.ready()
-        answers = self.call_list("to_hold", places, [])
+        answers = self.go_through("TO_HOLD", places)
         for place, answer in zip(places, answers):
             self.seen.holds("a loan is held or isn't needed", place not in ready or answer == 1 or self.belief(place) == LEAVING)
         self.refused(ready)
@@ -188,8 +192,9 @@ class Life:
 
     def give_back(self) -> None:
         """Pages are held, to be given back as zeros. For some of them there is no room, maybe."""
-        places, self.most = self.some(), self.mappings.value + self.chance.choice([0, 9])
-        answers = self.call_list("to_give_back", places, [])
+        places, self.facts.most = self.some(), self.process.mappings() + self.chance.choice([0, 9])
+        self.call("set_facts", self.facts)
+        answers = self.go_through("TO_GIVE_BACK", places)
         self.tally["crowded"] += answers.count(4)
         self.hold(places, answers)
 
@@ -200,8 +205,8 @@ class Life:
         ordered = [place for place, answer in zip(places, answers) if answer == 1]
         kept = [place for place in ordered if self.chance.random() < (0.9 if self.seems_equal(place) else 0.75)]
         for place in ordered:
-            self.seen.holds("what is to be held may be lent", not self.part.whole and not self.is_barred(place))
-        self.call_list("copied", places, [("uint8_t", [2 if it in ordered and it not in kept else 0 for it in places])])
+            self.seen.holds("what is to be held may be lent", not self.whole and not self.is_barred(place))
+        self.go_through("COPIED", places, given=[2 if it in ordered and it not in kept else 0 for it in places])
         self.tally["refused at once"] += len(ordered) - len(kept)
         while kept:
             count = next((n for n in range(len(kept)) if kept[n] != kept[0] + n), len(kept))
@@ -209,23 +214,24 @@ class Life:
             kept = kept[count:]
 
     def seems_equal(self, place: int) -> bool:
-        content = 0 if self.belief(place) & ZEROS else self.windows.frames[self.pages[place].frame]
+        content = 0 if self.belief(place) & ZEROS else self.windows.frames[self.frame(place)]
         return bool(self.shown(place) == content)
 
     def begin(self, first: int, count: int) -> None:
         """Pages in a row are held, or aren't, and then writes to them may wait all the same. Only what has no frame under it is moved aside."""
-        row, takings = self.library.array("uint8_t", [0] * count), list[int]()
+        takings = list[int]()
         for place in range(first, first + count):
             taking = self.chance.choice([NOT_TAKEN, WATCHED, *[TAKEN] * 5, *[TAKEN_ASIDE] * 5])
             if taking >= TAKEN or (taking == WATCHED and self.chance.random() < 0.5):
                 self.must("guard", place)
             takings.append(TAKEN if taking == TAKEN_ASIDE and self.is_over(place) else taking)
-        self.seen.holds("begin_row", self.call("begin_row", first, row, count, self.library.array("uint8_t", takings), count))
-        self.rows.append(Row(first, count, row))
+        is_begun, row = self.call("begin_row", first, takings)
+        self.seen.holds("begin_row", is_begun)
+        self.rows.append(Row(first, row))
 
     def can(self, place: int, step: int, byte: int) -> bool:
         """Whether a step can be done: a comparison finds a guarded page equal, and what replaces a page stood guarded since."""
-        page, frame = self.window(place), self.pages[place].frame
+        page, frame = self.window(place), self.frame(place)
         if step == COMPARE:
             return page.guarded and self.windows.frames[frame] == self.shown(place)
         if step == COMPARE_ZEROS:
@@ -236,99 +242,100 @@ class Life:
 
     def carry_out(self, place: int, step: int, byte: int) -> None:
         """The events of a step, each of which must be possible, and what was put at the page's place."""
-        frame, belief, shown = self.pages[place].frame, self.belief(place), self.shown(place)
+        frame, belief, shown = self.frame(place), self.belief(place), self.shown(place)
         if step in (COMPARE, COMPARE_ZEROS):
             self.must("copy", place)
         if step == COMPARE:
             self.must("lend", place, frame)
         elif step == MAP:
             self.must("map", place)
-            self.put("cover", place, frame)
+            self.note("COVERED", place, frame=frame)
         elif step == GIVE_BACK or (step == END_WATCH and byte == ASIDE):
             self.must("discard", place)
         elif step == END_WATCH and belief & ~ZEROS == LETTING_GO:
             self.must("unguard", place)
         if step == GIVE_BACK:
-            self.put("put_zeros", place, True)
+            self.note("ZEROS_MAPPED", place, flag=True)
         if step == END_WATCH and belief == EQUAL | ZEROS:
-            self.library.call("give_back", self.pages[place], self.counts, True)
+            self.seen.holds("GIVEN_BACK", self.call("note_page", place, "GIVEN_BACK", True))
             self.tally["given back"] += 1
         self.tally["mapped"] += step == MAP
         self.seen.equal(f"what the page shows after {step}", self.shown(place), shown)
 
     def go_on_with(self, row: Row) -> None:
         """Carries out the next order of a row with some of its pages. Once it is over each page that is stuck is in a row of its own."""
-        order, chance = self.library.make("row_order"), self.chance
-        self.call("next_of_row", row.first, row.bytes, row.count, order)
-        if order.step == OVER:
+        chance, order = self.chance, self.call("next_of_row", row.first, row.bytes)
+        begin, count, step = order
+        if step == OVER:
             self.rows.remove(row)
-            for behind, byte in enumerate(row.bytes[: row.count]):
+            for behind, byte in enumerate(row.bytes):
                 if byte & STUCK:
-                    self.rows.append(Row(row.first + behind, 1, self.library.array("uint8_t", [self.library.call("row_again", byte)])))
+                    self.rows.append(Row(row.first + behind, [self.library.call("row_again", byte)]))
                     self.tally["stuck"] += 1
             return
         if chance.random() < 0.3:
             self.others()
         if chance.random() < 0.1:
-            self.write_anew(row.first + order.first)
+            self.write_anew(row.first + begin)
         done = 0
-        for behind in range(order.first, order.first + order.count):
-            can = self.can(row.first + behind, order.step, row.bytes[behind])
-            self.tally["in vain"] += order.step == COMPARE and not can
+        for behind in range(begin, begin + count):
+            can = self.can(row.first + behind, step, row.bytes[behind])
+            self.tally["in vain"] += step == COMPARE and not can
             if not can or chance.random() < 0.125:
                 break
-            self.carry_out(row.first + behind, order.step, row.bytes[behind])
+            self.carry_out(row.first + behind, step, row.bytes[behind])
             done += 1
-        refused = chance.randint(0, order.count - done)
-        self.seen.holds("row_done", self.call("row_done", row.first, row.bytes, row.count, order, done, refused))
+        refused = chance.randint(0, count - done)
+        is_done, row.bytes = self.call("row_done", row.first, row.bytes, order, done, refused)
+        self.seen.holds("row_done", is_done)
 
     # ---- ways home ----
 
     def order_home(self, place: int) -> None:
         """Pages from one on are to get memory of their own, if something says so."""
-        self.seen.holds("order_home", self.call("order_home", self.given_facts(self.why), place, PAGES - place))
+        self.note("CALLED_HOME", place, PAGES - place, why=self.why)
 
     def come_home(self) -> None:
         """Pages that are to get memory of their own get it, or don't. What has to stay where it is gets it there."""
         copies = [self.is_over(place) and not self.window(place).is_bare() for place in range(PAGES)]
-        stays = self.library.array("bool", copies)
-        why = self.given_facts(self.why)
-        self.seen.holds("find_staying", self.call("find_staying", why, 0, stays, PAGES))
+        is_found, stays = self.call("find_staying", 0, copies, self.why)
+        self.seen.holds("find_staying", is_found)
         for place in range(PAGES):
             self.seen.holds("a copy that a device may hold stays", stays[place] or not copies[place] or not self.pins[place])
             if self.belief(place) not in HOMES:
                 continue
             if self.chance.random() < 0.125:
-                self.note("refused_home", place)
+                self.note("REFUSED_HOME", place)
                 continue
             self.must("write", place, self.shown(place))
             if not stays[place]:
-                self.put("uncover", place, True)
-            self.note("copied_home" if stays[place] else "moved_home", place)
+                self.note("MOVED_THERE", place)
+            self.note("COPIED_HOME" if stays[place] else "MOVED_HOME", place)
             self.tally["home"] += 1
 
     # ---- what else happens ----
 
     def is_barred(self, place: int) -> bool:
         """Something that the lender was told keeps a page from being lent, but for a call of the monitor."""
-        table = self.table
-        return bool(self.pins[place] or table.inherited or table.locked or table.ends or table.is_over)
+        return self.pins[place] or any(self.state) or self.facts.locked or self.facts.is_over
 
     def set_facts(self, place: int) -> None:
         """Other things are so from now on, of all pages or of those from one on; and a call of the monitor comes, or ends."""
         number = self.chance.randrange(40)
-        self.table = self.library.make(
-            "table_facts", elsewhere=number == 5, may_pin=number in (21, 37), inherited=number in (2, 3), locked=number == 4, ends=number == 7,
-            is_over=number == 8)
+        self.facts = ProcessFacts(self.facts.most, int(number == 5), number in (21, 37), number == 4, number == 8)
+        self.call("set_facts", self.facts)
+        self.state = (number in (2, 3), number == 7)
+        self.call("set_state", *self.state)
         for at in range(place, PAGES):
-            self.pins[at] = number in (1, 2)
+            if self.pins[at] != (number in (1, 2)):
+                self.pins[at] = not self.pins[at]
+                self.seen.holds("pin", self.call("pin", at, 1, self.pins[at]))
         self.why = Facts(called=number == 0, leaves=number in (9, 10), pinned=number == 11)
 
     def may_go_on(self) -> None:
         """Where the call may go on by a page no write to that waits, and if it must not show a frame it shows none."""
-        why = self.given_facts(self.why)
         for place in range(PAGES):
-            if not self.call("may_go_on", why, place, 1):
+            if not self.call("may", place, 1, "GO_ON", why=self.why):
                 continue
             page, must_own = self.window(place), self.is_barred(place) or self.why.leaves or self.why.pinned
             self.seen.holds("no write waits", not page.guarded)
@@ -340,9 +347,9 @@ class Life:
         if self.window(place).is_bare():
             return
         if self.chance.random() < 0.5:
-            self.put("one_memory", place)
+            self.note("ONE_MEMORY", place)
         else:
-            self.note("give_up", place)
+            self.note("GIVEN_UP", place)
 
     def others(self) -> None:
         """An event of a guest, which no lender hears, or of page 0, or of the host; if it is possible."""
@@ -361,25 +368,23 @@ class Life:
 
     def look(self) -> None:
         """A look at the part. Where it is to change no write to a page waits; where it is made whole its pages get memory of their own."""
-        is_loose = self.call("may_give_up", 0, PAGES)
-        is_movable = self.call("are_movable", 0, PAGES)
-        odds = (0.5, 1, 1, 0.75, 0.25)
-        bits = [self.chance.random() < it for it in odds]
-        look = self.library.structs["part_look"](508 + self.chance.randrange(5), self.chance.randrange(32), *bits, is_loose, is_movable)
-        order = self.library.call("next_of_part", self.part, self.config, look)
+        is_loose, is_movable = [self.call("may", 0, PAGES, kind) for kind in ("GIVE_UP", "EXCHANGE")]
+        bits = [*[self.chance.random() < it for it in (0.5, 1, 1, 0.75, 0.25)], is_loose, is_movable]
+        found = PartFound(508 + self.chance.randrange(5), self.chance.randrange(32), *bits)
+        _, order = self.call("note_part", 0, "SETTLED", config=self.config, found=found)
         if not order:
             return
         for place in range(PAGES):
             self.seen.holds("no write waits where a part changes", not self.window(place).guarded)
         if self.chance.random() < 0.5:
             return
-        self.part.whole = order == 2
-        self.tally["wholes" if order == 2 else "splits"] += 1
-        if order == 2:
+        self.make_whole(order == MAKE_WHOLE)
+        self.tally["wholes" if self.whole else "splits"] += 1
+        if self.whole:
             for place in range(PAGES):
                 if self.window(place).is_bare():
                     self.must("write", place, self.shown(place))
-            self.put("one_memory", 0, count=PAGES)
+            self.note("ONE_MEMORY", 0, PART)
 
     def next_lender(self) -> None:
         """The lender goes and another comes, with frames of its own. Each page shows what it showed, and most writes that waited wait still."""
@@ -388,7 +393,7 @@ class Life:
         for place in range(PAGES):
             if before.pages[FIRST + place].guarded and self.chance.random() < 0.75:
                 self.must("guard", place)
-            self.put("detach", place)
+            self.note("DETACHED", place)
             self.given[place] = None
 
     def go_on(self) -> None:
@@ -425,22 +430,22 @@ class Life:
 
     def check(self) -> None:
         """What is believed of each page is right of it, and is what the host has; and somebody carries out each order that is open."""
-        held = {row.first + behind for row in self.rows for behind in range(row.count)}
+        held = {row.first + behind for row in self.rows for behind in range(len(row.bytes))}
         for place in range(PAGES):
-            belief, page, given = self.belief(place), self.pages[place], self.given[place]
-            self.seen.holds(f"an order at {belief}", belief == COPIED or belief in HOMES or place in held or not page.looks & 1)
-            self.seen.holds(f"{belief} of {self.window(place)}", is_right(belief, page.frame, self.window(place)))
+            (slot, frame, _, _, looks), belief, given = self.page(place), self.belief(place), self.given[place]
+            self.seen.holds(f"an order at {belief}", belief == COPIED or belief in HOMES or place in held or not looks & 1)
+            self.seen.holds(f"{belief} of {self.window(place)}", is_right(belief, frame, self.window(place)))
             self.seen.holds("no page shows a frame unknown", belief in SHOWING or not self.window(place).is_bare())
             if belief in WITH_FRAME:
-                self.seen.equal("a loan", given, (page.slot, page.frame))
+                self.seen.equal("a loan", given, (slot, frame))
             elif belief in WITH_SLOT:
-                self.seen.equal("a slot", given and given[0], page.slot)
+                self.seen.equal("a slot", given and given[0], slot)
             else:
                 self.seen.equal(f"no slot at {belief}", given, None)
 
 
 def run(tally: Tally, library: Library) -> None:
-    """Lives of tables of pages."""
+    """Lives of windows' pages."""
     seen = Compared(tally, "whatever comes to a window is possible")
     for seed in range(SEEDS):
         life = Life(library, seen, seed)

@@ -1,15 +1,15 @@
-"""Windows that come and go as chance has it, beside a list of which numbers are taken; and pins and transfers beside lists."""
+"""Windows that come and go as chance has it, beside a list of which numbers are taken; and transfers beside a list."""
 from __future__ import annotations
 
 import random
 
 from common.compared import Compared
-from common.window_library import Library, values_of
+from common.window_library import Library
 from harness import Tally
 
 # The numbers that there may be, the windows, and the moves.
 NUMBERS, WINDOWS, MOVES = 512, 8, 5_000
-PINS, PINS_MOST, PLACES = 6, 65535, 3
+PLACES = 3
 
 
 def numbers(library: Library, seen: Compared, chance: random.Random) -> None:
@@ -25,18 +25,6 @@ def numbers(library: Library, seen: Compared, chance: random.Random) -> None:
             seen.holds("find_numbers", library.call("find_numbers", library.array("taken", windows), WINDOWS, count, base))
             seen.equal("a base", base.value, due)
             windows[place] = (due, count)
-
-
-def pins(library: Library, seen: Compared, chance: random.Random) -> None:
-    """Pages are pinned and unpinned together, or not at all."""
-    table = library.array("uint16_t", [0, 0, PINS_MOST - 1, 0, 0, 0])
-    known = list(values_of(table))
-    for _ in range(MOVES):
-        first, count, by = chance.randrange(PINS + 2), chance.choice([0, 1, 2, 3, PINS]), chance.choice([1, -1])
-        due = first + count <= PINS and all(0 <= it + by <= PINS_MOST for it in known[first : first + count])
-        seen.equal("pin or unpin", library.call("pin" if by == 1 else "unpin", table, PINS, first, count), due)
-        known = [it + by if due and first <= at < first + count else it for at, it in enumerate(known)]
-        seen.equal("pins", values_of(table), tuple(known))
 
 
 def transfers(library: Library, seen: Compared, chance: random.Random) -> None:
@@ -62,8 +50,8 @@ def transfers(library: Library, seen: Compared, chance: random.Random) -> None:
 
 
 def run(tally: Tally, library: Library) -> None:
-    """Numbers, pins and transfers."""
-    seen, chance = Compared(tally, "numbers, pins and transfers as chance has it"), random.Random(1)
-    for part in (numbers, pins, transfers):
+    """Numbers and transfers."""
+    seen, chance = Compared(tally, "numbers and transfers as chance has it"), random.Random(1)
+    for part in (numbers, transfers):
         part(library, seen, chance)
     seen.close()

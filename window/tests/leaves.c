@@ -326,7 +326,7 @@ static void lent_anew(void) {
     must(windows_attach(fixture.windows, &lender), "windows_attach");
     must(window_discard(window, 0, 2), "window_discard");
     look_often(&fixture, 8);
-    check(counts_of(&fixture).lent == PAGES - 3 && window->counts[0].past == 0,
+    check(counts_of(&fixture).lent == PAGES - 3 && part_of(window, 0).counts.past == 0,
           "all others are lent anew, and none is of the past");
     check(at[3 * PAGE + 7] == 'w' && at[4 * PAGE] == 1, "what was written meanwhile is there");
     meddler.page = NULL;

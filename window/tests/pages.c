@@ -224,6 +224,50 @@ static void children(void) {
     fixture_end(&fixture, window);
 }
 
+/* Whether nothing keeps a window's first page from being lent, as far as the library heard. */
+static bool is_unbarred(const struct window *window) {
+    lock_set(window->windows);
+    const bool is = MAY(window, 0, 1, .kind = PAGESHARE_PROCESS_EXCHANGE);
+    unlock_set(window->windows);
+    return is;
+}
+
+/* Whether that page, which has a copy of its own over a frame, stays there, as a device may have pinned it. */
+static bool stays(const struct window *window) {
+    static const struct pageshare_window_facts none;
+    bool is_copy = true;
+    lock_set(window->windows);
+    check(pageshare_process_find_staying(OF(window), &none, 0, &is_copy, 1), "it is found whether a page stays");
+    unlock_set(window->windows);
+    return is_copy;
+}
+
+/* The library hears at once what is so of windows. */
+static void heard(void) {
+    FIXTURE(&never_pinned, PAGES, PAGES);
+    struct windows *windows = fixture.windows;
+    fill(at, PAGES, 1);
+    check(look_until(&fixture, PAGES) == PAGES, "all pages are lent");
+    at[0] = 9;
+    look(windows);
+    check(is_unbarred(window) && !stays(window), "nothing bars a page at first");
+    windows_set_pins(windows, WINDOWS_PINS_POSSIBLE);
+    check(stays(window), "devices may pin");
+    windows_set_pins(windows, WINDOWS_PINS_NEVER);
+    check(!stays(window), "or not any longer");
+    check(windows_watch(windows) == 0 && !is_unbarred(window), "a userfaultfd of the caller's may watch");
+    windows_watch_made(windows);
+    look(windows);
+    check(is_unbarred(window), "or doesn't");
+    must(window_advise(window, MADV_DOFORK), "window_advise");
+    check(!is_unbarred(window), "a child may have it");
+    must(window_advise(window, MADV_DONTFORK), "window_advise");
+    check(is_unbarred(window), "or not any longer");
+    windows_end(windows);
+    check(!is_unbarred(window), "lending has ended");
+    fixture_end(&fixture, window);
+}
+
 /* Locked memory: the kernel would copy each frame that is mapped. */
 static void locked(void) {
     struct fixture fixture = fixture_make(&never_pinned, PAGES);
@@ -241,6 +285,7 @@ static void locked(void) {
     } else {
         check(look(fixture.windows).status == WINDOW_LOCKED, "the look says that memory is locked");
         check(counts_of(&fixture).pause == WINDOWS_LOCKED && counts_of(&fixture).lent == 0, "nothing is lent any more");
+        check(!is_unbarred(window), "nor may it be");
         check(are_bytes(at + 3 * PAGE, 1), "and all is as it was");
         uint8_t *more = memory(1);
         check(window_make(&other, fixture.windows, more, PAGE, WINDOW_NO_CHILD).status == WINDOW_LOCKED,
@@ -701,7 +746,9 @@ static void lost_replies(void) {
     const size_t asked = lossy.asked, lost = lossy.count;
     for (int i = 0; i < 10; i++) windows_look(fixture.windows);
     size_t open = 0;
-    for (size_t i = 0; i < PAGES; i++) open += belief_of(&window->pages[i]) == PAGESHARE_WINDOW_COPIED ? 1 : 0;
+    page_entry pages[PAGES];
+    check(pageshare_process_read_pages(OF(window), 0, pages, PAGES), "pages are read");
+    for (size_t i = 0; i < PAGES; i++) open += belief_of(&pages[i]) == PAGESHARE_WINDOW_COPIED ? 1 : 0;
     check(lost > 0 && open == lost && slots_of(&fixture) == lost + counts_of(&fixture).lent,
           "it isn't known whether they are lent");
     at[0] = 9;
@@ -789,87 +836,163 @@ static void samples(void) {
     munmap(at, MANY * PAGE);
 }
 
-/* A window of two pages, without pins. */
+/* A process with a window of two pages, at its place 0, and how it finds these. */
 struct two {
+    struct pageshare_process process;
     page_entry pages[2];
-    struct pageshare_window_counts counts;
-    struct pageshare_window_part part;
-    uint16_t pins;
-    size_t mappings;
+    struct pageshare_process_part part;
 };
 
-static struct pageshare_window_tables tables_over(struct two *two) {
-    return (struct pageshare_window_tables){.pages = two->pages,
-                                            .pages_count = 2,
-                                            .counts = &two->counts,
-                                            .counts_count = 1,
-                                            .parts = &two->part,
-                                            .parts_count = 1,
-                                            .pins = &two->pins,
-                                            .mappings = &two->mappings};
+static void two_make(struct two *two) {
+    const struct pageshare_process_facts facts = {.most = 100};
+    const struct pageshare_process_offer offer = {.count = 2};
+    *two = (struct two){.process = {.at = NULL}};
+    check(pageshare_process_make(&two->process, &facts) && pageshare_process_offer(&two->process, &offer) == 0,
+          "a process has a window");
 }
 
-/* Whether a call of the monitor may go on by a page of which this is so from then on. */
-static bool goes_on(const page_entry *page, struct pageshare_window_facts why) {
-    struct two two = {.pages = {*page}};
-    const struct pageshare_window_tables tables = tables_over(&two);
-    return pageshare_window_may_go_on(&tables, &why, 0, 1);
+static void two_read(struct two *two) {
+    check(pageshare_process_read_pages(&two->process, 0, 0, two->pages, 2), "pages are read");
+    check(pageshare_process_read_part(&two->process, 0, 0, &two->part), "a part is read");
 }
 
-/* What C reads in a page's bytes is what the library says: which pages show a frame, or are held. */
-static void beliefs(void) {
+/* Notes something of some of its pages, and reads them. */
+static bool two_note(struct two *two, size_t first, size_t count, struct pageshare_process_notice notice) {
+    bool is_noted = pageshare_process_note(&two->process, 0, first, count, &notice);
+    two_read(two);
+    return is_noted;
+}
+
+#define TWO_NOTE(TWO, FIRST, COUNT, ...) two_note(TWO, FIRST, COUNT, (struct pageshare_process_notice){__VA_ARGS__})
+
+/* Whether a call of the monitor may go on by the first page, of which this is so from then on. */
+static bool goes_on(struct two *two, struct pageshare_window_facts why) {
+    const struct pageshare_process_question question = {.kind = PAGESHARE_PROCESS_GO_ON, .why = why};
+    return pageshare_process_may(&two->process, 0, 0, 1, &question);
+}
+
+/* What C reads in the first page's bytes is what the library says: whether it shows a frame. Adds its belief to those that were seen. */
+static void check_belief(struct two *two, uint32_t *beliefs) {
     const struct pageshare_window_facts called = {.called = true}, leaves = {.leaves = true};
-    for (uint8_t belief = 0; belief <= (PAGESHARE_WINDOW_LETTING_GO | PAGESHARE_WINDOW_ZEROS); belief++) {
-        const page_entry page = {.slot = 5, .frame = 7, .belief = belief};
-        bool waits = !goes_on(&page, called);
-        check(belief_of(&page) == belief && !is_over(&page) && !is_ordered(&page), "a belief is read as it is");
-        check((waits || is_lent(&page)) == !goes_on(&page, leaves), "a page is lent where it shows a frame");
+    two_read(two);
+    bool waits = !goes_on(two, called);
+    check((waits || is_lent(&two->pages[0])) == !goes_on(two, leaves), "a page is lent where it shows a frame");
+    *beliefs |= (uint32_t)1 << belief_of(&two->pages[0]);
+}
+
+/* The first page is copied and gets a loan. */
+static void lend_first(struct two *two, uint32_t *beliefs) {
+    const uint32_t number = 0, frame = 7;
+    const uint64_t fingerprint = 0, slot = 5;
+    const uint8_t one = 1;
+    uint8_t answer = 0;
+    const struct pageshare_process_list all = {.numbers = &number,
+                                               .numbers_count = 1,
+                                               .fingerprints = &fingerprint,
+                                               .fingerprints_count = 1,
+                                               .given = &one,
+                                               .given_count = 1,
+                                               .slots = &slot,
+                                               .slots_count = 1,
+                                               .frames = &frame,
+                                               .frames_count = 1,
+                                               .answers = &answer,
+                                               .answers_count = 1,
+                                               .file_frames = 8,
+                                               .is_heard = true};
+    const uint8_t kinds[] = {PAGESHARE_PROCESS_TO_COPY, PAGESHARE_PROCESS_COPIED, PAGESHARE_PROCESS_LOANED,
+                             PAGESHARE_PROCESS_TO_HOLD};
+    for (size_t i = 0; i < sizeof kinds; i++) {
+        struct pageshare_process_list list = all;
+        list.kind = kinds[i];
+        check(pageshare_process_list(&two->process, 0, &list) && answer != 0, "a page comes to be lent");
+        check_belief(two, beliefs);
     }
+}
+
+/* It is held, and its frame is mapped. */
+static void hold_first(struct two *two, uint32_t *beliefs) {
+    const uint8_t taking = PAGESHARE_WINDOW_TAKEN_GUARDED;
+    uint8_t row = 0;
+    struct pageshare_window_row_order order;
+    check(pageshare_process_begin_row(&two->process, 0, 0, &row, 1, &taking, 1), "a row begins");
+    check_belief(two, beliefs);
+    while (pageshare_process_next_of_row(&two->process, 0, 0, &row, 1, &order), order.step != PAGESHARE_WINDOW_HOLD_OVER) {
+        check_belief(two, beliefs);
+        if (order.step == PAGESHARE_WINDOW_HOLD_MAP) TWO_NOTE(two, 0, 1, .kind = PAGESHARE_PROCESS_COVERED, .frame = 7);
+        check(pageshare_process_row_done(&two->process, 0, 0, &row, 1, &order, 1, 0), "an order is carried out");
+        check_belief(two, beliefs);
+    }
+}
+
+/* A page is lent, and called home. */
+static void beliefs(void) {
+    struct two two;
+    uint32_t seen = 0;
+    two_make(&two);
+    check_belief(&two, &seen);
+    lend_first(&two, &seen);
+    hold_first(&two, &seen);
+    TWO_NOTE(&two, 0, 1, .kind = PAGESHARE_PROCESS_CALLED_HOME, .why = {.pinned = true});
+    check_belief(&two, &seen);
+    TWO_NOTE(&two, 0, 1, .kind = PAGESHARE_PROCESS_COPIED_HOME);
+    check_belief(&two, &seen);
+    const unsigned first[] = {PAGESHARE_WINDOW_PRIVATE, PAGESHARE_WINDOW_CHOSEN, PAGESHARE_WINDOW_COPIED, PAGESHARE_WINDOW_READY};
+    const unsigned then[] = {PAGESHARE_WINDOW_HELD, PAGESHARE_WINDOW_EQUAL, PAGESHARE_WINDOW_SHOWN, PAGESHARE_WINDOW_LEAVING};
+    for (size_t i = 0; i < sizeof first / sizeof first[0]; i++)
+        check((seen >> first[i] & seen >> then[i] & 1) != 0, "it was believed on the way");
+    pageshare_process_free(&two.process);
 }
 
 static bool begins_moved(const page_entry *page) { return (page->looks & PAGESHARE_WINDOW_BEGINS) != 0; }
 
 /* What C reads of a page's place is what was noted of it. */
 static void places(void) {
-    struct two two = {.mappings = 1};
-    struct pageshare_window_tables tables = tables_over(&two);
+    struct two two;
+    two_make(&two);
     const page_entry *page = &two.pages[1];
-    check(pageshare_window_cover(&tables, 0, 2, 320), "frames are mapped");
+    check(TWO_NOTE(&two, 0, 2, .kind = PAGESHARE_PROCESS_COVERED, .frame = 320), "frames are mapped");
     check(is_over(page) && clue_in(page) == 321 && !is_past(page) && !shows_past(page), "a frame lies under a page");
-    check(pageshare_window_uncover(&tables, 0, 2, true), "memory is moved");
+    check(TWO_NOTE(&two, 0, 2, .kind = PAGESHARE_PROCESS_MOVED_THERE), "memory is moved");
     check(!is_over(page) && is_moved(page) && !begins_moved(page) && clue_in(page) == 0, "its memory was moved there");
     check(begins_moved(&two.pages[0]), "the first page begins what was moved");
-    check(pageshare_window_uncover(&tables, 0, 1, false), "the first one's memory is mapped");
-    check(two.mappings == 2, "it is in another mapping");
+    check(TWO_NOTE(&two, 0, 1, .kind = PAGESHARE_PROCESS_UNCOVERED), "the first one's memory is mapped");
+    check(pageshare_process_mappings(&two.process) == 2, "it is in another mapping");
     check(!is_moved(&two.pages[0]) && begins_moved(page), "the page behind it begins what was moved");
-    pageshare_window_give_back(&two.pages[1], &two.counts, true);
-    check(is_given_back(page) && two.counts.zeros == 1, "it was given back");
-    check(pageshare_window_give_up(&tables, 1, 1), "one page is given up");
-    check(!is_given_back(page) && two.counts.zeros == 0, "it was given up");
-    check(pageshare_window_leave(&tables, 1, 1), "one page leaves");
+    check(pageshare_process_note_page(&two.process, 0, 1, PAGESHARE_PROCESS_GIVEN_BACK, true), "a page is given back");
+    two_read(&two);
+    check(is_given_back(page) && two.part.counts.zeros == 1, "it was given back");
+    check(TWO_NOTE(&two, 1, 1, .kind = PAGESHARE_PROCESS_GIVEN_UP), "one page is given up");
+    check(!is_given_back(page) && two.part.counts.zeros == 0, "it was given up");
+    check(TWO_NOTE(&two, 1, 1, .kind = PAGESHARE_PROCESS_LEFT), "one page leaves");
     check(is_out(page) && !is_over(page) && !is_out(&two.pages[0]), "it has left");
-    check(!pageshare_window_leave(&tables, 1, 2) && !is_out(&two.pages[0]), "a page that isn't there leaves no window");
+    check(!TWO_NOTE(&two, 1, 2, .kind = PAGESHARE_PROCESS_LEFT) && !is_out(&two.pages[0]),
+          "a page that isn't there leaves no window");
+    pageshare_process_free(&two.process);
 }
 
 /* Whether two frames that are mapped at the places of two pages count as one mapping. */
-static bool are_in_a_row(uint32_t frame, uint32_t next) {
-    struct two two = {.mappings = 1};
-    struct pageshare_window_tables tables = tables_over(&two);
-    pageshare_window_cover(&tables, 0, 1, frame);
-    pageshare_window_cover(&tables, 1, 1, next);
-    return two.mappings == 1;
+static bool are_in_a_row(struct two *two, uint32_t frame, uint32_t next) {
+    const struct pageshare_process_notice first = {.kind = PAGESHARE_PROCESS_COVERED, .frame = frame},
+                                          then = {.kind = PAGESHARE_PROCESS_COVERED, .frame = next};
+    pageshare_process_note(&two->process, 0, 0, 1, &first);
+    pageshare_process_note(&two->process, 0, 1, 1, &then);
+    return pageshare_process_mappings(&two->process) == 1;
 }
 
 /* Frames in a row are one mapping, but at each multiple of 32,768. Those at about the same place of two machines are not. */
 static void clues(void) {
     enum { FRAMES = 1 << 20, MACHINE = 1 << 18, CLUES = 1 << GLANCE_BITS };
     size_t in_a_row = 0, apart = 0;
+    struct two two;
+    two_make(&two);
     for (uint32_t frame = 0; frame < FRAMES; frame++) {
-        in_a_row += are_in_a_row(frame, frame + 1) ? 1 : 0;
-        for (uint32_t place = 0; place < 8; place++) apart += are_in_a_row(frame, frame + MACHINE + place) ? 1 : 0;
+        in_a_row += are_in_a_row(&two, frame, frame + 1) ? 1 : 0;
+        for (uint32_t place = 0; place < 8; place++) apart += are_in_a_row(&two, frame, frame + MACHINE + place) ? 1 : 0;
     }
     check(in_a_row >= FRAMES - 2 * FRAMES / CLUES, "frames in a row count as one mapping");
     check(apart == 0, "frames of two machines don't");
+    pageshare_process_free(&two.process);
 }
 
 static bool is_apart(const void *at) { return (uintptr_t)at >> 44 == 2; }
@@ -899,6 +1022,7 @@ int main(void) {
     pinned();
     advice();
     children();
+    heard();
     locked();
     locked_unseen();
     huge(false);

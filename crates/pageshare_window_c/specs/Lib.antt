@@ -2,7 +2,10 @@ pub mod Budgets
 pub mod Holds
 pub mod Looks
 pub mod Parts
-pub mod Rooms
+pub mod ProcessHeld
+pub mod ProcessLists
+pub mod ProcessPages
+pub mod ProcessRows
+pub mod Processes
 pub mod Sessions
 pub mod Tasks
-pub mod Window

@@ -1,8 +1,9 @@
 //! What the thread that lends a monitor's pages decides, for the C that makes its system calls: what is done next with a page, which pages
 //! a call of the monitor is about, which ones a device may hold, how many mappings may be made, and how much processor time it may use.
 //!
-//! C keeps the numbers of a budget, of each page and of each range, and passes their address to each call. No call has a condition on its arguments
-//! except that its references are valid. `window/pageshare_window.h` declares the same functions in C, and says what the caller owes.
+//! What is known of windows' pages is behind a handle (`process`). Of a budget, of tasks, ranges, transfers and a session C keeps the numbers, and passes
+//! their address to each call. No call has a condition on its arguments except that its references are valid. `window/pageshare_process.h` and
+//! `window/pageshare_window.h` declare the same functions in C, and say what the caller owes.
 #![tactic(auto)]
 
 ghost use Rattle.std.specs.Prelude.{◌≡◌, ◌+◌, if◌then◌else◌, length, slice_get, true, false};
@@ -14,71 +15,37 @@ ghost use Rattle.offered_ranges.specs.Pieces.{IsFirst, meets};
 ghost use Rattle.offered_ranges.specs.Tables.{added, can_add, can_take_out, is_of, ranges_of, taken_out};
 ghost use Rattle.page_looks.specs.Parts.{order_of, part_then};
 ghost use Rattle.pageshare_window_c.specs.Budgets.{ledger_of, rates};
-ghost use Rattle.window_pages.specs.Bytes.{known_of};
-ghost use Rattle.window_pages.specs.Changed.{Becomes, given_back};
 ghost use Rattle.pageshare_window_c.specs.Parts.{part_number};
 
 mod budget;
 mod holds;
-pub mod home;
 mod laws;
-mod lend;
 mod looks;
-mod mappings;
 mod numbers;
 mod part;
-mod pins;
+pub mod process;
 mod ranges;
-mod runs;
-mod scan;
 pub mod session;
-mod tables;
 mod tasks;
 mod times;
-mod window;
+mod transfers;
 
 pub use budget::{CREDIT_NS, OWED_NS, SAVED_NS, WindowBudget};
 use budget::{budget_of, config_by, put};
 pub use client_session::KeptSession;
-pub use holds::{
-    WindowRowOrder, pageshare_window_begin_row, pageshare_window_next_of_row,
-    pageshare_window_row_again, pageshare_window_row_done,
-};
+pub use holds::{WindowRowOrder, pageshare_window_row_again};
 pub use laws::{limits_law, tasks_law};
-pub use lend::{
-    pageshare_window_answered, pageshare_window_copied, pageshare_window_loaned,
-    pageshare_window_released, pageshare_window_to_ask, pageshare_window_to_copy,
-    pageshare_window_to_give_back, pageshare_window_to_hold, pageshare_window_to_release,
-};
 use look_tasks::Budget;
 use look_tasks::room::{fits, most};
 pub use look_tasks::{LookFinds, LookSteps, LookTasks, LookTimes, PartReturn, TaskOutcome};
-pub use looks::{
-    WindowLook, pageshare_window_ask_at_once, pageshare_window_held, pageshare_window_set_rest,
-    pageshare_window_wake,
-};
-pub use mappings::{pageshare_window_mappings_at, pageshare_window_mappings_new};
+pub use looks::WindowLook;
 pub use numbers::pageshare_window_find_numbers;
 pub use offered_ranges::{OfferedBounds, OfferedRange, Piece, Taken};
 use offered_ranges::{add, is_part_left, next as next_piece, take_out};
 pub use page_looks::finds::FindOutcome;
 pub use page_looks::parts::{Part, PartConfig, PartLook};
 use part::part_number;
-pub use pins::{
-    pageshare_window_begin_transfer, pageshare_window_end_transfer, pageshare_window_pin,
-    pageshare_window_unpin,
-};
 pub use ranges::{pageshare_window_bounds, pageshare_window_is_all_left};
-pub use runs::pageshare_window_next_run;
-pub use scan::{
-    pageshare_window_begin_scan, pageshare_window_follow_changes, pageshare_window_glance_numbers,
-    pageshare_window_scan_done,
-};
-pub use tables::{
-    pageshare_window_are_movable, pageshare_window_cover, pageshare_window_detach,
-    pageshare_window_give_up, pageshare_window_leave, pageshare_window_may_give_up,
-    pageshare_window_may_go_on, pageshare_window_uncover, pageshare_window_unmap,
-};
 pub use tasks::{
     WindowTask, pageshare_window_begin_tasks, pageshare_window_next_task,
     pageshare_window_task_done,
@@ -87,10 +54,8 @@ pub use times::{
     pageshare_window_be_eager, pageshare_window_begin_times, pageshare_window_look_ended,
     pageshare_window_pause_ms,
 };
-pub use window::WindowTables;
-use window_pages::give_back;
+pub use transfers::{pageshare_window_begin_transfer, pageshare_window_end_transfer};
 pub use window_pages::{PartCounts, WindowFacts, WindowPage};
-pub use window_tables::TableFacts;
 pub use window_tables::pins::Transfer;
 pub use window_tables::runs::PageRun;
 
@@ -217,18 +182,6 @@ pub extern "C" fn pageshare_window_take_out(
     ensures count { count.new ≡ if result then length (ranges_of count.new ranges.new) else count.old }
 {
     take_out(ranges, count, place, begin, end)
-}
-
-/// Notes whether a page was given back as zeros and has no memory, or has memory again. Of a page over a frame nothing is noted.
-#[unsafe(no_mangle)]
-pub extern "C" fn pageshare_window_give_back(
-    page: &mut WindowPage,
-    part: &mut PartCounts,
-    is_zeros: bool,
-)
-    ensures { Becomes (given_back is_zeros (known_of page.old)) false page.old page.new part.old part.new }
-{
-    give_back(page, part, is_zeros);
 }
 
 /// Returns the number of what is to be done with a part of a window after a look: 0 nothing, 1 it is split, 2 it is made whole. The caller
